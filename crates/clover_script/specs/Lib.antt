@@ -1,0 +1,5 @@
+pub mod Coded
+pub mod Line
+pub mod Naming
+pub mod Script
+pub mod Text

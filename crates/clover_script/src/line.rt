@@ -1,0 +1,35 @@
+// What a line of a script says. These types are data alone: reading and printing stand beside them.
+
+use clover_map::Call;
+
+/// The numbers of a pool line, in its order, none of them checked.
+#[derive(Clone, Copy, Debug, PartialEq, Eq)]
+pub struct PoolLine {
+    pub nodes: u64,
+    pub buffers: u64,
+    pub slots: u64,
+    pub words: u64,
+    pub wear: u64,
+    pub clients: u64,
+    pub batch: u64,
+}
+
+/// What an actor is asked to do: a client's call, and the length in bytes of its value as it is
+/// written (0 for a call without one). The call keeps at most the first 1,024 bytes of the value.
+#[derive(Drop)]
+pub enum Task {
+    Client { call: Call, written: u32 },
+}
+
+/// What one line says: the numbers of a pool, or a call of client 1.
+#[derive(Drop)]
+pub enum Form {
+    Pool(PoolLine),
+    Calls(Task),
+}
+
+/// What is wrong with a line: it is none of those that are built so far.
+#[derive(Clone, Copy, Debug, PartialEq, Eq)]
+pub enum LineFault {
+    Unbuilt,
+}
