@@ -1,0 +1,104 @@
+-- The deciding steps of put, delete and swap over the whole rule.
+use Rattle.std.proofs.Common.{◌≡◌, ℕ, zero, suc, ◌+◌, ◌<◌, ◌≤◌, ◌≢◌, ◌⊎◌, List, [], ◌∷◌, ◌++◌, length, length-append, set, append_assoc, append-nil, Bool, true, false, cond, eqb, ltb, leb, refl, sym, ap, ◌∙◌, inl, inr, ⊎_elim, arith, subst, eq-eqb, ne_eqb, eqb-true, true≢false}
+use native.Mathlib.Decide.{ℕ_discrete, dec_le}
+use mathlib.Core.Logic.{dite}
+use Rattle.std.specs.Prelude.{Option, Some, None}
+use Rattle.std.proofs.lemmas.Bool.Decides.{nat_tests}
+use Rattle.clover_map.specs.declared.bytes.Value.{Value}
+use Rattle.clover_map.specs.declared.call.Entry.{Entry}
+use Rattle.clover_map.specs.declared.call.Call.{Call}
+use Rattle.clover_map.specs.declared.call.Call.TheVariants.{Delete, Get, Swap}
+use Rattle.clover_map.specs.declared.call.Call.TheVariants.{Put}
+use Rattle.clover_map.specs.declared.call.Reply.{Reply}
+use Rattle.clover_map.specs.declared.call.Reply.TheVariants.{Absent, Deleted, Differs, Stored}
+use Rattle.clover_rule.specs.Content.{Fits, tombstone}
+use Rattle.clover_rule.specs.History.{Version, Map, used_by, Does, named, committed, pair_of, paired, tag_in, Fresh, grown, leads}
+use Rattle.clover_rule.specs.Lists.{Each, nth, Within}
+use Rattle.clover_rule.specs.Server.{Ready, Whole, MayLink, link_entry, link_view, SawValue, SawTombstone}
+use Rattle.clover_rule.specs.State.{home, age, word, gen, Mem, Loose, Story, Core, linked_mem, linked_story}
+use Rattle.clover_rule.specs.Views.{Rule, renewed}
+use Rattle.clover_rule.specs.declared.view.Role.TheVariants.{Client}
+use Rattle.clover_rule.specs.declared.view.View.{View}
+use Rattle.clover_words.specs.declared.pool.Pool.{Pool}
+use Rattle.clover_words.specs.Meta.{meta_word}
+use Rattle.clover_words.specs.declared.meta.Kind.TheVariants.{Value as IsValue}
+use Rattle.clover_rule.proofs.Spelling.{meta_dead, meta_live}
+use Rattle.clover_rule.proofs.Tools.{upd_same, upd_else, nth_within, nth_snoc, nth_front, nth_last, nth_past, nth_none}
+use Rattle.clover_rule.proofs.Standings.{tag_there, tag_within, tag_past, same_tag, one_buffer}
+use Rattle.clover_rule.proofs.Steps.{each_map, each_within, prefix_trans, prefix_self, within_prefix, Grows, Leaves, view_kept, nth_set, set_here, set_away, link_kept, durable_kept, past_kept, copied_kept}
+
+use Rattle.clover_rule.proofs.Commit.{can as commit_can, grows as commit_grows, rule' as commit_rule, owned as commit_owned, slot_bound as commit_bound, tail_durable as commit_durable}
+use Rattle.clover_rule.proofs.Decide.{version, tail_durable, map_at, copied_word, decide_rule, decided_view}
+use Rattle.clover_rule.proofs.ClientSteps.{each_snoc, client_whole, link_help, link_serves}
+use Rattle.clover_rule.proofs.Snocs.{used_snoc}
+
+tag_of_pair : (w : Version) (x : Value) → w.value ≡ Some x → tag_in (pair_of w) ≡ Some w.tag
+tag_of_pair w x e = rw e refl
+
+module _ (l : Pool) (m0 : Map) (used : List ℕ) (m : Mem) (vs : List View) (st : Story) (h : List Entry) (w : Whole l m0 used m vs st h) (id : ℕ) (v : View) (at : nth vs id ≡ Some v) where
+  abbrev r : Rule m0 used m vs st h
+  r = w.rule
+
+  -- any deciding exchange
+  pub commit_whole : (n s : ℕ) (k : List ℕ) (u t : ℕ) (y : Option Value) (call : Call) (reply : Reply) (rest : List ℕ) → MayLink v n s k u t y rest → named call ≡ k → committed call reply ≡ Some (record { tag = t; value = y }) → (Fresh t (used_by used h) → Does (leads m0 h k) (used_by used h) call reply)
+      → Fits l y → m.next (home u) ≡ word (age u) None
+      → Whole l m0 used (linked_mem m u t) (renewed vs id (link_view v h n s u t call reply rest)) (linked_story st s (record { tag = t; value = y })) (h ++ link_entry v n call reply ∷ [])
+  commit_whole n s k u t y call reply rest p nm cm does fits found =
+      let c = commit_can m0 used m vs st h r id v at n s k u t y call reply rest p nm cm does found in
+      let o = commit_owned m0 used m vs st h r id v at n s k u t y call reply rest p nm cm does found in
+      let i = (commit_durable m0 used m vs st h r id v at n s k u t y call reply rest p nm cm does found).0 in
+      let lo = r.core.loose (home t) (subst Loose (sym o.0) tt) in
+      let rg = w.help.ranged.ready (home t) (subst Ready (sym o.0) tt) in
+      let key = (commit_bound m0 used m vs st h r id v at n s k u t y call reply rest p nm cm does found).0 in
+      let g = commit_grows m0 used m vs st h r id v at n s k u t y call reply rest p nm cm does found in
+      client_whole l m0 used m vs st h w id v (link_view v h n s u t call reply rest) at n p.client refl (linked_mem m u t) (linked_story st s (record { tag = t; value = y })) (h ++ link_entry v n call reply ∷ [])
+        (commit_rule m0 used m vs st h r id v at n s k u t y call reply rest p nm cm does found)
+        (link_help l m st r.core w.help s u i id (record { tag = t; value = y }) c k key fits h (h ++ link_entry v n call reply ∷ []) g)
+        (link_serves l m st r.core w.help s u i id (record { tag = t; value = y }) c k key fits h (h ++ link_entry v n call reply ∷ []) g)
+        (subst (Each (λ (x : ℕ). (age x < l.wear) × (age x ≤ gen (m.fnext (home x))))) (sym (used_snoc used h (link_entry v n call reply) ∙ ap (grown (used_by used h)) cm)) ((let a = o.1 in let b = rg.1 in omega arith, let a = o.1 in let b = ap gen lo.1 in omega arith), w.safe))
+        (λ cs a b. each_snoc (λ (e : Entry). Within e.client cs) h (link_entry v n call reply) b a)
+
+  -- what the tail's meta word says of the map
+  live_map : (s : ℕ) (k : List ℕ) (u : ℕ) (tail : Within (s, u) v.pass.durable) (name : Within (s, k) v.pass.names) (found : m.next (home u) ≡ word (age u) None) → SawValue v s u → tag_in (leads m0 h k) ≡ Some u
+  live_map s k u tail name found q = let x = version m0 used m vs st h r id v at s k u tail name found in
+      let a = meta_live x.0.value q.flags q.size q.flags_fit q.size_fits (copied_word m0 used m vs st h r id v at s k u tail name found 0 (meta_word (record { kind = IsValue; flags = q.flags; length = q.size })) q.copied) in
+      ap tag_in (map_at m0 used m vs st h r id v at s k u tail name found) ∙ tag_of_pair x.0 a.0 a.1 ∙ ap Some x.2
+
+  dead_map : (s : ℕ) (k : List ℕ) (u : ℕ) (tail : Within (s, u) v.pass.durable) (name : Within (s, k) v.pass.names) (found : m.next (home u) ≡ word (age u) None) → SawTombstone v s u → leads m0 h k ≡ None
+  dead_map s k u tail name found q = let x = version m0 used m vs st h r id v at s k u tail name found in
+      map_at m0 used m vs st h r id v at s k u tail name found ∙ ap (paired x.0.tag) (meta_dead l x.0.value (w.help.ranged.fits s (tail_durable m0 used m vs st h r id v at s k u tail name found).0 x.0 x.1) (copied_word m0 used m vs st h r id v at s k u tail name found 0 tombstone q))
+
+  -- Stored by a put, Deleted, and Stored by a swap
+  pub put_decides : (n s : ℕ) (k : List ℕ) (u t : ℕ) (x : Value) (rest : List ℕ) → MayLink v n s k u t (Some x) rest → Fits l (Some x) → m.next (home u) ≡ word (age u) None
+      → Whole l m0 used (linked_mem m u t) (renewed vs id (link_view v h n s u t (Put k x) (Stored t) rest)) (linked_story st s (record { tag = t; value = Some x })) (h ++ link_entry v n (Put k x) (Stored t) ∷ [])
+  put_decides n s k u t x rest p fits found = commit_whole n s k u t (Some x) (Put k x) (Stored t) rest p refl refl (λ f. f) fits found
+
+  pub delete_decides : (n s : ℕ) (k : List ℕ) (u t : ℕ) (rest : List ℕ) → MayLink v n s k u t None rest → SawValue v s u → m.next (home u) ≡ word (age u) None
+      → Whole l m0 used (linked_mem m u t) (renewed vs id (link_view v h n s u t (Delete k) (Deleted t) rest)) (linked_story st s (record { tag = t; value = None })) (h ++ link_entry v n (Delete k) (Deleted t) ∷ [])
+  delete_decides n s k u t rest p q found = commit_whole n s k u t None (Delete k) (Deleted t) rest p refl refl (λ f. ((λ z. absurd (let a = live_map s k u p.tail p.name found q in cc)), f)) tt found
+
+  pub swap_decides : (n s : ℕ) (k : List ℕ) (u t : ℕ) (x : Value) (rest : List ℕ) → MayLink v n s k u t (Some x) rest → SawValue v s u → Fits l (Some x) → m.next (home u) ≡ word (age u) None
+      → Whole l m0 used (linked_mem m u t) (renewed vs id (link_view v h n s u t (Swap k u x) (Stored t) rest)) (linked_story st s (record { tag = t; value = Some x })) (h ++ link_entry v n (Swap k u x) (Stored t) ∷ [])
+  swap_decides n s k u t x rest p q fits found = commit_whole n s k u t (Some x) (Swap k u x) (Stored t) rest p refl refl (λ f. (live_map s k u p.tail p.name found q, f)) fits found
+
+  -- any deciding load at the tail
+  module _ (s : ℕ) (k : List ℕ) (u : ℕ) (tail : Within (s, u) v.pass.durable) (name : Within (s, k) v.pass.names) (found : m.next (home u) ≡ word (age u) None) (n : ℕ) (role : v.pass.role ≡ Client n) where
+    pub load_whole : (call : Call) (reply : Reply) (nm : named call ≡ k) (cm : committed call reply ≡ None) (does : Does (leads m0 h k) (used_by used h) call reply)
+        → Whole l m0 used m (renewed vs id (decided_view m0 used m vs st h r id v at s k u tail name found n role call reply nm cm does)) st (h ++ link_entry v n call reply ∷ [])
+    load_whole call reply nm cm does = client_whole l m0 used m vs st h w id v (decided_view m0 used m vs st h r id v at s k u tail name found n role call reply nm cm does) at n role refl m st (h ++ link_entry v n call reply ∷ [])
+        (decide_rule m0 used m vs st h r id v at s k u tail name found n role call reply nm cm does) w.help (λ sv e. e)
+        (subst (Each (λ (x : ℕ). (age x < l.wear) × (age x ≤ gen (m.fnext (home x))))) (sym (used_snoc used h (link_entry v n call reply) ∙ ap (grown (used_by used h)) cm)) w.safe)
+        (λ cs a b. each_snoc (λ (e : Entry). Within e.client cs) h (link_entry v n call reply) b a)
+
+    -- Absent at a tombstone, for get, delete and swap, and Differs
+    pub absent_get : SawTombstone v s u → Does (leads m0 h k) (used_by used h) (Get k) Absent
+    absent_get q = dead_map s k u tail name found q
+
+    pub absent_delete : SawTombstone v s u → Does (leads m0 h k) (used_by used h) (Delete k) Absent
+    absent_delete q = dead_map s k u tail name found q
+
+    pub absent_swap : (e : ℕ) (x : Value) → SawTombstone v s u → Does (leads m0 h k) (used_by used h) (Swap k e x) Absent
+    absent_swap e x q = dead_map s k u tail name found q
+
+    pub differs : (e : ℕ) (x : Value) → u ≢ e → SawValue v s u → Does (leads m0 h k) (used_by used h) (Swap k e x) (Differs u)
+    differs e x d q = (live_map s k u tail name found q, d)

@@ -1,0 +1,43 @@
+-- The law of the split of a grant.
+use Rattle.std.proofs.Common.{◌≡◌, ℕ, zero, suc, ◌+◌, ◌<◌, ◌≤◌, ◌≢◌, ◌⊎◌, List, [], ◌∷◌, ◌++◌, length, set, append_assoc, append-nil, Bool, true, false, cond, eqb, ltb, leb, refl, sym, ap, ◌∙◌, inl, inr, ⊎_elim, arith, subst, eq-eqb, ne_eqb, eqb-true, true≢false}
+use native.Mathlib.Decide.{ℕ_discrete, dec_le}
+use mathlib.Core.Logic.{dite}
+use Rattle.std.specs.Prelude.{Option, Some, None}
+use Rattle.std.proofs.lemmas.Bool.Decides.{nat_tests}
+use Rattle.clover_map.specs.declared.bytes.Value.{Value}
+use Rattle.clover_map.specs.declared.call.Call.{Call}
+use Rattle.clover_map.specs.declared.call.Reply.{Reply}
+use Rattle.clover_map.specs.declared.call.Entry.{Entry}
+use Rattle.clover_map.specs.declared.call.Call.TheVariants.{Put}
+use Rattle.clover_map.specs.declared.call.Reply.TheVariants.{Stored}
+use Rattle.clover_rule.specs.Lists.{Each, upd}
+use Rattle.clover_rule.specs.State.{home, Mem, Place, Chained, Loose, Story, Core}
+use Rattle.clover_rule.specs.Views.{handed}
+use Rattle.clover_rule.proofs.Tools.{upd_same, upd_else, nth_within, nth_snoc, nth_front, nth_last}
+use Rattle.clover_rule.proofs.Standings.{tag_there, tag_within, tag_past, same_tag}
+use Rattle.clover_rule.proofs.Histories.{legal_snoc, leads_commits, commits_snoc}
+use Rattle.clover_rule.proofs.Linking.{CanLink, link_core, own_new, u_last, u_sure, apart, gens, u_stands, tag_else, tag_new}
+use Rattle.clover_rule.proofs.Snocs.{unread_snoc, used_more, fresh_commit, within_nth, within_commits, within_back, used_snoc, own_snoc}
+use Rattle.clover_rule.proofs.Steps.{each_map, each_within, prefix_trans, prefix_self, within_prefix, Grows, Leaves, view_kept, nth_set, set_here, set_away, link_kept, durable_kept, past_kept, copied_kept}
+
+
+use Rattle.clover_rule.proofs.Roots.{handed_core}
+
+pub away : (f : ℕ → Place) (ts : List ℕ) (q : Place) (b : ℕ) → Each (λ (t : ℕ). home t ≢ b) ts → handed f ts q b ≡ f b
+away f [] q b h = refl
+away f (t ∷ ts) q b h = away (upd f (home t) q) ts q b h.1 ∙ upd_else f (home t) b q (λ e. h.0 (sym e))
+
+pub there : (f : ℕ → Place) (ts : List ℕ) (q : Place) (b : ℕ) → f b ≡ q → handed f ts q b ≡ q
+there f [] q b h = h
+there f (t ∷ ts) q b h = there (upd f (home t) q) ts q b (dite (ℕ_discrete b (home t)) (λ e. ap (upd f (home t) q) e ∙ upd_same f (home t) q) (λ n. upd_else f (home t) b q n ∙ h))
+
+pub all_there : (f : ℕ → Place) (ts : List ℕ) (q : Place) (P : ℕ → Type 0) → Each P ts → Each (λ (t : ℕ). (handed f ts q (home t) ≡ q) × P t) ts
+all_there f [] q P e = tt
+all_there f (t ∷ ts) q P e = ((there (upd f (home t) q) ts q (home t) (upd_same f (home t) q), e.0), all_there (upd f (home t) q) ts q P e.1)
+
+pub core_handed : (m : Mem) (st : Story) (ts : List ℕ) (q : Place) → Core m st → Loose q → ((s : ℕ) → q ≢ Chained s) → Each (λ (t : ℕ). Loose (st.place (home t))) ts → Core m (record st { place = handed st.place ts q })
+core_handed m st [] q c l n h = c
+core_handed m st (t ∷ ts) q c l n h = core_handed m (record st { place = upd st.place (home t) q }) ts q (handed_core m st (home t) q c h.0 n) l n (each_map still ts h.1)
+  where
+    still : (x : ℕ) → Loose (st.place (home x)) → Loose (upd st.place (home t) q (home x))
+    still x y = dite (ℕ_discrete (home x) (home t)) (λ e. subst Loose (sym (ap (upd st.place (home t) q) e ∙ upd_same st.place (home t) q)) l) (λ d. subst Loose (sym (upd_else st.place (home t) (home x) q d)) y)

@@ -1,0 +1,76 @@
+-- Steps that change no word: a load teaches its own view, and nothing else changes.
+use Rattle.std.proofs.Common.{◌≡◌, ℕ, zero, suc, ◌+◌, ◌<◌, ◌≤◌, ◌≢◌, ◌⊎◌, List, [], ◌∷◌, ◌++◌, length, set, append_assoc, append-nil, Bool, true, false, cond, eqb, ltb, leb, refl, sym, ap, ◌∙◌, inl, inr, ⊎_elim, arith, subst, eq-eqb, ne_eqb, eqb-true, true≢false}
+use native.Mathlib.Decide.{ℕ_discrete, dec_le}
+use mathlib.Core.Logic.{dite}
+use Rattle.std.specs.Prelude.{Option, Some, None}
+use Rattle.std.proofs.lemmas.Bool.Decides.{nat_tests}
+use Rattle.clover_map.specs.declared.bytes.Value.{Value}
+use Rattle.clover_map.specs.declared.call.Call.{Call}
+use Rattle.clover_map.specs.declared.call.Reply.{Reply}
+use Rattle.clover_map.specs.declared.call.Entry.{Entry}
+use Rattle.clover_map.specs.declared.call.Call.TheVariants.{Put}
+use Rattle.clover_map.specs.declared.call.Reply.TheVariants.{Stored}
+use Rattle.clover_rule.specs.Content.{content}
+use Rattle.clover_rule.specs.History.{Version, Map, own}
+use Rattle.clover_rule.specs.Lists.{nth}
+use Rattle.clover_rule.specs.State.{home, age, word, gen, Mem, Story, tag_in_version, tag_at, now_at, Core, Durable}
+use Rattle.clover_rule.specs.Views.{Holds, IsLink, IsCopied, ViewOk, Rule, renewed}
+use Rattle.clover_rule.specs.declared.view.View.{View}
+use Rattle.clover_rule.proofs.Tools.{upd_same, upd_else, nth_within, nth_snoc, nth_front, nth_last}
+use Rattle.clover_rule.proofs.Standings.{tag_there, tag_within, tag_past, same_tag}
+use Rattle.clover_rule.proofs.Histories.{legal_snoc, leads_commits, commits_snoc}
+use Rattle.clover_rule.proofs.Linking.{CanLink, link_core, own_new, u_last, u_sure, apart, gens, u_stands, tag_else, tag_new}
+use Rattle.clover_rule.proofs.Snocs.{unread_snoc, used_more, fresh_commit, within_nth, within_commits, within_back, used_snoc, own_snoc}
+use Rattle.clover_rule.proofs.Steps.{each_map, each_within, prefix_trans, prefix_self, within_prefix, Grows, Leaves, view_kept, nth_set, set_here, set_away, link_kept, durable_kept, past_kept, copied_kept}
+
+
+-- one view is renewed by another of the same role, which knows true facts and has the same history or the longer one
+module _ (m0 : Map) (used : List ℕ) (m : Mem) (vs : List View) (st : Story) (h : List Entry) (r : Rule m0 used m vs st h)
+         (id : ℕ) (v v' : View) (at : nth vs id ≡ Some v) (role : v'.pass.role ≡ v.pass.role) (past : v'.pass.history ≡ v.pass.history) (ok : ViewOk m st h id v') where
+  views' : (i1 : ℕ) (v1 : View) → nth (renewed vs id v') i1 ≡ Some v1 → ViewOk m st h i1 v1
+  views' i1 v1 q = go (nth_set vs id i1 v' v1 q)
+    where
+      go : ((i1 ≡ id) × (v' ≡ v1)) ⊎ ((i1 ≢ id) × (nth vs i1 ≡ Some v1)) → ViewOk m st h i1 v1
+      go (inl a) = rw (a.0, ← a.1) ok
+      go (inr a) = r.views i1 v1 a.1
+
+  was : (i1 : ℕ) (a : View) → nth (renewed vs id v') i1 ≡ Some a → (y : View) × (nth vs i1 ≡ Some y) × (y.pass.role ≡ a.pass.role)
+  was i1 a q = ⊎_elim {C = (y : View) × (nth vs i1 ≡ Some y) × (y.pass.role ≡ a.pass.role)} (λ d. (v, ap (nth vs) d.0 ∙ at, sym role ∙ ap (λ (z : View). z.pass.role) d.1)) (λ d. (a, d.1, refl)) (nth_set vs id i1 v' a q)
+
+  longest' : (j : ℕ) × (a : View) × (nth (renewed vs id v') j ≡ Some a) × (a.pass.history ≡ h)
+  longest' = let o = r.longest in go o.0 o.1 o.2 o.3 (ℕ_discrete o.0 id)
+    where
+      go : (j : ℕ) (a : View) → nth vs j ≡ Some a → a.pass.history ≡ h → Dec (j ≡ id) → (j : ℕ) × (a : View) × (nth (renewed vs id v') j ≡ Some a) × (a.pass.history ≡ h)
+      go j a q w (yes d) = (id, v', set_here vs id v' v at, let z : v ≡ a = let zz : Some v ≡ Some a = sym at ∙ ap (nth vs) (sym d) ∙ q in cc in past ∙ ap (λ (y : View). y.pass.history) z ∙ w)
+      go j a q w (no n) = (j, a, set_away vs id j v' n ∙ q, w)
+
+  pub quiet : Rule m0 used m (renewed vs id v') st h
+  quiet = record {
+      core = r.core;
+      tale = r.tale;
+      bodies = r.bodies;
+      spent = r.spent;
+      bound = r.bound;
+      keyed = r.keyed;
+      views = views';
+      numbered = λ i1 j1 c a b qa qb ra rb. let x1 = was i1 a qa in let y1 = was j1 b qb in r.numbered i1 j1 c x1.0 y1.0 x1.1 y1.1 (x1.2 ∙ ra) (y1.2 ∙ rb);
+      longest = longest'
+    }
+
+-- what a load of a durable tag's next word teaches
+module _ (m : Mem) (st : Story) (c : Core m st) (s t : ℕ) (d : Durable st s t) where
+  not_passed : gen (m.next (home t)) ≡ age t → st.gone s ≤ d.0
+  not_passed g = dite (dec_le (st.gone s) d.0) (λ x. x) (λ n. let q = (c.passed s d.0 t d.1 (omega arith)).later in absurd (omega arith))
+
+  pub loaded_link : (x : ℕ) → m.next (home t) ≡ word (age t) (Some x) → IsLink st (record { slot = s; from = t; to = x })
+  loaded_link x f = let q = c.standing s d.0 t d.1 (not_passed (ap gen f)) in (d.0, d.1, let a : now_at st s d.0 t ≡ word (age t) (Some x) = sym q.now ∙ f in cc)
+
+  -- a root that is loaded is durable
+  pub loaded_root : (x : ℕ) → m.root s ≡ Some x → Durable st s x
+  loaded_root x e = let a : tag_at st s (st.lead s) ≡ Some x = sym (c.root s) ∙ e in let b = tag_within st s (st.lead s) x a in (st.lead s, a, c.rooted s (omega arith))
+
+  -- a word copied under it
+  pub loaded_body : (w : Version) → nth (st.log s) d.0 ≡ Some w → ((g : st.gone s ≤ d.0) → Holds m w) → (j y : ℕ) → nth (content w.value) j ≡ Some y → IsCopied st (s, record { tag = t; place = j; word = m.body (home t) j })
+  loaded_body w e f j y n = dite (dec_le (st.gone s) d.0)
+      (λ g. (d.0, w, e, let q : Some w.tag ≡ Some t = sym (ap tag_in_version e) ∙ d.1 in cc, inl (n ∙ ap Some (sym (let q : w.tag ≡ t = let z : Some w.tag ≡ Some t = sym (ap tag_in_version e) ∙ d.1 in cc in ap (λ (x : ℕ). m.body (home x) j) (sym q) ∙ (f g j y n).0)))))
+      (λ g. (d.0, w, e, let q : Some w.tag ≡ Some t = sym (ap tag_in_version e) ∙ d.1 in cc, inr (omega arith)))

@@ -1,0 +1,127 @@
+-- The law of the raise over a link.
+use Rattle.std.proofs.Common.{◌≡◌, ℕ, zero, suc, ◌+◌, ◌<◌, ◌≤◌, ◌≢◌, ◌⊎◌, List, [], ◌∷◌, ◌++◌, length, set, append_assoc, append-nil, Bool, true, false, cond, eqb, ltb, leb, refl, sym, ap, ◌∙◌, inl, inr, ⊎_elim, arith, subst, eq-eqb, ne_eqb, eqb-true, true≢false}
+use native.Mathlib.Decide.{ℕ_discrete, dec_le}
+use mathlib.Core.Logic.{dite}
+use Rattle.std.specs.Prelude.{Option, Some, None}
+use Rattle.std.proofs.lemmas.Bool.Decides.{nat_tests}
+use Rattle.clover_map.specs.declared.bytes.Value.{Value}
+use Rattle.clover_map.specs.declared.call.Call.{Call}
+use Rattle.clover_map.specs.declared.call.Reply.{Reply}
+use Rattle.clover_map.specs.declared.call.Entry.{Entry}
+use Rattle.clover_map.specs.declared.call.Call.TheVariants.{Put}
+use Rattle.clover_map.specs.declared.call.Reply.TheVariants.{Stored}
+use Rattle.clover_rule.specs.History.{Map}
+use Rattle.clover_rule.specs.Lists.{nth, Within}
+use Rattle.clover_rule.specs.State.{link, Mem, Stocked, Story, Core, Tale, unsure, raised_mem, raised_story, greatest}
+use Rattle.clover_rule.specs.Views.{IsLink, ViewOk, Rule, renewed, raise_view, RaiseLaw}
+use Rattle.clover_rule.specs.declared.view.Link.{Link}
+use Rattle.clover_rule.specs.declared.view.View.{View}
+use Rattle.clover_rule.proofs.Tools.{upd_same, upd_else, nth_within, nth_snoc, nth_front, nth_last}
+use Rattle.clover_rule.proofs.Standings.{tag_there, tag_within, tag_past, same_tag}
+use Rattle.clover_rule.proofs.Histories.{legal_snoc, leads_commits, commits_snoc}
+use Rattle.clover_rule.proofs.Linking.{CanLink, link_core, own_new, u_last, u_sure, apart, gens, u_stands, tag_else, tag_new}
+use Rattle.clover_rule.proofs.Snocs.{unread_snoc, used_more, fresh_commit, within_nth, within_commits, within_back, used_snoc, own_snoc}
+use Rattle.clover_rule.proofs.Steps.{each_map, each_within, prefix_trans, prefix_self, within_prefix, Grows, Leaves, view_kept, nth_set, set_here, set_away, link_kept, durable_kept, past_kept, copied_kept}
+
+use Rattle.clover_rule.proofs.Raising.{CanRaise, raise_core}
+use Rattle.clover_rule.proofs.Cuts.{unread_less}
+
+module _ (m0 : Map) (used : List ℕ) (m : Mem) (vs : List View) (st : Story) (h : List Entry) (r : Rule m0 used m vs st h)
+         (id : ℕ) (v : View) (at : nth vs id ≡ Some v) (l : Link) (p : Within l v.pass.links) where
+  ok : ViewOk m st h id v
+  ok = r.views id v at
+
+  pub known : IsLink st l
+  known = each_within (IsLink st) l v.pass.links ok.links p
+
+  abbrev i : ℕ
+  i = known.0
+
+  abbrev m' : Mem
+  m' = raised_mem m l.from l.to
+
+  abbrev st' : Story
+  st' = raised_story st l.slot i
+
+  abbrev v' : View
+  v' = raise_view v l
+
+  core' : Core m' st'
+  core' = raise_core m st l.slot i l.from l.to r.core record { from = known.1; to = known.2 }
+
+  sure_more : (s : ℕ) → st.sure s ≤ st'.sure s
+  sure_more s = go (ℕ_discrete s l.slot)
+    where
+      grown_most : (a b : ℕ) → a ≤ greatest a b
+      grown_most a b = grind (arith, nat_tests)
+      go : Dec (s ≡ l.slot) → st.sure s ≤ st'.sure s
+      go (yes d) = rw d (rw (upd_same st.sure l.slot (greatest (st.sure l.slot) (suc (suc i)))) (grown_most (st.sure l.slot) (suc (suc i))))
+      go (no n) = let q : st'.sure s ≡ st.sure s = upd_else st.sure l.slot s (greatest (st.sure l.slot) (suc (suc i))) n in omega arith
+
+  now_sure : suc i < st'.sure l.slot
+  now_sure = rw (upd_same st.sure l.slot (greatest (st.sure l.slot) (suc (suc i)))) (grown_more (st.sure l.slot) (suc (suc i)))
+    where
+      grown_more : (a b : ℕ) → b ≤ greatest a b
+      grown_more a b = grind (arith, nat_tests)
+
+  less_unsure : (t : ℕ) → unsure st' t ≡ true → unsure st t ≡ true
+  less_unsure t q = let a = sure_more (st.slot_of t) in test (st.sure (st.slot_of t)) (st'.sure (st.slot_of t)) (st.rank t) a q
+    where
+      test : (a b c : ℕ) → a ≤ b → leb b c ≡ true → leb a c ≡ true
+      test a b c h q = grind (arith, nat_tests)
+
+  tale' : Tale st' m0 used h
+  tale' = record {
+      legal = r.tale.legal;
+      told = r.tale.told;
+      began = r.tale.began;
+      unread = unread_less (unsure st) (unsure st') less_unsure h r.tale.unread;
+      settled = λ s j w e. let a = r.tale.settled s j w e in let b = sure_more s in omega arith;
+      unbound = r.tale.unbound
+    }
+
+  pub grows : Grows m st h m' st' h
+  grows = record { versions = λ s1 i1 w1 q. q; sure = sure_more; gone = λ j. omega arith; gens = λ b. omega arith; names = prefix_self st.bindings; count = omega arith; history = prefix_self h }
+
+  leaves : (j b : ℕ) → st.place b ≡ Stocked j → Leaves m st m' st' j b
+  leaves j b o = record { place = o; next = refl; body = λ y. refl; fbody = λ y. refl }
+
+  new_ok : ViewOk m' st' h id v'
+  new_ok = let a = view_kept m st h m' st' h grows id v (leaves id) (λ c f. refl) ok in record {
+      stocked = a.stocked; apart = a.apart; links = a.links; words = a.words; written = a.written; flushed = a.flushed; copied = a.copied; names = a.names; added = a.added; most = a.most; history = a.history; calls = a.calls;
+      durable = ((suc i, known.2, now_sure), a.durable)
+    }
+
+  views' : (i1 : ℕ) (v1 : View) → nth (renewed vs id v') i1 ≡ Some v1 → ViewOk m' st' h i1 v1
+  views' i1 v1 q = go (nth_set vs id i1 v' v1 q)
+    where
+      go : ((i1 ≡ id) × (v' ≡ v1)) ⊎ ((i1 ≢ id) × (nth vs i1 ≡ Some v1)) → ViewOk m' st' h i1 v1
+      go (inl a) = rw (a.0, ← a.1) new_ok
+      go (inr a) = view_kept m st h m' st' h grows i1 v1 (leaves i1) (λ c f. refl) (r.views i1 v1 a.1)
+
+  was : (i1 : ℕ) (a : View) → nth (renewed vs id v') i1 ≡ Some a → (y : View) × (nth vs i1 ≡ Some y) × (y.pass.role ≡ a.pass.role)
+  was i1 a q = ⊎_elim {C = (y : View) × (nth vs i1 ≡ Some y) × (y.pass.role ≡ a.pass.role)} (λ d. (v, ap (nth vs) d.0 ∙ at, ap (λ (z : View). z.pass.role) d.1)) (λ d. (a, d.1, refl)) (nth_set vs id i1 v' a q)
+
+  longest' : (j : ℕ) × (a : View) × (nth (renewed vs id v') j ≡ Some a) × (a.pass.history ≡ h)
+  longest' = let o = r.longest in go o.0 o.1 o.2 o.3 (ℕ_discrete o.0 id)
+    where
+      go : (j : ℕ) (a : View) → nth vs j ≡ Some a → a.pass.history ≡ h → Dec (j ≡ id) → (j : ℕ) × (a : View) × (nth (renewed vs id v') j ≡ Some a) × (a.pass.history ≡ h)
+      go j a q w (yes d) = (id, v', set_here vs id v' v at, let z : v ≡ a = let zz : Some v ≡ Some a = sym at ∙ ap (nth vs) (sym d) ∙ q in cc in ap (λ (y : View). y.pass.history) z ∙ w)
+      go j a q w (no n) = (j, a, set_away vs id j v' n ∙ q, w)
+
+  pub rule' : Rule m0 used m' (renewed vs id v') st' h
+  rule' = record {
+      core = core';
+      tale = tale';
+      bodies = r.bodies;
+      spent = r.spent;
+      bound = r.bound;
+      keyed = r.keyed;
+      views = views';
+      numbered = λ i1 j1 c a b qa qb ra rb. let x1 = was i1 a qa in let y1 = was j1 b qb in r.numbered i1 j1 c x1.0 y1.0 x1.1 y1.1 (x1.2 ∙ ra) (y1.2 ∙ rb);
+      longest = longest'
+    }
+
+pub raise_law : RaiseLaw
+raise_law m0 used m vs id v l (st, h, r) at p = (st' m0 used m vs st h r id v at l p, h, rule' m0 used m vs st h r id v at l p)
+

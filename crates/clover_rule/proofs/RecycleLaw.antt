@@ -1,0 +1,101 @@
+-- The law of the recycling exchange over words, views and history.
+use Rattle.std.proofs.Common.{◌≡◌, ℕ, zero, suc, ◌+◌, ◌<◌, ◌≤◌, ◌≢◌, ◌⊎◌, List, [], ◌∷◌, ◌++◌, length, set, append_assoc, append-nil, Bool, true, false, cond, eqb, ltb, leb, refl, sym, ap, ◌∙◌, inl, inr, ⊎_elim, arith, subst, eq-eqb, ne_eqb, eqb-true, true≢false}
+use native.Mathlib.Decide.{ℕ_discrete, dec_le}
+use mathlib.Core.Logic.{dite}
+use Rattle.std.specs.Prelude.{Option, Some, None}
+use Rattle.std.proofs.lemmas.Bool.Decides.{nat_tests}
+use Rattle.clover_map.specs.declared.bytes.Value.{Value}
+use Rattle.clover_map.specs.declared.call.Call.{Call}
+use Rattle.clover_map.specs.declared.call.Reply.{Reply}
+use Rattle.clover_map.specs.declared.call.Entry.{Entry}
+use Rattle.clover_map.specs.declared.call.Call.TheVariants.{Put}
+use Rattle.clover_map.specs.declared.call.Reply.TheVariants.{Stored}
+use Rattle.clover_rule.specs.History.{Map, used_by}
+use Rattle.clover_rule.specs.Lists.{nth}
+use Rattle.clover_rule.specs.State.{home, age, word, gen, Mem, Chained, Stocked, Taken, Story, Core, Tale, recycled_mem, recycled_story}
+use Rattle.clover_rule.specs.Views.{ViewOk, Spent, Rule, renewed}
+use Rattle.clover_rule.specs.declared.view.View.{View}
+use Rattle.clover_rule.proofs.Tools.{upd_same, upd_else, nth_within, nth_snoc, nth_front, nth_last}
+use Rattle.clover_rule.proofs.Standings.{tag_there, tag_within, tag_past, same_tag}
+use Rattle.clover_rule.proofs.Histories.{legal_snoc, leads_commits, commits_snoc}
+use Rattle.clover_rule.proofs.Linking.{CanLink, link_core, own_new, u_last, u_sure, apart, gens, u_stands, tag_else, tag_new}
+use Rattle.clover_rule.proofs.Snocs.{unread_snoc, used_more, fresh_commit, within_nth, within_commits, within_back, used_snoc, own_snoc}
+use Rattle.clover_rule.proofs.Steps.{each_map, each_within, prefix_trans, prefix_self, within_prefix, Grows, Leaves, view_kept, nth_set, set_here, set_away, link_kept, durable_kept, past_kept, copied_kept}
+
+
+use Rattle.clover_rule.proofs.Recycling.{CanRecycle, recycle_core, stands, is, else_same, gone_cases, behind}
+
+module _ (m0 : Map) (used : List ℕ) (m : Mem) (vs : List View) (st : Story) (h : List Entry) (r : Rule m0 used m vs st h)
+         (id : ℕ) (v v' : View) (at : nth vs id ≡ Some v) (s x : ℕ) (l : CanRecycle m st s x) where
+  abbrev m' : Mem
+  m' = recycled_mem m x
+
+  abbrev st' : Story
+  st' = recycled_story st s x
+
+  placed : st.place (home x) ≡ Chained s
+  placed = (stands m st s x r.core l).placed
+
+  now : gen (m.next (home x)) ≡ age x
+  now = ap gen (stands m st s x r.core l).now
+
+  next_is : m'.next (home x) ≡ word (suc (age x)) None
+  next_is = is m st s x r.core l
+
+  pub gens' : (b : ℕ) → gen (m.next b) ≤ gen (m'.next b)
+  gens' b = dite (ℕ_discrete b (home x)) (λ d. let p = ap gen (ap m'.next d ∙ next_is) in let q = ap gen (ap m.next d) in let z = now in omega arith) (λ n. let p = ap gen (else_same m st s x r.core l b n) in omega arith)
+
+  pub gone' : (s' : ℕ) → st.gone s' ≤ st'.gone s'
+  gone' s' = ⊎_elim (λ d. let p = d.1 in let q = ap st.gone d.0 in omega arith) (λ d. let p = d.1 in omega arith) (gone_cases m st s x r.core l s')
+
+  pub grows : Grows m st h m' st' h
+  grows = record { versions = λ s1 i1 w1 z. z; sure = λ j. omega arith; gone = gone'; gens = gens'; names = prefix_self st.bindings; count = omega arith; history = prefix_self h }
+
+  pub leaves : (j b : ℕ) → st.place b ≡ Stocked j → Leaves m st m' st' j b
+  leaves j b o = let n : b ≢ home x = λ e. absurd (cc (ap st.place e, placed, o)) in
+      record { place = upd_else st.place (home x) b Taken n ∙ o; next = else_same m st s x r.core l b n; body = λ y. refl; fbody = λ y. refl }
+
+  kept : (j : ℕ) (w : View) → ViewOk m st h j w → ViewOk m' st' h j w
+  kept j w = view_kept m st h m' st' h grows j w (leaves j) (λ c f. refl)
+
+  pub spent_kept : (y : ℕ) → Spent m st y → Spent m' st' y
+  spent_kept y (inl a) = inl (let q = gens' (home y) in omega arith)
+  spent_kept y (inr a) = go (ℕ_discrete (home y) (home x))
+    where
+      go : Dec (home y ≡ home x) → Spent m' st' y
+      go (yes d) = inl (let p = ap gen (ap m'.next d ∙ next_is) in let q = ap gen (ap m.next d) in let z = now in let w = a.2 in omega arith)
+      go (no n) = inr (a.0, upd_else st.place (home x) (home y) Taken n ∙ a.1, a.2 ∙ sym (ap gen (else_same m st s x r.core l (home y) n)))
+
+  tale' : Tale st' m0 used h
+  tale' = record { legal = r.tale.legal; told = r.tale.told; began = r.tale.began; unread = r.tale.unread; settled = r.tale.settled; unbound = r.tale.unbound }
+
+  module _ (role : v'.pass.role ≡ v.pass.role) (past : v'.pass.history ≡ v.pass.history) (ok : ViewOk m' st' h id v') where
+    views' : (j : ℕ) (w : View) → nth (renewed vs id v') j ≡ Some w → ViewOk m' st' h j w
+    views' j w q = go (nth_set vs id j v' w q)
+      where
+        go : ((j ≡ id) × (v' ≡ w)) ⊎ ((j ≢ id) × (nth vs j ≡ Some w)) → ViewOk m' st' h j w
+        go (inl a) = rw (a.0, ← a.1) ok
+        go (inr a) = kept j w (r.views j w a.1)
+
+    was : (j : ℕ) (a : View) → nth (renewed vs id v') j ≡ Some a → (y : View) × (nth vs j ≡ Some y) × (y.pass.role ≡ a.pass.role)
+    was j a q = ⊎_elim {C = (y : View) × (nth vs j ≡ Some y) × (y.pass.role ≡ a.pass.role)} (λ d. (v, ap (nth vs) d.0 ∙ at, sym role ∙ ap (λ (z : View). z.pass.role) d.1)) (λ d. (a, d.1, refl)) (nth_set vs id j v' a q)
+
+    longest' : (j : ℕ) × (a : View) × (nth (renewed vs id v') j ≡ Some a) × (a.pass.history ≡ h)
+    longest' = let o = r.longest in go o.0 o.1 o.2 o.3 (ℕ_discrete o.0 id)
+      where
+        go : (j : ℕ) (a : View) → nth vs j ≡ Some a → a.pass.history ≡ h → Dec (j ≡ id) → (j : ℕ) × (a : View) × (nth (renewed vs id v') j ≡ Some a) × (a.pass.history ≡ h)
+        go j a q w (yes d) = (id, v', set_here vs id v' v at, let z : v ≡ a = let zz : Some v ≡ Some a = sym at ∙ ap (nth vs) (sym d) ∙ q in cc in past ∙ ap (λ (y : View). y.pass.history) z ∙ w)
+        go j a q w (no n) = (j, a, set_away vs id j v' n ∙ q, w)
+
+    pub recycle_rule : Rule m0 used m' (renewed vs id v') st' h
+    recycle_rule = record {
+        core = recycle_core m st s x r.core l;
+        tale = tale';
+        bodies = λ s1 i1 w1 e g. r.bodies s1 i1 w1 e (behind m st s x r.core l s1 i1 g);
+        spent = each_map spent_kept (used_by used h) r.spent;
+        bound = r.bound;
+        keyed = r.keyed;
+        views = views';
+        numbered = λ i1 j1 c a b qa qb ra rb. let x1 = was i1 a qa in let y1 = was j1 b qb in r.numbered i1 j1 c x1.0 y1.0 x1.1 y1.1 (x1.2 ∙ ra) (y1.2 ∙ rb);
+        longest = longest'
+      }

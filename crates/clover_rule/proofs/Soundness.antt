@@ -1,0 +1,160 @@
+-- Each image of a cut is sound.
+use Rattle.std.proofs.Common.{◌≡◌, ℕ, zero, suc, ◌+◌, ◌<◌, ◌≤◌, ◌≢◌, ◌⊎◌, List, [], ◌∷◌, ◌++◌, length, length-append, set, append_assoc, append-nil, Bool, true, false, cond, eqb, ltb, leb, refl, sym, ap, ◌∙◌, inl, inr, ⊎_elim, arith, subst, eq-eqb, ne_eqb, eqb-true, true≢false}
+use native.Mathlib.Decide.{ℕ_discrete, dec_le}
+use mathlib.Core.Logic.{dite}
+use Rattle.std.specs.Prelude.{Option, Some, None}
+use Rattle.std.proofs.lemmas.Bool.Decides.{nat_tests}
+use Rattle.clover_map.specs.declared.bytes.Value.{Value}
+use Rattle.clover_map.specs.declared.call.Entry.{Entry}
+use Rattle.clover_rule.specs.Content.{content, InRange, Spells, Fits}
+use Rattle.clover_rule.specs.History.{Version, Map, own}
+use Rattle.clover_rule.specs.Image.{Image, IsImage, Chain, missing, sift, tags}
+use Rattle.clover_rule.specs.Lists.{Each, nth}
+use Rattle.clover_rule.specs.Server.{holding, AtStage, Stage, Help, Whole, Sound}
+use Rattle.clover_rule.specs.State.{home, gen, link, Mem, Place, Chained, Stocked, Free, Worn, Taken, Loose, Story, tag_in_version, tag_at, Core, only}
+use Rattle.clover_rule.specs.declared.view.Task.{Task}
+use Rattle.clover_rule.specs.declared.view.Task.TheVariants.{Idle, Storing, Rooted, Waiting, Loaded, Raised, Led, Both, Exchanged}
+use Rattle.clover_rule.specs.declared.view.View.{View}
+use Rattle.clover_words.specs.declared.pool.Pool.{Pool}
+use Rattle.clover_rule.proofs.Spelling.{one_key}
+use Rattle.clover_rule.proofs.Tools.{upd_same, upd_else, nth_within, nth_snoc, nth_front, nth_last, nth_past, nth_none}
+use Rattle.clover_rule.proofs.Standings.{tag_there, tag_within, tag_past, same_tag, one_buffer}
+use Rattle.clover_rule.proofs.Steps.{each_map, each_within, prefix_trans, prefix_self, within_prefix, Grows, Leaves, view_kept, nth_set, set_here, set_away, link_kept, durable_kept, past_kept, copied_kept}
+
+use Rattle.std.specs.Prelude.{drop, map}
+use Rattle.clover_rule.proofs.Cuts.{Shown, shown, inside, up_to, nth_drop, cut_chain}
+use Rattle.clover_rule.proofs.BindLaws.{unrooted}
+
+nth_tags : (ws : List Version) (i t : ℕ) → nth (tags ws) i ≡ Some t → (w : Version) × (nth ws i ≡ Some w) × (w.tag ≡ t)
+nth_tags [] i t e = absurd cc
+nth_tags (w ∷ ws) zero t e = (w, refl, cc)
+nth_tags (w ∷ ws) (suc i) t e = nth_tags ws i t e
+
+only_some : (b : Bool) (x : Option ℕ) (t : ℕ) → only b x ≡ Some t → x ≡ Some t
+only_some true x t e = e
+only_some false x t e = absurd cc
+
+value_in : Option Version → Option Value
+value_in None = None
+value_in (Some w) = w.value
+
+module _ (l : Pool) (m0 : Map) (used : List ℕ) (m : Mem) (vs : List View) (st : Story) (h : List Entry) (w : Whole l m0 used m vs st h) (im : Image) (is : IsImage m im) where
+  abbrev c : Core m st
+  c = w.rule.core
+
+  abbrev p : Help l m st
+  p = w.help
+
+  -- where the image's root stands
+  record Start (s t : ℕ) : Type 0 where
+    at : ℕ
+    tag : tag_at st s at ≡ Some t
+    late : st.gone s ≤ at
+    early : at < st.sure s
+
+  lead_start : (s t i : ℕ) → tag_at st s i ≡ Some t → st.gone s ≤ i → i ≤ st.lead s → Start s t
+  lead_start s t i e g q = let a = tag_within st s i t e in let b = c.rooted s (omega arith) in record { at = i; tag = e; late = g; early = omega arith }
+
+  start : (s t : ℕ) → im.root s ≡ Some t → Start s t
+  start s t e = let d = c.led s in
+      ⊎_elim (λ q. lead_start s t (st.lead s) (sym (c.root s) ∙ sym q ∙ e) (omega arith) (omega arith))
+        (λ q. ⊎_elim (λ f. lead_start s t (st.flead s) (sym f ∙ sym q ∙ e) (omega arith) (omega arith)) (λ f. absurd (cc (f.empty, q, e))) (c.froot s)) (is.root s)
+
+  -- a slot with a root is bound
+  bound_root : (s t : ℕ) → im.root s ≡ Some t → (k : List ℕ) × (st.keys s ≡ Some k)
+  bound_root s t e = go (st.keys s) refl
+    where
+      go : (x : Option (List ℕ)) → st.keys s ≡ x → (k : List ℕ) × (st.keys s ≡ Some k)
+      go (Some k) q = (k, q)
+      go None q = let a = start s t e in let b = tag_within st s a.at t a.tag in let d = p.keyed.bare s q in absurd (omega arith)
+
+  spelled : (s : ℕ) (k : List ℕ) → st.keys s ≡ Some k → Spells (im.key s) k
+  spelled s k e j x q = ⊎_elim (λ a. a ∙ p.keyed.current s k e j x q) (λ a. a ∙ p.keyed.flushed s k e j x q) (is.key s j)
+
+  lost_list : ℕ → List Version
+  lost_list s = sift (missing st im) (st.log s)
+
+  chain_from : (s : ℕ) (x : Option ℕ) → im.root s ≡ x → List ℕ
+  chain_from s None e = []
+  chain_from s (Some t) e = tags (drop (start s t e).at (lost_list s))
+
+  walk_from : (s : ℕ) (x : Option ℕ) (e : im.root s ≡ x) → Chain im x (chain_from s x e)
+  unfolding chain_from lost_list
+  walk_from s None e = tt
+  walk_from s (Some t) e = let a = start s t e in subst (λ (x : Option ℕ). Chain im x (tags (drop a.at (sift (missing st im) (st.log s))))) a.tag (cut_chain m st c im is s a.at a.late a.early)
+
+  -- a tag of the chain stands in the log
+  record OnLog (s i t q : ℕ) : Type 0 where
+    version : Version
+    there : nth (st.log s) (q + i) ≡ Some version
+    tag : version.tag ≡ t
+    late : st.gone s ≤ q + i
+
+  on_log : (s i t q : ℕ) → st.gone s ≤ q → nth (tags (drop q (lost_list s))) i ≡ Some t → OnLog s i t q
+  unfolding lost_list
+  on_log s i t q g e =
+      let z = nth_tags (drop q (sift (missing st im) (st.log s))) i t e in
+      let n = (shown m st c im is s).0 in
+      let f : Shown m st c im is s n = (shown m st c im is s).1 in
+      let a : nth (sift (missing st im) (st.log s)) (q + i) ≡ Some z.0 = sym (nth_drop q i (sift (missing st im) (st.log s))) ∙ z.1 in
+      let b = sym (f.sifted (q + i)) ∙ a in
+      let d : q + i < n = inside (q + i) n (nth (st.log s) (q + i)) z.0 b in
+      record { version = z.0; there = up_to (q + i) n (nth (st.log s) (q + i)) d ∙ b; tag = z.2; late = omega arith }
+
+  from_of : (s : ℕ) (x : Option ℕ) (e : im.root s ≡ x) → ℕ
+  from_of s None e = 0
+  from_of s (Some t) e = (start s t e).at
+
+  on_chain : (s : ℕ) (x : Option ℕ) (e : im.root s ≡ x) (i t : ℕ) → nth (chain_from s x e) i ≡ Some t → OnLog s i t (from_of s x e)
+  unfolding chain_from from_of
+  on_chain s None e i t f = absurd cc
+  on_chain s (Some u) e i t f = on_log s i t (start s u e).at (start s u e).late f
+
+  abbrev chain : ℕ → List ℕ
+  chain s = chain_from s (im.root s) refl
+
+  abbrev from : ℕ → ℕ
+  from s = from_of s (im.root s) refl
+
+  place_cases : (b t : ℕ) (q : Place) → st.place b ≡ q → (link (m.next b) ≡ Some t) ⊎ (link (m.fnext b) ≡ Some t) → InRange l t
+  place_cases b t (Chained s) e f =
+      let a = c.chained b s e in let x = c.standing s a.0 a.1 a.2 a.3 in
+      p.ranged.tags s (suc a.0) t (⊎_elim (λ g. sym (ap link (ap m.next (sym a.4) ∙ x.now)) ∙ g) (λ g. only_some (ltb (suc a.0) (st.sure s)) (tag_at st s (suc a.0)) t (sym (ap link (ap m.fnext (sym a.4) ∙ x.safe)) ∙ g)) f)
+  place_cases b t Taken e f = held st.task p.stage
+    where
+      held : (T : Task) → Stage l m st T → InRange l t
+      held T g = by T (g.holds b e) g.here
+        where
+          by : (T : Task) → holding T ≡ Some b → AtStage l m st T → InRange l t
+          by (Storing s k y n) z a = let q : home y ≡ b = cc in ⊎_elim (λ g1. absurd (cc (ap m.next q, ap link a.now, ap link (ap m.next q), g1))) (λ g1. absurd (cc (ap link (ap m.fnext q), ap link a.safe, g1))) f
+          by (Exchanged s r y) z a = let q : home r ≡ b = cc in ⊎_elim (λ g1. absurd (cc (ap link (ap m.next q), ap link a.now, g1)))
+              (λ g1. let u : y ≡ t = let u1 : Some y ≡ Some t = sym (ap link a.safe) ∙ ap link (ap m.fnext q) ∙ g1 in cc in p.ranged.tags s (st.gone s) t (a.root ∙ ap Some u)) f
+          by Idle z a = absurd cc
+          by (Rooted s k y) z a = absurd cc
+          by (Waiting s k y) z a = absurd cc
+          by (Loaded s k y) z a = absurd cc
+          by (Raised s k y) z a = absurd cc
+          by (Led s k y) z a = absurd cc
+          by (Both s k y) z a = absurd cc
+  place_cases b t (Stocked i) e f = absurd (let o = c.loose b (subst Loose (sym e) tt) in ⊎_elim (λ g. cc (o.0, g)) (λ g. cc (o.0, ap link o.1, g)) f)
+  place_cases b t Free e f = absurd (let o = c.loose b (subst Loose (sym e) tt) in ⊎_elim (λ g. cc (o.0, g)) (λ g. cc (o.0, ap link o.1, g)) f)
+  place_cases b t Worn e f = absurd (let o = c.loose b (subst Loose (sym e) tt) in ⊎_elim (λ g. cc (o.0, g)) (λ g. cc (o.0, ap link o.1, g)) f)
+
+  pub cut_sound : Sound l im
+  unfolding value_in
+  cut_sound = record {
+      own = λ b. ⊎_elim (λ q. let a = ap gen q in let d = p.ranged.own b in omega arith) (λ q. let a = ap gen q in let d = p.ranged.own b in let f = p.ranged.below b in omega arith) (is.next b);
+      target = λ b t e. place_cases b t (st.place b) refl (⊎_elim (λ q. inl (sym (ap link q) ∙ e)) (λ q. inr (sym (ap link q) ∙ e)) (is.next b));
+      root = λ s t e. let a = start s t e in p.ranged.tags s a.at t a.tag;
+      key = λ s t e. let a = bound_root s t e in (a.0, p.keyed.valid s a.0 a.1, spelled s a.0 a.1);
+      same = λ s1 s2 t1 t2 k e1 e2 ik q1 q2. let a = bound_root s1 t1 e1 in let b = bound_root s2 t2 e2 in w.rule.keyed s2 s1 k (b.1 ∙ ap Some (one_key (im.key s2) b.0 k (p.keyed.valid s2 b.0 b.1) ik (spelled s2 b.0 b.1) q2)) (a.1 ∙ ap Some (one_key (im.key s1) a.0 k (p.keyed.valid s1 a.0 a.1) ik (spelled s1 a.0 a.1) q1));
+      chain = chain;
+      walk = λ s. walk_from s (im.root s) refl;
+      once = λ s1 s2 i1 i2 t1 t2 e1 e2 q. let a = on_chain s1 (im.root s1) refl i1 t1 e1 in let b = on_chain s2 (im.root s2) refl i2 t2 e2 in
+          let o = one_buffer m st c s1 (from s1 + i1) t1 s2 (from s2 + i2) t2 (ap tag_in_version a.there ∙ ap Some a.tag) a.late (ap tag_in_version b.there ∙ ap Some b.tag) b.late q in
+          (o.0, let f : from s2 ≡ from s1 = ap from o.0 in let g = o.1 in omega arith);
+      value = λ s i. value_in (nth (st.log s) (from s + i));
+      inside = λ s t e. let a = bound_root s t e in p.keyed.slots s a.0 a.1;
+      contents = λ s i t e. let a = on_chain s (im.root s) refl i t e in let va : value_in (nth (st.log s) (from s + i)) ≡ a.version.value = ap value_in a.there in (subst (Fits l) (sym va) (p.ranged.fits s (from s + i) a.version a.there),
+          λ j y q. let b = w.rule.bodies s (from s + i) a.version a.there a.late j y (ap (λ (x : Option Value). nth (content x) j) (sym va) ∙ q) in ap (λ (x : ℕ). im.body (home x) j) (sym a.tag) ∙ ⊎_elim (λ f. f ∙ b.0) (λ f. f ∙ b.1) (is.body (home a.version.tag) j))
+    }

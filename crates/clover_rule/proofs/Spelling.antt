@@ -1,0 +1,77 @@
+-- A content is spelled by its words alone, and so is a key.
+use Rattle.std.proofs.Common.{◌≡◌, ℕ, zero, suc, ◌+◌, ◌*◌, ◌/◌, ◌%◌, ◌^◌, ◌<◌, ◌≤◌, ◌≢◌, List, [], ◌∷◌, length, refl, sym, ap, ◌∙◌, arith, subst}
+use Rattle.std.specs.Prelude.{Option, Some, None, slice_index}
+use Rattle.std.proofs.lemmas.List.{ext_get_or}
+use Rattle.clover_words.specs.Pack.{AreBytes, words_of, packed}
+use Rattle.clover_words.specs.Meta.{meta_word}
+use Rattle.clover_words.proofs.Packing.{one_byte}
+use Rattle.clover_words.specs.declared.pool.Pool.{Pool}
+use Rattle.clover_words.specs.declared.meta.Kind.TheVariants.{Value as IsValue, Tombstone}
+use Rattle.clover_map.specs.declared.bytes.Value.{Value}
+use Rattle.clover_rule.specs.Content.{content, tombstone, value_meta, all_words, words_from, Fits, spelling, IsKey, Spells}
+use Rattle.clover_rule.specs.Lists.{nth}
+
+pub nth_words : (bytes : List ℕ) (k n i : ℕ) → i < n → nth (words_from bytes k n) i ≡ Some (packed bytes (k + i))
+nth_words bytes k zero i h = absurd (omega arith)
+nth_words bytes k (suc n) zero h = ap (λ (q : ℕ). Some (packed bytes q)) (let e : k ≡ k + 0 = omega arith in e)
+nth_words bytes k (suc n) (suc i) h = nth_words bytes (suc k) n i (omega arith) ∙ ap (λ (q : ℕ). Some (packed bytes q)) (let e : suc k + i ≡ k + suc i = omega arith in e)
+
+pub nth_all : (bytes : List ℕ) (i : ℕ) → i < words_of (length bytes) → nth (all_words bytes) i ≡ Some (packed bytes i)
+nth_all bytes i h = nth_words bytes 0 (words_of (length bytes)) i h ∙ ap (λ (q : ℕ). Some (packed bytes q)) (let e : 0 + i ≡ i = omega arith in e)
+
+-- two lists of bytes of one length with the same words
+pub same_bytes : (a b : List ℕ) → AreBytes a → AreBytes b → length a ≡ length b → ((k : ℕ) → k < words_of (length a) → packed a k ≡ packed b k) → a ≡ b
+same_bytes a b ha hb e same = ext_get_or 0 a b e (λ i h. one_byte a b i ha hb (same (i / 8) (omega arith)))
+
+some_is : (a b : ℕ) → ◌≡◌ {A = Option ℕ} (Some a) (Some b) → a ≡ b
+some_is a b e = cc
+
+meta_apart : (flags size : ℕ) → flags < 2 ^ 32 → size ≤ 1024 → meta_word (record { kind = IsValue; flags = flags; length = size }) ≢ tombstone
+meta_apart flags size f n e = omega arith
+
+meta_parts : (a b c d : ℕ) → a < 2 ^ 32 → b ≤ 1024 → c < 2 ^ 32 → d ≤ 1024 → meta_word (record { kind = IsValue; flags = a; length = b }) ≡ meta_word (record { kind = IsValue; flags = c; length = d }) → (a ≡ c) × (b ≡ d)
+meta_parts a b c d ha hb hc hd e = (omega arith, omega arith)
+
+pub short_enough : (p : Pool) (n : ℕ) → n ≤ 8 * p.words → n ≤ 1024
+short_enough p n h = let w = p.words_fit in omega arith
+
+-- the meta word of a tombstone is no value's
+pub meta_dead : (p : Pool) (o : Option Value) → Fits p o → nth (content o) 0 ≡ Some tombstone → o ≡ None
+unfolding content
+meta_dead p None f e = refl
+meta_dead p (Some x) f e = absurd (meta_apart x.flags (length x.bytes) f.0 (short_enough p (length x.bytes) f.1) (some_is (value_meta x) tombstone e))
+
+-- a meta word of kind value is no tombstone's
+pub meta_live : (o : Option Value) (flags size : ℕ) → flags < 2 ^ 32 → size ≤ 1024 → nth (content o) 0 ≡ Some (meta_word (record { kind = IsValue; flags = flags; length = size })) → (x : Value) × (o ≡ Some x)
+unfolding content
+meta_live None flags size f n e = absurd (meta_apart flags size f n (sym (some_is tombstone (meta_word (record { kind = IsValue; flags = flags; length = size })) e)))
+meta_live (Some x) flags size f n e = (x, refl)
+
+value_same : (x y : Value) → x.flags ≡ y.flags → x.bytes ≡ y.bytes → x ≡ y
+value_same x y f b = λ i. record { flags = f i; bytes = b i }
+
+-- what has all words of a value's content is that value
+pub one_content : (p : Pool) (o : Option Value) (x : Value) → Fits p o → Fits p (Some x) → ((j y : ℕ) → nth (content (Some x)) j ≡ Some y → nth (content o) j ≡ Some y) → o ≡ Some x
+unfolding content
+one_content p None x f g h = absurd (meta_apart x.flags (length x.bytes) g.0 (short_enough p (length x.bytes) g.1) (sym (some_is tombstone (value_meta x) (h 0 (value_meta x) refl))))
+one_content p (Some z) x f g h =
+    let e : (z.flags ≡ x.flags) × (length z.bytes ≡ length x.bytes) = meta_parts z.flags (length z.bytes) x.flags (length x.bytes) f.0 (short_enough p (length z.bytes) f.1) g.0 (short_enough p (length x.bytes) g.1) (some_is (value_meta z) (value_meta x) (h 0 (value_meta x) refl)) in
+    let same : (k : ℕ) → k < words_of (length z.bytes) → packed z.bytes k ≡ packed x.bytes k = λ k b. some_is (packed z.bytes k) (packed x.bytes k) (sym (nth_all z.bytes k b) ∙ h (suc k) (packed x.bytes k) (nth_all x.bytes k (subst (λ (n : ℕ). k < words_of n) e.1 b))) in
+    ap Some (value_same z x e.0 (same_bytes z.bytes x.bytes f.2 g.2 e.1 same))
+
+key_bytes : (k : List ℕ) → IsKey k → AreBytes (length k ∷ k)
+key_bytes k h zero = let a = h.most in omega arith
+key_bytes k h (suc i) = h.bytes i
+
+tail_same : (a b : ℕ) (j k : List ℕ) → a ∷ j ≡ b ∷ k → j ≡ k
+tail_same a b j k e = cc
+
+-- two keys that are spelled by the same words are one
+pub one_key : (f : ℕ → ℕ) (j k : List ℕ) → IsKey j → IsKey k → Spells f j → Spells f k → j ≡ k
+unfolding spelling
+one_key f j k hj hk sj sk =
+    let word_j : (i : ℕ) → i < words_of (suc (length j)) → f i ≡ packed (length j ∷ j) i = λ i b. sj i (packed (length j ∷ j) i) (nth_all (length j ∷ j) i b) in
+    let word_k : (i : ℕ) → i < words_of (suc (length k)) → f i ≡ packed (length k ∷ k) i = λ i b. sk i (packed (length k ∷ k) i) (nth_all (length k ∷ k) i b) in
+    let lens : length j ≡ length k = one_byte (length j ∷ j) (length k ∷ k) 0 (key_bytes j hj) (key_bytes k hk) (sym (word_j 0 (omega arith)) ∙ word_k 0 (omega arith)) in
+    tail_same (length j) (length k) j k (same_bytes (length j ∷ j) (length k ∷ k) (key_bytes j hj) (key_bytes k hk) (ap suc lens)
+      (λ i b. sym (word_j i b) ∙ word_k i (subst (λ (n : ℕ). i < words_of (suc n)) lens b)))

@@ -1,0 +1,58 @@
+-- Facts on standing versions.
+use Rattle.std.proofs.Common.{◌≡◌, ℕ, zero, suc, ◌+◌, ◌<◌, ◌≤◌, ◌≢◌, ◌⊎◌, List, [], ◌∷◌, ◌++◌, length, length-append, Bool, true, false, cond, eqb, ltb, refl, sym, ap, ◌∙◌, inl, inr, ⊎_elim, arith, subst, eq-eqb, ne_eqb, eqb-true, true≢false}
+use native.Mathlib.Decide.{ℕ_discrete, dec_le}
+use mathlib.Core.Logic.{dite}
+use Rattle.std.specs.Prelude.{Option, Some, None}
+use Rattle.std.proofs.lemmas.Bool.Decides.{nat_tests}
+use Rattle.clover_map.specs.declared.bytes.Value.{Value}
+use Rattle.clover_rule.specs.History.{Version}
+use Rattle.clover_rule.specs.Lists.{nth}
+use Rattle.clover_rule.specs.State.{home, age, Next, word, gen, link, Mem, Story, tag_in_version, tag_at, only, Core}
+use Rattle.clover_rule.proofs.Tools.{upd_same, upd_else, nth_snoc, nth_front, nth_last, nth_within, nth_past, nth_none}
+
+-- a tag at a place, of the version there
+pub tag_there : (st : Story) (s i t : ℕ) → tag_at st s i ≡ Some t → (w : Version) × (nth (st.log s) i ≡ Some w) × (w.tag ≡ t)
+tag_there st s i t e = go (nth (st.log s) i) refl e
+  where
+    go : (x : Option Version) → nth (st.log s) i ≡ x → tag_in_version x ≡ Some t → (w : Version) × (nth (st.log s) i ≡ Some w) × (w.tag ≡ t)
+    go None p q = absurd cc
+    go (Some w) p q = (w, p, cc)
+
+pub tag_within : (st : Story) (s i t : ℕ) → tag_at st s i ≡ Some t → i < length (st.log s)
+tag_within st s i t e = let h = tag_there st s i t e in nth_within (st.log s) i h.0 h.1
+
+pub tag_past : (st : Story) (s i : ℕ) → tag_at st s i ≡ None → length (st.log s) ≤ i
+tag_past st s i e = go (nth (st.log s) i) refl e
+  where
+    go : (x : Option Version) → nth (st.log s) i ≡ x → tag_in_version x ≡ None → length (st.log s) ≤ i
+    go None p q = nth_past (st.log s) i p
+    go (Some w) p q = absurd cc
+
+pub same_tag : (t u : ℕ) → home t ≡ home u → age t ≡ age u → t ≡ u
+unfolding home age
+same_tag t u h a = omega arith
+
+pub only_same : (a b : ℕ) (x y : Option ℕ) → (a < b → x ≡ y) → only (ltb a b) x ≡ only (ltb a b) y
+only_same a b x y h = dite (dec_le (suc a) b) (λ d. ap (only (ltb a b)) (h d)) (λ d. rw (nltb a b d) refl)
+  where
+    nltb : (a b : ℕ) → ¬ (suc a ≤ b) → ltb a b ≡ false
+    nltb a b n = grind (arith, nat_tests)
+
+pub only_none : (a : Bool) → only a None ≡ None
+only_none true = refl
+only_none false = refl
+
+pub word_of : (n : Next) (a : ℕ) → gen n ≡ a → link n ≡ None → n ≡ word a None
+word_of (word b l) a g h = cc
+
+
+-- two standing versions in one buffer are one
+pub one_buffer : (m : Mem) (st : Story) → Core m st → (s i t s' i' t' : ℕ) → tag_at st s i ≡ Some t → st.gone s ≤ i → tag_at st s' i' ≡ Some t' → st.gone s' ≤ i' → home t' ≡ home t → (s' ≡ s) × (i' ≡ i) × (t' ≡ t)
+one_buffer m st c s i t s' i' t' e g e' g' h =
+    let a = (c.standing s i t e g).now in
+    let b = (c.standing s' i' t' e' g').now in
+    let ages : age t' ≡ age t = cc (ap m.next h) in
+    let same = same_tag t' t h ages in
+    let x = c.spotted s i t e in
+    let y = c.spotted s' i' t' e' in
+    (cc, cc, same)

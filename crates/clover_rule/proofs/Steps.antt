@@ -1,0 +1,117 @@
+-- What each step keeps: what is known stays known, and what another seat owns is left alone.
+use Rattle.std.proofs.Common.{◌≡◌, ℕ, zero, suc, ◌+◌, ◌<◌, ◌≤◌, ◌≢◌, ◌⊎◌, List, [], ◌∷◌, ◌++◌, length, set, append_assoc, append-nil, Bool, true, false, cond, eqb, ltb, refl, sym, ap, ◌∙◌, inl, inr, ⊎_elim, arith, subst, eq-eqb, ne_eqb, eqb-true, true≢false}
+use native.Mathlib.Decide.{ℕ_discrete, dec_le}
+use mathlib.Core.Logic.{dite}
+use Rattle.std.specs.Prelude.{Option, Some, None}
+use Rattle.clover_map.specs.declared.bytes.Value.{Value}
+use Rattle.clover_map.specs.declared.call.Entry.{Entry}
+use Rattle.clover_rule.specs.History.{Version, own}
+use Rattle.clover_rule.specs.Lists.{Each, nth, IsPart, Within, IsPrefix}
+use Rattle.clover_rule.specs.State.{home, Next, word, gen, link, Mem, Stocked, Story, tag_in_version, tag_at, Core, Durable}
+use Rattle.clover_rule.specs.Views.{IsLink, Past, IsCopied, Owned, OwnCalls, ViewOk}
+use Rattle.clover_rule.specs.declared.view.Content.{Content}
+use Rattle.clover_rule.specs.declared.view.Link.{Link}
+use Rattle.clover_rule.specs.declared.view.Role.{Role}
+use Rattle.clover_rule.specs.declared.view.Role.TheVariants.{Client, Serving, Granting, Noting, Joined}
+use Rattle.clover_rule.specs.declared.view.View.{View}
+use Rattle.clover_rule.proofs.Tools.{upd_same, upd_else, nth_within}
+use Rattle.clover_rule.proofs.Standings.{tag_there}
+
+pub each_map : {A : Type 0} {P Q : A → Type 0} → ((x : A) → P x → Q x) → (xs : List A) → Each P xs → Each Q xs
+each_map f [] e = tt
+each_map f (x ∷ xs) e = (f x e.0, each_map f xs e.1)
+
+pub each_within : {A : Type 0} (P : A → Type 0) (x : A) (xs : List A) → Each P xs → Within x xs → P x
+each_within P x [] e w = absurd w
+each_within P x (y ∷ ys) e w = ⊎_elim (λ p. subst P p e.0) (λ q. each_within P x ys e.1 q) w
+
+pub prefix_trans : {A : Type 0} (xs ys zs : List A) → IsPrefix xs ys → IsPrefix ys zs → IsPrefix xs zs
+prefix_trans xs ys zs p q = (p.0 ++ q.0, q.1 ∙ ap (λ (l : List _). l ++ q.0) p.1 ∙ append_assoc xs p.0 q.0)
+
+pub prefix_self : {A : Type 0} (xs : List A) → IsPrefix xs xs
+prefix_self xs = ([], sym (append-nil xs))
+
+pub within_prefix : {A : Type 0} (x : A) (xs ys : List A) → Within x xs → Within x (xs ++ ys)
+within_prefix x [] ys w = absurd w
+within_prefix x (y ∷ xs) ys w = ⊎_elim inl (λ q. inr (within_prefix x xs ys q)) w
+
+pub part_kept : {A : Type 0} (n : ℕ) (xs ys zs : List A) → IsPart n xs ys → IsPrefix ys zs → IsPart n xs zs
+part_kept n xs ys zs (front, back, e, l) (more, f) = (front, back ++ more, f ∙ ap (λ (q : List _). q ++ more) e ∙ append_assoc front (xs ++ back) more ∙ ap (λ (q : List _). front ++ q) (append_assoc xs back more), l)
+
+pub record Grows (m : Mem) (st : Story) (h : List Entry) (m' : Mem) (st' : Story) (h' : List Entry) : Type 0 where
+  pub versions : (s i : ℕ) (w : Version) → nth (st.log s) i ≡ Some w → nth (st'.log s) i ≡ Some w
+  pub sure : (s : ℕ) → st.sure s ≤ st'.sure s
+  pub gone : (s : ℕ) → st.gone s ≤ st'.gone s
+  pub gens : (b : ℕ) → gen (m.next b) ≤ gen (m'.next b)
+  pub names : IsPrefix st.bindings st'.bindings
+  pub count : m.count ≤ m'.count
+  pub history : IsPrefix h h'
+
+-- what the seat id owns is left alone
+pub record Leaves (m : Mem) (st : Story) (m' : Mem) (st' : Story) (id b : ℕ) : Type 0 where
+  pub place : st'.place b ≡ Stocked id
+  pub next : m'.next b ≡ m.next b
+  pub body : (k : ℕ) → m'.body b k ≡ m.body b k
+  pub fbody : (k : ℕ) → m'.fbody b k ≡ m.fbody b k
+
+module _ (m : Mem) (st : Story) (h : List Entry) (m' : Mem) (st' : Story) (h' : List Entry) (g : Grows m st h m' st' h') where
+  pub tag_kept : (s i t : ℕ) → tag_at st s i ≡ Some t → tag_at st' s i ≡ Some t
+  tag_kept s i t e = let w = tag_there st s i t e in ap tag_in_version (g.versions s i w.0 w.1) ∙ ap Some w.2
+
+  pub durable_kept : (s t : ℕ) → Durable st s t → Durable st' s t
+  durable_kept s t d = (d.0, tag_kept s d.0 t d.1, let x = g.sure s in let y = d.2 in omega arith)
+
+  pub link_kept : (l : Link) → IsLink st l → IsLink st' l
+  link_kept l d = (d.0, tag_kept l.slot d.0 l.from d.1, tag_kept l.slot (suc d.0) l.to d.2)
+
+  pub past_kept : (b : ℕ) (n : Next) → Past m st b n → Past m' st' b n
+  past_kept b n d = (let x = g.gens b in let y = d.0 in omega arith, ⊎_elim inl (λ e. inr (e.0, link_kept e.0 e.1, e.2, e.3, e.4)) d.1)
+
+  pub copied_kept : (c : ℕ × Content) → IsCopied st c → IsCopied st' c
+  copied_kept c d = (d.0, d.1, g.versions c.0 d.0 d.1 d.2, d.3, ⊎_elim inl (λ e. inr (let x = g.gone c.0 in omega arith)) d.4)
+
+  pub view_kept : (id : ℕ) (v : View) → ((b : ℕ) → st.place b ≡ Stocked id → Leaves m st m' st' id b) → ((c : ℕ) → v.pass.role ≡ Client c → own c h' ≡ own c h) → ViewOk m st h id v → ViewOk m' st' h' id v
+  view_kept id v f o k = record {
+      stocked = each_map owned v.pass.stock k.stocked;
+      apart = k.apart;
+      durable = each_map (λ p d. durable_kept p.0 p.1 d) v.pass.durable k.durable;
+      links = each_map link_kept v.pass.links k.links;
+      words = each_map (λ p d. past_kept p.buffer (word p.own p.link) d) v.pass.words k.words;
+      written = each_map (λ c d. (owned c.tag d.0, (f (home c.tag) d.0.0).body c.place ∙ d.1)) v.pass.written k.written;
+      flushed = each_map (λ c d. (owned c.tag d.0, (f (home c.tag) d.0.0).fbody c.place ∙ d.1)) v.pass.flushed k.flushed;
+      copied = each_map copied_kept v.pass.copied k.copied;
+      names = prefix_trans v.pass.names st.bindings st'.bindings k.names g.names;
+      added = ⊎_elim inl (λ d. inr (part_kept v.pass.from v.pass.added st.bindings st'.bindings d g.names)) k.added;
+      most = let x = g.count in let y = k.most in omega arith;
+      history = prefix_trans v.pass.history h h' k.history g.history;
+      calls = called v.pass.role v.pass.calls o k.calls
+    }
+    where
+      owned : (t : ℕ) → Owned m st id t → Owned m' st' id t
+      owned t d = let x = f (home t) d.0 in (x.place, ap gen x.next ∙ d.1)
+      called : (r : Role) (cs : List Entry) → ((c : ℕ) → r ≡ Client c → own c h' ≡ own c h) → OwnCalls r cs h → OwnCalls r cs h'
+      called (Client c) cs o d = d ∙ sym (o c refl)
+      called Serving cs o d = tt
+      called Granting cs o d = tt
+      called Noting cs o d = tt
+      called Joined cs o d = tt
+
+-- the views after one was renewed
+pub nth_set : {A : Type 0} (vs : List A) (i j : ℕ) (v w : A) → nth (set vs i v) j ≡ Some w → ((j ≡ i) × (v ≡ w)) ⊎ ((j ≢ i) × (nth vs j ≡ Some w))
+nth_set [] i j v w e = absurd cc
+nth_set (x ∷ vs) zero zero v w e = inl (refl, cc)
+nth_set (x ∷ vs) zero (suc j) v w e = inr ((λ q. omega arith), e)
+nth_set (x ∷ vs) (suc i) zero v w e = inr ((λ q. omega arith), e)
+nth_set (x ∷ vs) (suc i) (suc j) v w e = ⊎_elim (λ t. inl (ap suc t.0, t.1)) (λ t. let n = t.0 in inr ((λ h. n (omega arith)), t.1)) (nth_set vs i j v w e)
+
+pub set_here : {A : Type 0} (vs : List A) (i : ℕ) (v w : A) → nth vs i ≡ Some w → nth (set vs i v) i ≡ Some v
+set_here [] i v w e = absurd cc
+set_here (x ∷ vs) zero v w e = refl
+set_here (x ∷ vs) (suc i) v w e = set_here vs i v w e
+
+pub set_away : {A : Type 0} (vs : List A) (i j : ℕ) (v : A) → j ≢ i → nth (set vs i v) j ≡ nth vs j
+set_away [] i j v n = refl
+set_away (x ∷ vs) zero zero v n = absurd (n refl)
+set_away (x ∷ vs) zero (suc j) v n = refl
+set_away (x ∷ vs) (suc i) zero v n = refl
+set_away (x ∷ vs) (suc i) (suc j) v n = set_away vs i j v (λ e. n (ap suc e))

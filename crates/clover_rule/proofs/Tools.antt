@@ -1,0 +1,43 @@
+-- Lists read by place, and functions changed at one place.
+use Rattle.std.proofs.Common.{◌≡◌, ℕ, zero, suc, ◌+◌, ◌<◌, ◌≤◌, ◌≢◌, ◌⊎◌, List, [], ◌∷◌, ◌++◌, length, Bool, true, false, cond, eqb, refl, sym, ap, ◌∙◌, inl, inr, ⊎_elim, arith, subst, eq-eqb, ne_eqb, eqb-true}
+use native.Mathlib.Decide.{ℕ_discrete}
+use Rattle.std.specs.Prelude.{Option, Some, None}
+use Rattle.clover_rule.specs.Lists.{nth, upd}
+
+module _ {A : Type 0} where
+  pub upd_same : (f : ℕ → A) (i : ℕ) (a : A) → upd f i a i ≡ a
+  upd_same f i a = rw (eq-eqb i i refl)
+
+  pub upd_else : (f : ℕ → A) (i j : ℕ) (a : A) → j ≢ i → upd f i a j ≡ f j
+  upd_else f i j a n = rw (ne_eqb i j (λ e. n (sym e)))
+
+  pub nth_snoc : (l : List A) (a b : A) (i : ℕ) → nth (l ++ a ∷ []) i ≡ Some b → (nth l i ≡ Some b) ⊎ ((i ≡ length l) × (a ≡ b))
+  nth_snoc [] a b zero e = inr (refl, cc)
+  nth_snoc [] a b (suc i) e = absurd cc
+  nth_snoc (x ∷ l) a b zero e = inl e
+  nth_snoc (x ∷ l) a b (suc i) e = ⊎_elim (λ h. inl h) (λ h. inr (ap suc h.0, h.1)) (nth_snoc l a b i e)
+
+  pub nth_front : (l : List A) (a : A) (i : ℕ) → i ≢ length l → nth (l ++ a ∷ []) i ≡ nth l i
+  nth_front [] a zero n = absurd (n refl)
+  nth_front [] a (suc i) n = refl
+  nth_front (x ∷ l) a zero n = refl
+  nth_front (x ∷ l) a (suc i) n = nth_front l a i (λ e. n (ap suc e))
+
+  pub nth_last : (l : List A) (a : A) → nth (l ++ a ∷ []) (length l) ≡ Some a
+  nth_last [] a = refl
+  nth_last (x ∷ l) a = nth_last l a
+
+  pub nth_within : (l : List A) (i : ℕ) (b : A) → nth l i ≡ Some b → i < length l
+  nth_within [] i b e = absurd cc
+  nth_within (x ∷ l) zero b e = omega arith
+  nth_within (x ∷ l) (suc i) b e = let h = nth_within l i b e in omega arith
+
+  pub nth_past : (l : List A) (i : ℕ) → nth l i ≡ None → length l ≤ i
+  nth_past [] i e = omega arith
+  nth_past (x ∷ l) zero e = absurd cc
+  nth_past (x ∷ l) (suc i) e = let h = nth_past l i e in omega arith
+
+  pub nth_none : (l : List A) (i : ℕ) → length l ≤ i → nth l i ≡ None
+  nth_none [] i h = refl
+  nth_none (x ∷ l) zero h = absurd (omega arith)
+  nth_none (x ∷ l) (suc i) h = nth_none l i (omega arith)

@@ -1,0 +1,149 @@
+-- Calls, replies, and histories of a tagged map.
+use Rattle.std.specs.Prelude.{◌≡◌, ℕ, ◌≢◌, ◌&&◌, List, [], ◌∷◌, ◌++◌, Bool, true, false, cond, eqb, Option, Some, None}
+use Rattle.clover_map.specs.declared.bytes.Value.{Value}
+use Rattle.clover_map.specs.declared.bytes.Held.{Held}
+use Rattle.clover_map.specs.declared.call.Call.{Call}
+use Rattle.clover_map.specs.declared.call.Call.TheVariants.{Get, Put, Delete, Swap}
+use Rattle.clover_map.specs.declared.call.Reply.{Reply}
+use Rattle.clover_map.specs.declared.call.Reply.TheVariants.{Stored, Found, Absent, Deleted, Differs}
+use Rattle.clover_map.specs.declared.call.Entry.{Entry}
+use Rattle.clover_map.specs.Legal.{held}
+use Rattle.clover_rule.specs.Lists.{Each}
+
+-- two keys are the same
+abbrev pub same_key : List ℕ → List ℕ → Bool
+same_key [] [] = true
+same_key [] (y ∷ ys) = false
+same_key (x ∷ xs) [] = false
+same_key (x ∷ xs) (y ∷ ys) = eqb x y && same_key xs ys
+
+-- a version: its tag, and its value, or none for a tombstone
+pub record Version : Type 0 where
+  pub tag : ℕ
+  pub value : Option Value
+
+-- what each key has: the tag and the value of its pair, or nothing
+abbrev pub Map : Type 0
+Map = List ℕ → Option Held
+
+-- a function of keys with another value at one key
+abbrev pub at_key : {A : Type 0} → (List ℕ → A) → List ℕ → A → List ℕ → A
+at_key f k a = λ (j : List ℕ). cond (same_key k j) a (f j)
+
+-- the key that a call names
+abbrev pub named : Call → List ℕ
+named (Get k) = k
+named (Put k v) = k
+named (Delete k) = k
+named (Swap k e v) = k
+
+abbrev pub key_of : Entry → List ℕ
+key_of e = named e.call
+
+abbrev pub paired : ℕ → Option Value → Option Held
+paired t None = None
+paired t (Some v) = Some (held t v)
+
+-- the pair that a version stands for
+abbrev pub pair_of : Version → Option Held
+pair_of w = paired w.tag w.value
+
+abbrev pub tag_in : Option Held → Option ℕ
+tag_in None = None
+tag_in (Some p) = Some p.tag
+
+abbrev pub committed : Call → Reply → Option Version
+committed (Put k v) (Stored t) = Some record { tag = t; value = Some v }
+committed (Swap k e v) (Stored t) = Some record { tag = t; value = Some v }
+committed (Delete k) (Deleted t) = Some record { tag = t; value = None }
+committed _ _ = None
+
+-- the version that an entry commits
+abbrev pub commit_of : Entry → Option Version
+commit_of e = committed e.call e.reply
+
+abbrev pub Fresh : ℕ → List ℕ → Type 0
+Fresh t used = Each (λ (u : ℕ). u ≢ t) used
+
+-- what the map has at the call's key allows the reply
+abbrev pub Does : Option Held → List ℕ → Call → Reply → Type 0
+Does x used (Put k v) (Stored t) = Fresh t used
+Does x used (Get k) (Found t v) = x ≡ Some (held t v)
+Does x used (Get k) Absent = x ≡ None
+Does x used (Delete k) (Deleted t) = (tag_in x ≢ None) × Fresh t used
+Does x used (Delete k) Absent = x ≡ None
+Does x used (Swap k e v) (Stored t) = (tag_in x ≡ Some e) × Fresh t used
+Does x used (Swap k e v) (Differs t) = (tag_in x ≡ Some t) × (t ≢ e)
+Does x used (Swap k e v) Absent = x ≡ None
+Does _ _ _ _ = ⊥
+
+abbrev pub changed : Map → List ℕ → Option Version → Map
+changed m k None = m
+changed m k (Some w) = at_key m k (pair_of w)
+
+abbrev pub grown : List ℕ → Option Version → List ℕ
+grown used None = used
+grown used (Some w) = w.tag ∷ used
+
+abbrev pub after : Map → Entry → Map
+after m e = changed m (key_of e) (commit_of e)
+
+abbrev pub Legal : Map → List ℕ → List Entry → Type 0
+Legal m used [] = Unit {0}
+Legal m used (e ∷ h) = Does (m (key_of e)) used e.call e.reply × Legal (after m e) (grown used (commit_of e)) h
+
+abbrev pub leads : Map → List Entry → Map
+leads m [] = m
+leads m (e ∷ h) = leads (after m e) h
+
+abbrev pub used_by : List ℕ → List Entry → List ℕ
+used_by used [] = used
+used_by used (e ∷ h) = used_by (grown used (commit_of e)) h
+
+abbrev pub own : ℕ → List Entry → List Entry
+own c [] = []
+own c (e ∷ h) = cond (eqb e.client c) (e ∷ own c h) (own c h)
+
+abbrev pub joined : Option Version → List Version → List Version
+joined None ws = ws
+joined (Some w) ws = w ∷ ws
+
+-- the versions that a history commits at a key, in order
+abbrev pub commits : List ℕ → List Entry → List Version
+commits k [] = []
+commits k (e ∷ h) = cond (same_key (key_of e) k) (joined (commit_of e) (commits k h)) (commits k h)
+
+-- what a key has once these versions were committed behind what it had
+abbrev pub ends : Option Held → List Version → Option Held
+ends x [] = x
+ends x (w ∷ ws) = ends (pair_of w) ws
+
+abbrev pub lost_in : (ℕ → Bool) → Option Version → Bool
+lost_in lost None = false
+lost_in lost (Some w) = lost w.tag
+
+-- the history without the commits of the lost tags
+abbrev pub kept : (ℕ → Bool) → List Entry → List Entry
+kept lost [] = []
+kept lost (e ∷ h) = cond (lost_in lost (commit_of e)) (kept lost h) (e ∷ kept lost h)
+
+-- no entry names the key
+abbrev pub Silent : List ℕ → List Entry → Type 0
+Silent k h = Each (λ (e : Entry). key_of e ≢ k) h
+
+-- behind the commit of a lost tag no entry names its key
+abbrev pub Unread : (ℕ → Bool) → List Entry → Type 0
+Unread lost [] = Unit {0}
+Unread lost (e ∷ h) = (lost_in lost (commit_of e) ≡ true → Silent (key_of e) h) × Unread lost h
+
+-- each lost commit is the last one of its key
+abbrev pub Last : (ℕ → Bool) → List Entry → Type 0
+Last lost [] = Unit {0}
+Last lost (e ∷ h) = (lost_in lost (commit_of e) ≡ true → commits (key_of e) h ≡ []) × Last lost h
+
+pub record Survives (m : Map) (used : List ℕ) (told : ℕ → Type 0) (h rest : List Entry) : Type 0 where
+  pub lost : ℕ → Bool
+  pub is : rest ≡ kept lost h
+  pub last : Last lost h
+  pub untold : (t : ℕ) → lost t ≡ true → told t → ⊥
+  pub legal : Legal m used rest

@@ -1,0 +1,9 @@
+pub mod Content
+pub mod History
+pub mod Lists
+pub mod State
+pub mod Image
+pub mod Views
+pub mod Laws
+pub mod Parts
+pub mod Server

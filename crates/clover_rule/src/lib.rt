@@ -1,0 +1,15 @@
+//! The rule of the pool: what holds of the words, of what every actor knows and of one history between any two
+//! steps, and a law for each kind of step. These are definitions and proofs over plain data: nothing here runs.
+#![tactic(auto)]
+
+mod access;
+mod laws;
+mod step;
+mod view;
+
+pub use access::{Access, Act, Actor};
+pub use laws::{cut_law, raise_law};
+pub use step::{Kind, StepName};
+pub use view::{
+    BookLine, BufferState, Content, Link, Pass, Refusal, Role, Server, Shown, Task, View,
+};
