@@ -8,3 +8,8 @@ mod text;
 
 pub use line::{Form, LineFault, PoolLine, Task};
 pub use text::{push_answer, push_call, push_entry, push_reply};
+
+use clover_list::ItemList;
+
+/// A list of bytes.
+pub type Bulk = ItemList<u8>;
