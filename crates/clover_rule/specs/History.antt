@@ -7,7 +7,7 @@ use Rattle.clover_map.specs.declared.call.Call.TheVariants.{Get, Put, Delete, Sw
 use Rattle.clover_map.specs.declared.call.Reply.{Reply}
 use Rattle.clover_map.specs.declared.call.Reply.TheVariants.{Stored, Found, Absent, Deleted, Differs}
 use Rattle.clover_map.specs.declared.call.Entry.{Entry}
-use Rattle.clover_map.specs.Legal.{held}
+use Rattle.clover_map.specs.Does.{held}
 use Rattle.clover_rule.specs.Lists.{Each}
 
 -- two keys are the same
