@@ -1,4 +1,6 @@
 pub mod Keys
+pub mod Ties
+pub mod TaggedMaps
 pub mod Spelling
 pub mod Histories
 pub mod Tools

@@ -8,6 +8,8 @@ use Rattle.clover_map.specs.declared.call.Reply.{Reply}
 use Rattle.clover_map.specs.declared.call.Reply.TheVariants.{Stored, Found, Absent, Deleted, Differs}
 use Rattle.clover_map.specs.declared.call.Entry.{Entry}
 use Rattle.clover_map.specs.Does.{held}
+use Rattle.clover_map.specs.Tagged.{Tagged}
+use Rattle.std.specs.FinMap.{get}
 use Rattle.clover_rule.specs.Lists.{Each}
 
 -- two keys are the same
@@ -25,6 +27,10 @@ pub record Version : Type 0 where
 -- what each key has: the tag and the value of its pair, or nothing
 abbrev pub Map : Type 0
 Map = List ℕ → Option Held
+
+-- what the tagged map has at each key
+abbrev pub shows : Tagged → Map
+shows m = λ (k : List ℕ). get m k
 
 -- a function of keys with another value at one key
 abbrev pub at_key : {A : Type 0} → (List ℕ → A) → List ℕ → A → List ℕ → A

@@ -4,6 +4,7 @@ pub mod Lists
 pub mod State
 pub mod Image
 pub mod Views
+pub mod Words
 pub mod Laws
 pub mod Parts
 pub mod Server

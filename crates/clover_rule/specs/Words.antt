@@ -1,0 +1,56 @@
+-- The words of a pool as numbers, and what they decode to: by buffer, by buffer and place, by slot.
+use Prim.Native.Nat.{zero, suc}
+use Rattle.std.specs.Prelude.{◌≡◌, ℕ, ◌+◌, ◌-◌, ◌*◌, ◌/◌, ◌%◌, ◌^◌, ◌<◌, ◌≤◌, ◌&&◌, nat_lt, List, Bool, true, false, cond, Option, Some, None}
+use Rattle.clover_words.specs.declared.pool.Pool.{Pool}
+use Rattle.clover_words.specs.declared.word.Buffer.{Buffer}
+use Rattle.clover_words.specs.declared.word.Word.{Word}
+use Rattle.clover_words.specs.declared.word.Word.TheVariants.{Next as NextOf, Meta, Value as ValueOf, Root, Key, Short, Count}
+use Rattle.clover_words.specs.declared.word.Side.{Side}
+use Rattle.clover_words.specs.declared.word.Side.TheVariants.{Current, Flushed}
+use Rattle.clover_words.specs.Place.{copy_in}
+use Rattle.clover_rule.specs.Content.{inside}
+use Rattle.clover_rule.specs.State.{Next, word, Mem}
+
+-- a root, a shortcut and a next word as numbers; a tag is its number
+abbrev pub root_code : Option ℕ → ℕ
+root_code None = 0
+root_code (Some t) = 2 ^ 42 + t
+
+abbrev pub next_code : Next → ℕ
+next_code (word a x) = a * 2 ^ 43 + root_code x
+
+-- what a number says as a root, and as a next word
+abbrev pub root_of : ℕ → Option ℕ
+root_of n = cond (nat_lt n 4398046511104) None (Some (n - 4398046511104))
+
+abbrev pub next_of : ℕ → Next
+next_of n = word (n / 8796093022208) (root_of (n % 8796093022208))
+
+-- a buffer of tags, and a buffer of the pool
+abbrev pub buffer_at : ℕ → Buffer
+buffer_at b = record { node = b / 65536; index = b % 65536 }
+
+-- the word at a place of a buffer's content
+abbrev pub content_at : ℕ → ℕ → Word
+content_at b zero = Meta (buffer_at b)
+content_at b (suc k) = ValueOf (buffer_at b) k
+
+-- what stands outside of the pool has a value of its own, so that it never changes
+abbrev pub guarded : {A : Type 0} → Bool → A → A → A
+guarded true x y = x
+guarded false x y = y
+
+-- the decoded words
+abbrev pub mem_of : Pool → List ℕ → Mem
+mem_of p ws = record {
+    next = λ (b : ℕ). guarded (inside p b) (next_of (copy_in p ws (NextOf (buffer_at b)) Current)) (word 0 None);
+    fnext = λ (b : ℕ). guarded (inside p b) (next_of (copy_in p ws (NextOf (buffer_at b)) Flushed)) (word 0 None);
+    body = λ (b k : ℕ). guarded (inside p b && nat_lt k (1 + p.words)) (copy_in p ws (content_at b k) Current) 0;
+    fbody = λ (b k : ℕ). guarded (inside p b && nat_lt k (1 + p.words)) (copy_in p ws (content_at b k) Flushed) 0;
+    root = λ (s : ℕ). guarded (nat_lt s p.slots) (root_of (copy_in p ws (Root s) Current)) None;
+    froot = λ (s : ℕ). guarded (nat_lt s p.slots) (root_of (copy_in p ws (Root s) Flushed)) None;
+    short = λ (s : ℕ). guarded (nat_lt s p.slots) (root_of (copy_in p ws (Short s) Current)) None;
+    count = copy_in p ws Count Current;
+    key = λ (s k : ℕ). guarded (nat_lt s p.slots && nat_lt k 32) (copy_in p ws (Key s k) Current) 0;
+    fkey = λ (s k : ℕ). guarded (nat_lt s p.slots && nat_lt k 32) (copy_in p ws (Key s k) Flushed) 0
+  }
