@@ -11,10 +11,12 @@ use Rattle.clover_map.specs.declared.call.Call.TheVariants.{Delete, Get, Swap}
 use Rattle.clover_map.specs.declared.call.Call.TheVariants.{Put}
 use Rattle.clover_map.specs.declared.call.Reply.{Reply}
 use Rattle.clover_map.specs.declared.call.Reply.TheVariants.{Absent, Deleted, Differs, Stored}
-use Rattle.clover_rule.specs.Content.{Fits, tombstone}
+use Rattle.clover_map.specs.Does.{held}
+use Rattle.clover_map.specs.declared.call.Reply.TheVariants.{Found}
+use Rattle.clover_rule.specs.Content.{Fits, tombstone, value_meta}
 use Rattle.clover_rule.specs.History.{Version, Map, used_by, Does, named, committed, pair_of, paired, tag_in, Fresh, grown, leads}
 use Rattle.clover_rule.specs.Lists.{Each, nth, Within}
-use Rattle.clover_rule.specs.Server.{Ready, Whole, MayLink, link_entry, link_view, SawValue, SawTombstone}
+use Rattle.clover_rule.specs.Server.{Ready, Whole, MayLink, link_entry, link_view, SawValue, SawTombstone, CopiedValue}
 use Rattle.clover_rule.specs.State.{home, age, word, gen, Mem, Loose, Story, Core, linked_mem, linked_story}
 use Rattle.clover_rule.specs.Views.{Rule, renewed}
 use Rattle.clover_rule.specs.declared.view.Role.TheVariants.{Client}
@@ -22,7 +24,7 @@ use Rattle.clover_rule.specs.declared.view.View.{View}
 use Rattle.clover_words.specs.declared.pool.Pool.{Pool}
 use Rattle.clover_words.specs.Meta.{meta_word}
 use Rattle.clover_words.specs.declared.meta.Kind.TheVariants.{Value as IsValue}
-use Rattle.clover_rule.proofs.Spelling.{meta_dead, meta_live}
+use Rattle.clover_rule.proofs.Spelling.{meta_dead, meta_live, first_word, read_content}
 use Rattle.clover_rule.proofs.Tools.{upd_same, upd_else, nth_within, nth_snoc, nth_front, nth_last, nth_past, nth_none}
 use Rattle.clover_rule.proofs.Standings.{tag_there, tag_within, tag_past, same_tag, one_buffer}
 use Rattle.clover_rule.proofs.Steps.{each_map, each_within, prefix_trans, prefix_self, within_prefix, Grows, Leaves, view_kept, nth_set, set_here, set_away, link_kept, durable_kept, past_kept, copied_kept}
@@ -61,12 +63,12 @@ module _ (l : Pool) (m0 : Map) (used : List ℕ) (m : Mem) (vs : List View) (st 
   -- what the tail's meta word says of the map
   live_map : (s : ℕ) (k : List ℕ) (u : ℕ) (tail : Within (s, u) v.pass.durable) (name : Within (s, k) v.pass.names) (found : m.next (home u) ≡ word (age u) None) → SawValue v s u → tag_in (leads m0 h k) ≡ Some u
   live_map s k u tail name found q = let x = version m0 used m vs st h r id v at s k u tail name found in
-      let a = meta_live x.0.value q.flags q.size q.flags_fit q.size_fits (copied_word m0 used m vs st h r id v at s k u tail name found 0 (meta_word (record { kind = IsValue; flags = q.flags; length = q.size })) q.copied) in
+      let a = meta_live x.0.value q.flags q.size q.flags_fit q.size_fits (let y = first_word x.0.value in y.1 ∙ ap Some (copied_word m0 used m vs st h r id v at s k u tail name found 0 (meta_word (record { kind = IsValue; flags = q.flags; length = q.size })) y.0 q.copied y.1)) in
       ap tag_in (map_at m0 used m vs st h r id v at s k u tail name found) ∙ tag_of_pair x.0 a.0 a.1 ∙ ap Some x.2
 
   dead_map : (s : ℕ) (k : List ℕ) (u : ℕ) (tail : Within (s, u) v.pass.durable) (name : Within (s, k) v.pass.names) (found : m.next (home u) ≡ word (age u) None) → SawTombstone v s u → leads m0 h k ≡ None
   dead_map s k u tail name found q = let x = version m0 used m vs st h r id v at s k u tail name found in
-      map_at m0 used m vs st h r id v at s k u tail name found ∙ ap (paired x.0.tag) (meta_dead l x.0.value (w.help.ranged.fits s (tail_durable m0 used m vs st h r id v at s k u tail name found).0 x.0 x.1) (copied_word m0 used m vs st h r id v at s k u tail name found 0 tombstone q))
+      map_at m0 used m vs st h r id v at s k u tail name found ∙ ap (paired x.0.tag) (meta_dead l x.0.value (w.help.ranged.fits s (tail_durable m0 used m vs st h r id v at s k u tail name found).0 x.0 x.1) (let y = first_word x.0.value in y.1 ∙ ap Some (copied_word m0 used m vs st h r id v at s k u tail name found 0 tombstone y.0 q y.1)))
 
   -- Stored by a put, Deleted, and Stored by a swap
   pub put_decides : (n s : ℕ) (k : List ℕ) (u t : ℕ) (x : Value) (rest : List ℕ) → MayLink v n s k u t (Some x) rest → Fits l (Some x) → m.next (home u) ≡ word (age u) None
@@ -89,6 +91,16 @@ module _ (l : Pool) (m0 : Map) (used : List ℕ) (m : Mem) (vs : List View) (st 
         (decide_rule m0 used m vs st h r id v at s k u tail name found n role call reply nm cm does) w.help (λ sv e. e)
         (subst (Each (λ (x : ℕ). (age x < l.wear) × (age x ≤ gen (m.fnext (home x))))) (sym (used_snoc used h (link_entry v n call reply) ∙ ap (grown (used_by used h)) cm)) w.safe)
         (λ cs a b. each_snoc (λ (e : Entry). Within e.client cs) h (link_entry v n call reply) b a)
+
+    -- Found
+    pub found_get : (x : Value) → CopiedValue v s u x → Does (leads m0 h k) (used_by used h) (Get k) (Found u x)
+    found_get x q =
+        let y = version m0 used m vs st h r id v at s k u tail name found in
+        let fits = w.help.ranged.fits s (tail_durable m0 used m vs st h r id v at s k u tail name found).0 y.0 y.1 in
+        let is : y.0.value ≡ Some x = read_content l y.0.value x fits q.flags_fit q.size_fits
+            (λ z e. copied_word m0 used m vs st h r id v at s k u tail name found 0 (value_meta x) z q.meta e)
+            (λ j b. let a = q.words j b in (a.0, (λ z e. copied_word m0 used m vs st h r id v at s k u tail name found (suc j) a.0 z a.1 e), a.2)) in
+        map_at m0 used m vs st h r id v at s k u tail name found ∙ ap (paired y.0.tag) is ∙ ap (λ (t : ℕ). Some (held t x)) y.2
 
     -- Absent at a tombstone, for get, delete and swap, and Differs
     pub absent_get : SawTombstone v s u → Does (leads m0 h k) (used_by used h) (Get k) Absent

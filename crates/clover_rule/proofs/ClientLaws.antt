@@ -53,9 +53,9 @@ module _ (l : Pool) (m0 : Map) (used : List ℕ) (m : Mem) (vs : List View) (st 
   quiet_whole n role v' same past ok = client_whole l m0 used m vs st h w id v v' at n role same m st h (quiet m0 used m vs st h r id v v' at same past ok) w.help (λ sv e. e) w.safe (λ cs x y. y)
 
   -- a store of the shortcut with a durable tag
-  pub short_whole : (n s t : ℕ) → v.pass.role ≡ Client n → Within (s, t) v.pass.durable → (rule : Rule m0 used (record m { short = upd m.short s (Some t) }) (renewed vs id (record v { pass = record v.pass { made = suc v.pass.made } })) st h)
-      → Whole l m0 used (record m { short = upd m.short s (Some t) }) (renewed vs id (record v { pass = record v.pass { made = suc v.pass.made } })) st h
-  short_whole n s t role d rule = let p = w.help in client_whole l m0 used m vs st h w id v (record v { pass = record v.pass { made = suc v.pass.made } }) at n role refl (record m { short = upd m.short s (Some t) }) st h rule
+  pub short_whole : (n s t : ℕ) → v.pass.role ≡ Client n → Within (s, t) v.pass.durable → (rule : Rule m0 used (record m { short = upd m.short s (Some t) }) (renewed vs id v) st h)
+      → Whole l m0 used (record m { short = upd m.short s (Some t) }) (renewed vs id v) st h
+  short_whole n s t role d rule = let p = w.help in client_whole l m0 used m vs st h w id v v at n role refl (record m { short = upd m.short s (Some t) }) st h rule
       record {
         ranged = let a = p.ranged in record { tags = a.tags; own = a.own; below = a.below; ready = a.ready; worn = a.worn; fits = a.fits };
         keyed = let a = p.keyed in record { valid = a.valid; current = a.current; flushed = a.flushed; bare = a.bare; nameless = a.nameless; filled = a.filled; slots = a.slots };

@@ -97,7 +97,7 @@ module _ (l : Pool) (m0 : Map) (used : List ℕ) (m : Mem) (vs : List View) (st 
     h' = h ++ e ∷ []
 
     abbrev pub decided_view : View
-    decided_view = record v { pass = record v.pass { calls = v.pass.calls ++ e ∷ []; history = h' ; most = greatest v.pass.most m.count; made = suc v.pass.made } }
+    decided_view = record v { pass = record v.pass { calls = v.pass.calls ++ e ∷ []; history = h' ; most = greatest v.pass.most m.count } }
 
     abbrev v' : View
     v' = decided_view

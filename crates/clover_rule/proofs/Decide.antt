@@ -57,16 +57,16 @@ module _ (m0 : Map) (used : List ℕ) (m : Mem) (vs : List View) (st : Story) (h
   version = tag_there st s i t tail_durable.1
 
   -- a word copied under the tail is its version's
-  pub copied_word : (j y : ℕ) → Within (s, record { tag = t; place = j; word = y }) v.pass.copied → nth (content version.0.value) j ≡ Some y
-  copied_word j y q = go (each_within (IsCopied st) (s, record { tag = t; place = j; word = y }) v.pass.copied ok.copied q)
+  pub copied_word : (j y z : ℕ) → Within (s, record { tag = t; place = j; word = y }) v.pass.copied → nth (content version.0.value) j ≡ Some z → z ≡ y
+  copied_word j y z q there = go (each_within (IsCopied st) (s, record { tag = t; place = j; word = y }) v.pass.copied ok.copied q)
     where
-      go : IsCopied st (s, record { tag = t; place = j; word = y }) → nth (content version.0.value) j ≡ Some y
+      go : IsCopied st (s, record { tag = t; place = j; word = y }) → z ≡ y
       go d =
           let q = r.core.spotted s i t tail_durable.1 in
           let q2 = r.core.spotted s d.0 t (ap tag_in_version d.2 ∙ ap Some d.3) in
           let f : d.0 ≡ i = sym q2.1 ∙ q.1 in
           let g : d.1 ≡ version.0 = let a : Some d.1 ≡ Some version.0 = sym d.2 ∙ ap (nth (st.log s)) f ∙ version.1 in cc in
-          ⊎_elim (λ a. ap (λ (w : Version). nth (content w.value) j) (sym g) ∙ a) (λ a. let b = stands in absurd (omega arith)) d.4
+          ⊎_elim (λ a. a z (ap (λ (w : Version). nth (content w.value) j) g ∙ there)) (λ a. let b = stands in absurd (omega arith)) d.4
 
   pub map_at : leads m0 h k ≡ pair_of version.0
   map_at = leads_commits m0 h k ∙ ap (λ (y : Option Held). ends y (commits k h)) (sym (r.tale.began s k slot_bound.0)) ∙ sym (ends_more None (st.first s) (commits k h)) ∙ ap (ends None) (sym (r.tale.told s k slot_bound.0)) ∙ ends_last None (st.log s) i version.0 version.1 last
@@ -94,7 +94,7 @@ module _ (m0 : Map) (used : List ℕ) (m : Mem) (vs : List View) (st : Story) (h
     h' = h ++ e ∷ []
 
     abbrev pub decided_view : View
-    decided_view = record v { pass = record v.pass { calls = v.pass.calls ++ e ∷ []; history = h' ; words = shown (home t) (age t) None ∷ v.pass.words; made = suc v.pass.made } }
+    decided_view = record v { pass = record v.pass { calls = v.pass.calls ++ e ∷ []; history = h' ; words = shown (home t) (age t) None ∷ v.pass.words } }
 
     abbrev v' : View
     v' = decided_view

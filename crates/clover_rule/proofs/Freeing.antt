@@ -9,7 +9,7 @@ use Rattle.clover_map.specs.declared.call.Entry.{Entry}
 use Rattle.clover_rule.specs.Content.{InRange, inside}
 use Rattle.clover_rule.specs.History.{Map, own}
 use Rattle.clover_rule.specs.Lists.{nth, upd}
-use Rattle.clover_rule.specs.Server.{Ready, Stage, Help, root_in, is_home, book_of, Serves, Whole, IsWhole, Act, LoadRoot, FlushLink, StoreRoot, StoreFlushedRoot, Exchange, FreeOld, Begin, FlushMeta, StoreKey, FlushKey, BindRoot, BindFlushedRoot, StoreCount, freed, served_view, ServerLaw}
+use Rattle.clover_rule.specs.Server.{Ready, Stage, Help, root_in, is_home, book_of, Serves, Whole, IsWhole, ServerStep, LoadRoot, FlushLink, StoreRoot, StoreFlushedRoot, ExchangeRoot, FreeOld, Begin, FlushMeta, StoreKey, FlushKey, BindRoot, BindFlushedRoot, StoreCount, freed, served_view, ServerLaw}
 use Rattle.clover_rule.specs.State.{home, age, Next, word, gen, link, Mem, Place, Chained, Free, Worn, Taken, Story, tag_at, Core, Standing, greater, order, recycled_mem, recycled_story, only}
 use Rattle.clover_rule.specs.Views.{Book, book, Rule, renewed, book_at, root_at}
 use Rattle.clover_rule.specs.declared.view.BufferState.TheVariants.{Free as IsFree, Worn as IsWorn, Bound as IsBound, Out as IsOut}
@@ -109,8 +109,8 @@ module _ (l : Pool) (m0 : Map) (used : List ℕ) (m : Mem) (vs : List View) (id 
       (λ d. sv.books b i ∙ sym (book_same (Both s r t) (Exchanged s r t) st st1 (st.place b) (gen (m.next b)) b (λ s1 q. ap (λ (x : Option ℕ). is_home x b) (roots_kept s1)) (λ q. absurd (let z : ◌≡◌ {A = Option ℕ} None (Some b) = g.holds b q in cc)))
           ∙ sym (ap (λ (p : Place). book_of (Exchanged s r t) st1 p (gen (m1.next b)) b) (place_else b d) ∙ ap (λ (x : ℕ). book_of (Exchanged s r t) st1 (st.place b) x b) (ap gen (next_else b d))))
 
-    pub exchange_whole : IsWhole l m0 used m1 (renewed vs id (served_view l (Exchange s r t) v))
-    exchange_whole = (st1, h, whole l m0 used m vs st h w id v at role (Exchange s r t) m1 st1
+    pub exchange_whole : IsWhole l m0 used m1 (renewed vs id (served_view l (ExchangeRoot s r t) v))
+    exchange_whole = (st1, h, whole l m0 used m vs st h w id v at role (ExchangeRoot s r t) m1 st1
         record {
           core = core_copy m1 (recycled_story st s r) (recycle_core m st s r ru.core can) m.body m.fbody m.key m.fkey m.short m.count st.keys st.first st.bindings (Exchanged s r t) st.slot_named;
           tale = tale_copy st m0 used h ru.tale (upd st.place (home r) Taken) (upd st.gone s (suc (st.gone s))) st.lead st.flead st.named st.bindings (Exchanged s r t) st.slot_named;
@@ -257,12 +257,12 @@ module _ (l : Pool) (m0 : Map) (used : List ℕ) (m : Mem) (vs : List View) (id 
         record { task_is = refl; directory = se.directory; roots = roots2; books = serves2 })
 
 -- the laws of all acts of the server
-pub server_law : (l : Pool) (a : Act) → ServerLaw l a
+pub server_law : (l : Pool) (a : ServerStep) → ServerLaw l a
 server_law l (LoadRoot s r t) m0 used m vs id v (st, h, w) at role (e, f, f1) = load_root_whole l m0 used m vs id v st h w at role s r t e f f1
 server_law l (FlushLink s r t) m0 used m vs id v (st, h, w) at role e = flush_link_whole l m0 used m vs id v st h w at role s r t e
 server_law l (StoreRoot s r t) m0 used m vs id v (st, h, w) at role e = store_root_whole l m0 used m vs id v st h w at role s r t e
 server_law l (StoreFlushedRoot s r t) m0 used m vs id v (st, h, w) at role e = store_flushed_whole l m0 used m vs id v st h w at role s r t e
-server_law l (Exchange s r t) m0 used m vs id v (st, h, w) at role e = exchange_whole l m0 used m vs id v st h w at role s r t e
+server_law l (ExchangeRoot s r t) m0 used m vs id v (st, h, w) at role e = exchange_whole l m0 used m vs id v st h w at role s r t e
 server_law l (FreeOld s r t) m0 used m vs id v (st, h, w) at role e = free_old_whole l m0 used m vs id v st h w at role s r t e
 server_law l (Begin s k t) m0 used m vs id v z at role e = begin_law l s k t m0 used m vs id v z at role e
 server_law l (FlushMeta s k t) m0 used m vs id v z at role e = flush_meta_law l s k t m0 used m vs id v z at role e

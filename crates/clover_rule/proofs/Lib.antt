@@ -1,4 +1,7 @@
 pub mod Keys
+pub mod Keeps
+pub mod Keeping
+pub mod Learning
 pub mod Ties
 pub mod TaggedMaps
 pub mod Spelling

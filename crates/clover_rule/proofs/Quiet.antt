@@ -10,7 +10,6 @@ use Rattle.clover_map.specs.declared.call.Reply.{Reply}
 use Rattle.clover_map.specs.declared.call.Entry.{Entry}
 use Rattle.clover_map.specs.declared.call.Call.TheVariants.{Put}
 use Rattle.clover_map.specs.declared.call.Reply.TheVariants.{Stored}
-use Rattle.clover_rule.specs.Content.{content}
 use Rattle.clover_rule.specs.History.{Version, Map, own}
 use Rattle.clover_rule.specs.Lists.{nth}
 use Rattle.clover_rule.specs.State.{home, age, word, gen, Mem, Story, tag_in_version, tag_at, now_at, Core, Durable}
@@ -70,7 +69,7 @@ module _ (m : Mem) (st : Story) (c : Core m st) (s t : ℕ) (d : Durable st s t)
   loaded_root x e = let a : tag_at st s (st.lead s) ≡ Some x = sym (c.root s) ∙ e in let b = tag_within st s (st.lead s) x a in (st.lead s, a, c.rooted s (omega arith))
 
   -- a word copied under it
-  pub loaded_body : (w : Version) → nth (st.log s) d.0 ≡ Some w → ((g : st.gone s ≤ d.0) → Holds m w) → (j y : ℕ) → nth (content w.value) j ≡ Some y → IsCopied st (s, record { tag = t; place = j; word = m.body (home t) j })
-  loaded_body w e f j y n = dite (dec_le (st.gone s) d.0)
-      (λ g. (d.0, w, e, let q : Some w.tag ≡ Some t = sym (ap tag_in_version e) ∙ d.1 in cc, inl (n ∙ ap Some (sym (let q : w.tag ≡ t = let z : Some w.tag ≡ Some t = sym (ap tag_in_version e) ∙ d.1 in cc in ap (λ (x : ℕ). m.body (home x) j) (sym q) ∙ (f g j y n).0)))))
+  pub loaded_body : (w : Version) → nth (st.log s) d.0 ≡ Some w → ((g : st.gone s ≤ d.0) → Holds m w) → (j : ℕ) → IsCopied st (s, record { tag = t; place = j; word = m.body (home t) j })
+  loaded_body w e f j = dite (dec_le (st.gone s) d.0)
+      (λ g. (d.0, w, e, let q : Some w.tag ≡ Some t = sym (ap tag_in_version e) ∙ d.1 in cc, inl (λ y n. sym (f g j y n).0 ∙ (let q : w.tag ≡ t = let z : Some w.tag ≡ Some t = sym (ap tag_in_version e) ∙ d.1 in cc in ap (λ (x : ℕ). m.body (home x) j) q))))
       (λ g. (d.0, w, e, let q : Some w.tag ≡ Some t = sym (ap tag_in_version e) ∙ d.1 in cc, inr (omega arith)))

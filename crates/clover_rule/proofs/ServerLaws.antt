@@ -9,7 +9,7 @@ use Rattle.clover_map.specs.declared.call.Entry.{Entry}
 use Rattle.clover_rule.specs.Content.{spelling, tombstone}
 use Rattle.clover_rule.specs.History.{Map}
 use Rattle.clover_rule.specs.Lists.{nth, upd, Within}
-use Rattle.clover_rule.specs.Server.{Ready, unnamed, IsStoring, Stage, Help, book_of, Serves, Whole, IsWhole, Act, Begin, FlushMeta, StoreKey, FlushKey, server_after, served_view, ServerLaw}
+use Rattle.clover_rule.specs.Server.{Ready, unnamed, IsStoring, Stage, Help, book_of, Serves, Whole, IsWhole, ServerStep, Begin, FlushMeta, StoreKey, FlushKey, server_after, served_view, ServerLaw}
 use Rattle.clover_rule.specs.State.{home, age, Next, word, gen, link, Mem, Place, Taken, Loose, Story, Core}
 use Rattle.clover_rule.specs.Views.{book, renewed, book_at, line}
 use Rattle.clover_rule.specs.declared.view.BufferState.TheVariants.{Out as IsOut}
@@ -49,7 +49,7 @@ module _ (l : Pool) (m0 : Map) (used : List ℕ) (m : Mem) (vs : List View) (id 
              (ke : (s1 : ℕ) → s1 ≢ s → K s1 ≡ m.key s1) (ge : (s1 : ℕ) → s1 ≢ s → FK s1 ≡ m.fkey s1)
              (b1 : 1 ≤ n' → B (home t) 0 ≡ tombstone) (b2 : 2 ≤ n' → FB (home t) 0 ≡ tombstone)
              (b3 : (j x : ℕ) → nth (spelling k) j ≡ Some x → 3 + j ≤ n' → K s j ≡ x) (b4 : (j x : ℕ) → nth (spelling k) j ≡ Some x → 3 + j + length (spelling k) ≤ n' → FK s j ≡ x)
-             (a : Act) (after : server_after l a v.server ≡ record v.server { task = Storing s k t n' }) where
+             (a : ServerStep) (after : server_after l a v.server ≡ record v.server { task = Storing s k t n' }) where
       abbrev m1 : Mem
       m1 = record m { body = B; fbody = FB; key = K; fkey = FK }
 

@@ -8,7 +8,7 @@ use Rattle.clover_map.specs.declared.bytes.Value.{Value}
 use Rattle.clover_map.specs.declared.call.Entry.{Entry}
 use Rattle.clover_rule.specs.History.{Version, Map, used_by}
 use Rattle.clover_rule.specs.Lists.{Each, nth, upd, Within}
-use Rattle.clover_rule.specs.Server.{unnamed, Help, root_in, is_home, book_of, Serves, Whole, Act, LoadRoot, FlushLink, StoreRoot, StoreFlushedRoot, Exchange, FreeOld, Begin, FlushMeta, StoreKey, FlushKey, BindRoot, BindFlushedRoot, StoreCount, server_after, served_view}
+use Rattle.clover_rule.specs.Server.{unnamed, Help, root_in, is_home, book_of, Serves, Whole, ServerStep, LoadRoot, FlushLink, StoreRoot, StoreFlushedRoot, ExchangeRoot, FreeOld, Begin, FlushMeta, StoreKey, FlushKey, BindRoot, BindFlushedRoot, StoreCount, server_after, served_view}
 use Rattle.clover_rule.specs.State.{home, gen, link, Mem, Place, Chained, Stocked, Free, Worn, Taken, Loose, Story, Core, Tale}
 use Rattle.clover_rule.specs.Views.{book, Holds, Stands, ViewOk, Spent, Rule, renewed}
 use Rattle.clover_rule.specs.declared.view.BufferState.TheVariants.{Free as IsFree, Bound as IsBound, Out as IsOut}
@@ -46,12 +46,12 @@ pub record Moves (l : Pool) (m0 : Map) (used : List ℕ) (m : Mem) (st : Story) 
   pub help : Help l m' st'
   pub fgens : (b : ℕ) → gen (m.fnext b) ≤ gen (m'.fnext b)
 
-clients_same : (l : Pool) (a : Act) (sv : Server) → (server_after l a sv).clients ≡ sv.clients
+clients_same : (l : Pool) (a : ServerStep) (sv : Server) → (server_after l a sv).clients ≡ sv.clients
 clients_same l (LoadRoot s r t) sv = refl
 clients_same l (FlushLink s r t) sv = refl
 clients_same l (StoreRoot s r t) sv = refl
 clients_same l (StoreFlushedRoot s r t) sv = refl
-clients_same l (Exchange s r t) sv = refl
+clients_same l (ExchangeRoot s r t) sv = refl
 clients_same l (FreeOld s r t) sv = refl
 clients_same l (Begin s k t) sv = refl
 clients_same l (FlushMeta s k t) sv = refl
@@ -62,7 +62,7 @@ clients_same l (BindFlushedRoot s k t) sv = refl
 clients_same l (StoreCount s k t) sv = refl
 
 module _ (l : Pool) (m0 : Map) (used : List ℕ) (m : Mem) (vs : List View) (st : Story) (h : List Entry) (w : Whole l m0 used m vs st h)
-         (id : ℕ) (v : View) (at : nth vs id ≡ Some v) (role : v.pass.role ≡ Serving) (a : Act) (m' : Mem) (st' : Story) (mv : Moves l m0 used m st h m' st') (sv : Serves l m' st' st'.task (server_after l a v.server)) where
+         (id : ℕ) (v : View) (at : nth vs id ≡ Some v) (role : v.pass.role ≡ Serving) (a : ServerStep) (m' : Mem) (st' : Story) (mv : Moves l m0 used m st h m' st') (sv : Serves l m' st' st'.task (server_after l a v.server)) where
   abbrev r : Rule m0 used m vs st h
   r = w.rule
 

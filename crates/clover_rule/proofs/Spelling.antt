@@ -2,13 +2,14 @@
 use Rattle.std.proofs.Common.{◌≡◌, ℕ, zero, suc, ◌+◌, ◌*◌, ◌/◌, ◌%◌, ◌^◌, ◌<◌, ◌≤◌, ◌≢◌, List, [], ◌∷◌, length, refl, sym, ap, ◌∙◌, arith, subst}
 use Rattle.std.specs.Prelude.{Option, Some, None, slice_index}
 use Rattle.std.proofs.lemmas.List.{ext_get_or}
-use Rattle.clover_words.specs.Pack.{AreBytes, words_of, packed}
+use Rattle.clover_words.specs.Pack.{AreBytes, words_of, packed, eight_at}
+use Rattle.std.specs.Int.{w64, to_be_bytes}
 use Rattle.clover_words.specs.Meta.{meta_word}
-use Rattle.clover_words.proofs.Packing.{one_byte}
+use Rattle.clover_words.proofs.Packing.{one_byte, packed_spells}
 use Rattle.clover_words.specs.declared.pool.Pool.{Pool}
 use Rattle.clover_words.specs.declared.meta.Kind.TheVariants.{Value as IsValue, Tombstone}
 use Rattle.clover_map.specs.declared.bytes.Value.{Value}
-use Rattle.clover_rule.specs.Content.{content, tombstone, value_meta, all_words, words_from, Fits, spelling, IsKey, Spells}
+use Rattle.clover_rule.specs.Content.{content, tombstone, value_meta, all_words, words_from, Fits, spelling, IsKey, Spells, Unpacks}
 use Rattle.clover_rule.specs.Lists.{nth}
 
 pub nth_words : (bytes : List ℕ) (k n i : ℕ) → i < n → nth (words_from bytes k n) i ≡ Some (packed bytes (k + i))
@@ -34,6 +35,12 @@ meta_parts a b c d ha hb hc hd e = (omega arith, omega arith)
 
 pub short_enough : (p : Pool) (n : ℕ) → n ≤ 8 * p.words → n ≤ 1024
 short_enough p n h = let w = p.words_fit in omega arith
+
+-- each content has a meta word
+pub first_word : (o : Option Value) → (y : ℕ) × (nth (content o) 0 ≡ Some y)
+unfolding content
+first_word None = (tombstone, refl)
+first_word (Some x) = (value_meta x, refl)
 
 -- the meta word of a tombstone is no value's
 pub meta_dead : (p : Pool) (o : Option Value) → Fits p o → nth (content o) 0 ≡ Some tombstone → o ≡ None
@@ -75,3 +82,30 @@ one_key f j k hj hk sj sk =
     let lens : length j ≡ length k = one_byte (length j ∷ j) (length k ∷ k) 0 (key_bytes j hj) (key_bytes k hk) (sym (word_j 0 (omega arith)) ∙ word_k 0 (omega arith)) in
     tail_same (length j) (length k) j k (same_bytes (length j ∷ j) (length k ∷ k) (key_bytes j hj) (key_bytes k hk) (ap suc lens)
       (λ i b. sym (word_j i b) ∙ word_k i (subst (λ (n : ℕ). i < words_of (suc n)) lens b)))
+
+eight_byte : (bytes : List ℕ) (k i : ℕ) → i < 8 → slice_index (eight_at bytes k) i ≡ slice_index bytes (8 * k + i)
+eight_byte bytes k zero lt = ap (slice_index bytes) (omega arith)
+eight_byte bytes k (suc zero) lt = refl
+eight_byte bytes k (suc (suc zero)) lt = refl
+eight_byte bytes k (suc (suc (suc zero))) lt = refl
+eight_byte bytes k (suc (suc (suc (suc zero)))) lt = refl
+eight_byte bytes k (suc (suc (suc (suc (suc zero))))) lt = refl
+eight_byte bytes k (suc (suc (suc (suc (suc (suc zero)))))) lt = refl
+eight_byte bytes k (suc (suc (suc (suc (suc (suc (suc zero))))))) lt = refl
+eight_byte bytes k (suc (suc (suc (suc (suc (suc (suc (suc i)))))))) lt = absurd (omega arith)
+
+-- a content whose words were read is the value that they unpack to
+pub read_content : (p : Pool) (o : Option Value) (x : Value) → Fits p o → x.flags < 2 ^ 32 → length x.bytes ≤ 1024 → ((y : ℕ) → nth (content o) 0 ≡ Some y → y ≡ value_meta x)
+    → ((k : ℕ) → k < words_of (length x.bytes) → (y : ℕ) × ((z : ℕ) → nth (content o) (suc k) ≡ Some z → z ≡ y) × Unpacks y x k) → o ≡ Some x
+unfolding content
+read_content p None x f g n h ws = absurd (meta_apart x.flags (length x.bytes) g n (sym (h tombstone refl)))
+read_content p (Some z) x f g n h ws =
+    let e : (z.flags ≡ x.flags) × (length z.bytes ≡ length x.bytes) = meta_parts z.flags (length z.bytes) x.flags (length x.bytes) f.0 (short_enough p (length z.bytes) f.1) g n (h (value_meta z) refl) in
+    ap Some (value_same z x e.0 (ext_get_or 0 z.bytes x.bytes e.1 (λ i lt.
+      let k : ℕ = i / 8 in let r : ℕ = i % 8 in
+      let kl : k < words_of (length x.bytes) = let q = e.1 in omega arith in
+      let w = ws k kl in
+      let is : packed z.bytes k ≡ w.0 = w.1 (packed z.bytes k) (nth_all z.bytes k (let q = e.1 in omega arith)) in
+      let place : i ≡ 8 * k + r = omega arith in
+      let lr : r < 8 = omega arith in
+      ap (slice_index z.bytes) place ∙ sym (eight_byte z.bytes k r lr) ∙ ap (λ (l : List ℕ). slice_index l r) (sym (packed_spells z.bytes k f.2) ∙ ap (to_be_bytes w64) is) ∙ w.2 r lr (let q = e.1 in omega arith) ∙ ap (slice_index x.bytes) (sym place))))

@@ -22,8 +22,7 @@ use Rattle.clover_map.specs.Tags.{IsFresh, new_tags}
 use Rattle.clover_map.specs.Does.{held}
 use Rattle.clover_map.specs.Does as Theirs
 use Rattle.clover_map.specs.Legal as Runs
-use Rattle.clover_rule.specs.Lists.{Each}
-use Rattle.clover_rule.specs.History.{Map, Version, same_key, at_key, Fresh, Does, Legal, leads, after, grown, commit_of, key_of, changed, named, committed, pair_of, tag_in, shows}
+use Rattle.clover_rule.specs.History.{Map, Version, same_key, at_key, Fresh, Does, Legal, leads, after, grown, commit_of, changed, named, committed, tag_in, shows}
 use Rattle.clover_rule.proofs.Keys.{eq_key, ne_key, key_discrete}
 
 equal : (r : Ordering) → is_eq r ≡ true → r ≡ Equal

@@ -1,6 +1,7 @@
 -- The words that a version's content and a key are spelled by, and which numbers a pool may have.
 use Prim.Native.Nat.{zero, suc}
-use Rattle.std.specs.Prelude.{◌≡◌, ℕ, ◌+◌, ◌*◌, ◌/◌, ◌%◌, ◌^◌, ◌<◌, ◌≤◌, ◌&&◌, nat_lt, List, [], ◌∷◌, length, Bool, true, Option, Some, None}
+use Rattle.std.specs.Prelude.{◌≡◌, ℕ, ◌+◌, ◌*◌, ◌/◌, ◌%◌, ◌^◌, ◌<◌, ◌≤◌, ◌&&◌, nat_lt, slice_index, List, [], ◌∷◌, length, Bool, true, Option, Some, None}
+use Rattle.std.specs.Int.{w64, to_be_bytes}
 use Rattle.clover_words.specs.declared.pool.Pool.{Pool}
 use Rattle.clover_words.specs.declared.meta.Kind.TheVariants.{Value as IsValue, Tombstone}
 use Rattle.clover_words.specs.Meta.{meta_word}
@@ -28,6 +29,10 @@ all_words bytes = words_from bytes 0 (words_of (length bytes))
 unfoldable pub content : Option Value → List ℕ
 content None = tombstone ∷ []
 content (Some v) = value_meta v ∷ all_words v.bytes
+
+-- the number spells bytes 8k to 8k + 7 of the value, as far as it goes
+abbrev pub Unpacks : ℕ → Value → ℕ → Type 0
+Unpacks y x k = (i : ℕ) → i < 8 → 8 * k + i < length x.bytes → slice_index (to_be_bytes w64 y) i ≡ slice_index x.bytes (8 * k + i)
 
 -- a content that a buffer has room for
 abbrev pub Fits : Pool → Option Value → Type 0

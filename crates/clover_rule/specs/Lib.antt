@@ -5,6 +5,8 @@ pub mod State
 pub mod Image
 pub mod Views
 pub mod Words
+pub mod Steps
+pub mod Meets
 pub mod Laws
 pub mod Parts
 pub mod Server

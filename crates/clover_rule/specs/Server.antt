@@ -5,7 +5,7 @@ use Rattle.clover_map.specs.declared.bytes.Value.{Value}
 use Rattle.clover_map.specs.declared.call.Call.{Call}
 use Rattle.clover_map.specs.declared.call.Reply.{Reply}
 use Rattle.clover_map.specs.declared.call.Entry.{Entry}
-use Rattle.clover_rule.specs.Content.{inside, tombstone, spelling, IsKey, InRange, Spells, Fits, content}
+use Rattle.clover_rule.specs.Content.{value_meta, Unpacks, inside, tombstone, spelling, IsKey, InRange, Spells, Fits, content}
 use Rattle.clover_rule.specs.History.{ends, Version, Map, used_by, own}
 use Rattle.clover_rule.specs.Image.{Image, Chain}
 use Rattle.clover_rule.specs.Lists.{Each, nth, upd, Within}
@@ -22,6 +22,7 @@ use Rattle.clover_rule.specs.declared.view.View.{View}
 use Rattle.clover_words.specs.declared.pool.Pool.{Pool}
 use Rattle.clover_words.specs.declared.meta.Kind.TheVariants.{Value as IsValue}
 use Rattle.clover_words.specs.Meta.{meta_word}
+use Rattle.clover_words.specs.Pack.{words_of}
 
 abbrev pub Ready : Place → Type 0
 Ready Free = Unit {0}
@@ -170,32 +171,32 @@ IsWhole l m0 used m vs = (st : Story) × (h : List Entry) × Whole l m0 used m v
 
 -- the server's view at its task's next stage
 abbrev pub at_task : View → Task → View
-at_task v task = record { server = record v.server { task = task }; pass = record v.pass { made = suc v.pass.made } }
+at_task v task = record v { server = record v.server { task = task } }
 
 -- the server's acts: what its view has to have, the words and the view after
-pub data Act : Type 0 where
+pub data ServerStep : Type 0 where
   -- recycling
-  LoadRoot : ℕ → ℕ → ℕ → Act
-  FlushLink : ℕ → ℕ → ℕ → Act
-  StoreRoot : ℕ → ℕ → ℕ → Act
-  StoreFlushedRoot : ℕ → ℕ → ℕ → Act
-  Exchange : ℕ → ℕ → ℕ → Act
-  FreeOld : ℕ → ℕ → ℕ → Act
+  LoadRoot : ℕ → ℕ → ℕ → ServerStep
+  FlushLink : ℕ → ℕ → ℕ → ServerStep
+  StoreRoot : ℕ → ℕ → ℕ → ServerStep
+  StoreFlushedRoot : ℕ → ℕ → ℕ → ServerStep
+  ExchangeRoot : ℕ → ℕ → ℕ → ServerStep
+  FreeOld : ℕ → ℕ → ℕ → ServerStep
   -- binding
-  Begin : ℕ → List ℕ → ℕ → Act
-  FlushMeta : ℕ → List ℕ → ℕ → Act
-  StoreKey : ℕ → List ℕ → ℕ → ℕ → ℕ → Act
-  FlushKey : ℕ → List ℕ → ℕ → ℕ → ℕ → Act
-  BindRoot : ℕ → List ℕ → ℕ → Act
-  BindFlushedRoot : ℕ → List ℕ → ℕ → Act
-  StoreCount : ℕ → List ℕ → ℕ → Act
+  Begin : ℕ → List ℕ → ℕ → ServerStep
+  FlushMeta : ℕ → List ℕ → ℕ → ServerStep
+  StoreKey : ℕ → List ℕ → ℕ → ℕ → ℕ → ServerStep
+  FlushKey : ℕ → List ℕ → ℕ → ℕ → ℕ → ServerStep
+  BindRoot : ℕ → List ℕ → ℕ → ServerStep
+  BindFlushedRoot : ℕ → List ℕ → ℕ → ServerStep
+  StoreCount : ℕ → List ℕ → ℕ → ServerStep
 
-abbrev pub words_after : Act → Mem → Mem
+abbrev pub words_after : ServerStep → Mem → Mem
 words_after (LoadRoot s r t) m = m
 words_after (FlushLink s r t) m = raised_mem m r t
 words_after (StoreRoot s r t) m = record m { root = upd m.root s (Some t) }
 words_after (StoreFlushedRoot s r t) m = record m { froot = upd m.froot s (Some t) }
-words_after (Exchange s r t) m = recycled_mem m r
+words_after (ExchangeRoot s r t) m = recycled_mem m r
 words_after (FreeOld s r t) m = record m { fnext = upd m.fnext (home r) (greater (m.fnext (home r)) (word (suc (age r)) None)) }
 words_after (Begin s k t) m = record m { body = upd m.body (home t) (upd (m.body (home t)) 0 tombstone) }
 words_after (FlushMeta s k t) m = record m { fbody = upd m.fbody (home t) (upd (m.fbody (home t)) 0 tombstone) }
@@ -206,12 +207,12 @@ words_after (BindFlushedRoot s k t) m = record m { froot = upd m.froot s (Some t
 words_after (StoreCount s k t) m = record m { count = suc m.count }
 
 -- what the server's view must have, and what the word must show
-abbrev pub May : Pool → Act → Server → Mem → Type 0
+abbrev pub May : Pool → ServerStep → Server → Mem → Type 0
 May l (LoadRoot s r t) sv m = (sv.task ≡ Idle) × (root_at sv s ≡ Some r) × (m.next (home r) ≡ word (age r) (Some t))
 May l (FlushLink s r t) sv m = sv.task ≡ Loaded s r t
 May l (StoreRoot s r t) sv m = sv.task ≡ Raised s r t
 May l (StoreFlushedRoot s r t) sv m = sv.task ≡ Led s r t
-May l (Exchange s r t) sv m = sv.task ≡ Both s r t
+May l (ExchangeRoot s r t) sv m = sv.task ≡ Both s r t
 May l (FreeOld s r t) sv m = sv.task ≡ Exchanged s r t
 May l (Begin s k t) sv m = (sv.task ≡ Idle) × (book_at sv (home t) ≡ book (age t) IsFree) × (inside l (home t) ≡ true) × (s < l.slots) × IsKey k × ((k1 : List ℕ) → Within (s, k1) sv.directory → ⊥) × ((s1 : ℕ) → Within (s1, k) sv.directory → ⊥)
 May l (FlushMeta s k t) sv m = sv.task ≡ Storing s k t 1
@@ -224,12 +225,12 @@ May l (StoreCount s k t) sv m = sv.task ≡ Waiting s k t
 abbrev pub freed : ℕ → ℕ → BufferState
 freed g w = cond (eqb g w) IsWorn IsFree
 
-abbrev pub server_after : Pool → Act → Server → Server
+abbrev pub server_after : Pool → ServerStep → Server → Server
 server_after l (LoadRoot s r t) sv = record sv { task = Loaded s r t }
 server_after l (FlushLink s r t) sv = record sv { task = Raised s r t }
 server_after l (StoreRoot s r t) sv = record sv { task = Led s r t }
 server_after l (StoreFlushedRoot s r t) sv = record sv { task = Both s r t }
-server_after l (Exchange s r t) sv = record sv { task = Exchanged s r t }
+server_after l (ExchangeRoot s r t) sv = record sv { task = Exchanged s r t }
 server_after l (FreeOld s r t) sv = record sv { task = Idle; roots = (s, t) ∷ sv.roots; books = line (home r) (suc (age r)) (freed (suc (age r)) l.wear) ∷ line (home t) (age t) IsBound ∷ sv.books }
 server_after l (Begin s k t) sv = record sv { task = Storing s k t 1; books = line (home t) (age t) IsOut ∷ sv.books }
 server_after l (FlushMeta s k t) sv = record sv { task = Storing s k t 2 }
@@ -239,11 +240,11 @@ server_after l (BindRoot s k t) sv = record sv { task = Rooted s k t; directory 
 server_after l (BindFlushedRoot s k t) sv = record sv { task = Waiting s k t }
 server_after l (StoreCount s k t) sv = record sv { task = Idle }
 
-abbrev pub served_view : Pool → Act → View → View
-served_view l a v = record { server = server_after l a v.server; pass = record v.pass { made = suc v.pass.made } }
+abbrev pub served_view : Pool → ServerStep → View → View
+served_view l a v = record v { server = server_after l a v.server }
 
 -- one law for the server's acts
-abbrev pub ServerLaw : Pool → Act → Type 0
+abbrev pub ServerLaw : Pool → ServerStep → Type 0
 ServerLaw l a = (m0 : Map) (used : List ℕ) (m : Mem) (vs : List View) (id : ℕ) (v : View)
     → IsWhole l m0 used m vs → nth vs id ≡ Some v → v.pass.role ≡ Serving → May l a v.server m
     → IsWhole l m0 used (words_after a m) (renewed vs id (served_view l a v))
@@ -281,8 +282,7 @@ link_view v h n s u t call reply rest = record v { pass = record v.pass {
     written = without t v.pass.written;
     flushed = without t v.pass.flushed;
     calls = v.pass.calls ++ link_entry v n call reply ∷ [];
-    history = h ++ link_entry v n call reply ∷ [];
-    made = suc v.pass.made
+    history = h ++ link_entry v n call reply ∷ []
   } }
 
 -- the copied meta word of a tag was a tombstone's
@@ -296,6 +296,13 @@ pub record SawValue (v : View) (s t : ℕ) : Type 0 where
   pub flags_fit : flags < 2 ^ 32
   pub size_fits : size ≤ 1024
   pub copied : Within (s, record { tag = t; place = 0; word = meta_word (record { kind = IsValue; flags = flags; length = size }) }) v.pass.copied
+
+-- the words that were copied of a tag unpack to the value
+pub record CopiedValue (v : View) (s t : ℕ) (x : Value) : Type 0 where
+  pub flags_fit : x.flags < 2 ^ 32
+  pub size_fits : length x.bytes ≤ 1024
+  pub meta : Within (s, record { tag = t; place = 0; word = value_meta x }) v.pass.copied
+  pub words : (k : ℕ) → k < words_of (length x.bytes) → (y : ℕ) × Within (s, record { tag = t; place = suc k; word = y }) v.pass.copied × Unpacks y x k
 
 abbrev pub versions_of : List ℕ → (ℕ → Option Value) → List Version
 versions_of [] f = []
@@ -343,13 +350,13 @@ dropped t j [] = []
 dropped t j (c ∷ cs) = cond (eqb c.tag t && eqb c.place j) (dropped t j cs) (c ∷ dropped t j cs)
 
 abbrev pub stored_view : View → ℕ → ℕ → ℕ → View
-stored_view v t j x = record v { pass = record v.pass { written = record { tag = t; place = j; word = x } ∷ dropped t j v.pass.written; made = suc v.pass.made } }
+stored_view v t j x = record v { pass = record v.pass { written = record { tag = t; place = j; word = x } ∷ dropped t j v.pass.written } }
 
 abbrev pub stored_mem : Mem → ℕ → ℕ → ℕ → Mem
 stored_mem m t j x = record m { body = upd m.body (home t) (upd (m.body (home t)) j x) }
 
 abbrev pub flushed_view : View → ℕ → ℕ → ℕ → View
-flushed_view v t j x = record v { pass = record v.pass { flushed = record { tag = t; place = j; word = x } ∷ dropped t j v.pass.flushed; made = suc v.pass.made } }
+flushed_view v t j x = record v { pass = record v.pass { flushed = record { tag = t; place = j; word = x } ∷ dropped t j v.pass.flushed } }
 
 abbrev pub flushed_mem : Mem → ℕ → ℕ → ℕ → Mem
 flushed_mem m t j x = record m { fbody = upd m.fbody (home t) (upd (m.fbody (home t)) j x) }

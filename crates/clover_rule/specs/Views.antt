@@ -73,7 +73,7 @@ Past m st b n = (gen n ≤ gen (m.next b)) × ((link n ≡ None) ⊎ ((l : Link)
 
 -- a word copied under a tag is that version's, or the tag had been passed
 abbrev pub IsCopied : Story → ℕ × Content → Type 0
-IsCopied st c = (i : ℕ) × (w : Version) × Stands st c.0 i w × (w.tag ≡ c.1.tag) × ((nth (content w.value) c.1.place ≡ Some c.1.word) ⊎ (i < st.gone c.0))
+IsCopied st c = (i : ℕ) × (w : Version) × Stands st c.0 i w × (w.tag ≡ c.1.tag) × (((y : ℕ) → nth (content w.value) c.1.place ≡ Some y → y ≡ c.1.word) ⊎ (i < st.gone c.0))
 
 -- a tag in the stock of the seat id
 abbrev pub Owned : Mem → Story → ℕ → ℕ → Type 0
@@ -131,7 +131,7 @@ without t (c ∷ cs) = cond (eqb c.tag t) (without t cs) (c ∷ without t cs)
 
 -- the law of the raise over a link that the seat loaded or wrote
 abbrev pub raise_view : View → Link → View
-raise_view v l = record v { pass = record v.pass { durable = (l.slot, l.to) ∷ v.pass.durable; made = suc v.pass.made } }
+raise_view v l = record v { pass = record v.pass { durable = (l.slot, l.to) ∷ v.pass.durable } }
 
 abbrev pub RaiseLaw : Type 0
 RaiseLaw = (m0 : Map) (used : List ℕ) (m : Mem) (vs : List View) (id : ℕ) (v : View) (l : Link)
