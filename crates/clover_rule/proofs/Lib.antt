@@ -1,4 +1,5 @@
 pub mod Keys
+pub mod Telling
 pub mod Keeps
 pub mod Keeping
 pub mod Learning

@@ -158,3 +158,10 @@ module _ (l : Pool) (m0 : Map) (used : List ℕ) (m : Mem) (vs : List View) (st 
       contents = λ s i t e. let a = on_chain s (im.root s) refl i t e in let va : value_in (nth (st.log s) (from s + i)) ≡ a.version.value = ap value_in a.there in (subst (Fits l) (sym va) (p.ranged.fits s (from s + i) a.version a.there),
           λ j y q. let b = w.rule.bodies s (from s + i) a.version a.there a.late j y (ap (λ (x : Option Value). nth (content x) j) (sym va) ∙ q) in ap (λ (x : ℕ). im.body (home x) j) (sym a.tag) ∙ ⊎_elim (λ f. f ∙ b.0) (λ f. f ∙ b.1) (is.body (home a.version.tag) j))
     }
+
+-- the flushed copies alone are an image
+abbrev pub flushed_image : Mem → Image
+flushed_image m = record { next = m.fnext; root = m.froot; body = m.fbody; key = m.fkey }
+
+pub flushed_is : (m : Mem) → IsImage m (flushed_image m)
+flushed_is m = record { next = λ b. inr refl; root = λ s. inr refl; body = λ b j. inr refl; key = λ s j. inr refl }

@@ -7,6 +7,7 @@ pub mod Views
 pub mod Words
 pub mod Steps
 pub mod Meets
+pub mod Told
 pub mod Laws
 pub mod Parts
 pub mod Server

@@ -1,0 +1,142 @@
+-- What the rule says of an actor, what a step tells it, and the law over a table.
+use Rattle.std.proofs.Common.{◌≡◌, ℕ, zero, suc, ◌+◌, ◌<◌, ◌≤◌, ◌≢◌, ◌⊎◌, List, [], ◌∷◌, ◌++◌, length, set, Bool, true, false, cond, refl, sym, ap, ◌∙◌, inl, inr, ⊎_elim, arith, subst}
+use Rattle.std.specs.Prelude.{Option, Some, None, slice_index, slice_set}
+use mathlib.Core.Option.{some, none, some-injective, some-ne-none}
+use lib.ListN.{get_elem?}
+use Rattle.atomic_table.specs.Table.{State, Me, Allows, keeps as stay}
+use Rattle.clover_words.specs.declared.pool.Pool.{Pool}
+use Rattle.clover_words.specs.declared.word.Word.{Word}
+use Rattle.clover_words.specs.declared.word.Word.TheVariants.{Next as NextOf, Meta, Value as ValueOf, Root, Key, Short, Count}
+use Rattle.clover_words.specs.declared.word.Side.{Side}
+use Rattle.clover_words.specs.declared.word.Side.TheVariants.{Current, Flushed}
+use Rattle.clover_words.specs.Place.{IsWithin, HasSide, address_of, copy_in}
+use Rattle.clover_words.proofs.Places.{has_current}
+use Rattle.clover_map.specs.declared.call.Entry.{Entry}
+use Rattle.clover_map.specs.Tagged.{Tagged}
+use Rattle.clover_rule.specs.Content.{InRange, IsKey}
+use Rattle.clover_rule.specs.History.{shows}
+use Rattle.clover_rule.specs.Lists.{Each, Within, nth}
+use Rattle.clover_rule.specs.Meets.{Meets, IsMet}
+use Rattle.clover_rule.specs.Server.{Ready}
+use Rattle.clover_rule.specs.State.{Next, Story, Mem, Durable, gen, link, tag_at, word, home}
+use Rattle.clover_rule.specs.Steps.{Step, Asks, LoadNext, DecideNext, RaiseNext, LinkNext, StoreContent, FlushContent, LoadContent, ReadRoot, ReadShort, StoreShort, ReadCount, AbsentCount, word_of, side_of, next_view, next_history, found, words_after_step}
+use Rattle.clover_rule.specs.Told.{Facts, IsShown, Told, TableLaw}
+use Rattle.clover_rule.specs.Words.{buffer_at, content_at, mem_of}
+use Rattle.clover_rule.specs.declared.view.View.{View}
+use Rattle.clover_rule.proofs.Steps.{each_map, each_within, within_prefix, set_here}
+use Rattle.clover_rule.proofs.Standings.{tag_within}
+use Rattle.clover_rule.proofs.TaggedMaps.{legal_history}
+use Rattle.clover_rule.proofs.Learning.{past_now}
+use Rattle.clover_rule.proofs.Keeping.{read_next, read_fnext, read_root, read_short, inside_of}
+use Rattle.clover_rule.proofs.Keeps.{keeps}
+use Rattle.clover_rule.proofs.Soundness.{cut_sound, flushed_image, flushed_is}
+use Rattle.clover_map.specs.Legal as Runs
+use Rattle.clover_rule.proofs.Ties.{content_side}
+
+-- the rule's side of each step
+pub step_side : (a : Step) → HasSide (word_of a) (side_of a)
+step_side (LoadNext s t) = tt
+step_side (DecideNext s t c r) = tt
+step_side (RaiseNext l) = tt
+step_side (LinkNext s u t c) = tt
+step_side (StoreContent t j x) = content_side (home t) j Current
+step_side (FlushContent t j x) = content_side (home t) j Flushed
+step_side (LoadContent s t j) = content_side (home t) j Current
+step_side (ReadRoot s) = tt
+step_side (ReadShort s) = tt
+step_side (StoreShort s t) = tt
+step_side ReadCount = tt
+step_side (AbsentCount c) = tt
+
+pub nth_elem : {A : Type 0} (l : List A) (i : ℕ) (a : A) → get_elem? l i ≡ some a → nth l i ≡ Some a
+nth_elem [] i a e = absurd (some-ne-none a (sym e))
+nth_elem (x ∷ l) zero a e = ap Some (some-injective x a e)
+nth_elem (x ∷ l) (suc i) a e = nth_elem l i a e
+
+each_list : {A : Type 0} (P : A → Type 0) (xs : List A) → ((x : A) → Within x xs → P x) → Each P xs
+each_list P [] f = tt
+each_list P (x ∷ xs) f = (f x (inl refl), each_list P xs (λ y w. f y (inr w)))
+
+module _ (p : Pool) (first : Tagged) (used : List ℕ) (ws : List ℕ) (vs : List View) (st : Story) (h : List Entry) (r : Meets p first used ws vs st h) where
+  abbrev m : Mem
+  m = mem_of p ws
+
+  -- a slot with a version is one of the pool
+  slot_in : (s i t : ℕ) → tag_at st s i ≡ Some t → s < p.slots
+  slot_in s i t e = bound (st.keys s) refl
+    where
+      bound : (x : Option (List ℕ)) → st.keys s ≡ x → s < p.slots
+      bound None q = absurd (let a = r.whole.help.keyed.bare s q in let b = tag_within st s i t e in omega arith)
+      bound (Some k) q = r.whole.help.keyed.slots s k q
+
+  link_in : (b t : ℕ) → link (m.next b) ≡ Some t → InRange p t
+  link_in b t e = ⊎_elim (λ q. absurd (let z : ◌≡◌ {A = Option ℕ} None (Some t) = sym q ∙ e in cc))
+      (λ q. r.whole.help.ranged.tags q.0.slot (suc q.1.0) t (q.1.2 ∙ (sym q.4 ∙ e))) (past_now m st r.whole.rule.core b).1
+
+  root_in_range : (s t : ℕ) → Durable st s t → InRange p t
+  root_in_range s t d = r.whole.help.ranged.tags s d.0 t d.1
+
+  module _ (id : ℕ) (v : View) (at : nth vs id ≡ Some v) where
+    pub facts : Facts p v h
+    facts =
+        let ok = r.whole.rule.views id v at in
+        let o = r.same id v at in
+        record {
+          of_pool = o.of_pool;
+          begins = ok.history;
+          legal = subst (λ (u : List ℕ). Runs.Legal v.pass.map u h) (sym o.from_used) (subst (λ (f : Tagged). Runs.Legal f used h) (sym o.from_map) (legal_history first used h r.whole.rule.tale.legal).2);
+          calls = ok.calls;
+          stock = each_map (λ t q. let g = r.whole.help.ranged.ready (home t) (subst Ready (sym q.0) tt) in (g.0, let z = q.1 in let y = g.1 in omega arith)) v.pass.stock ok.stocked;
+          apart = ok.apart;
+          durable = each_map (λ q d. (slot_in q.0 d.0 q.1 d.1, root_in_range q.0 q.1 d)) v.pass.durable ok.durable;
+          links = each_map (λ l d. (slot_in l.slot d.0 l.from d.1, r.whole.help.ranged.tags l.slot d.0 l.from d.1, r.whole.help.ranged.tags l.slot (suc d.0) l.to d.2)) v.pass.links ok.links;
+          names = each_list (λ (q : ℕ × List ℕ). (q.0 < p.slots) × IsKey q.1) v.pass.names (λ q w.
+              let b = r.whole.rule.bound q.0 q.1 (subst (Within q) (sym ok.names.1) (within_prefix q v.pass.names ok.names.0 w)) in
+              (r.whole.help.keyed.slots q.0 q.1 b.0, r.whole.help.keyed.valid q.0 q.1 b.0))
+        }
+
+  -- what a copy of a word shows
+  fnext_in : (b : ℕ) → (gen (m.fnext b) ≤ p.wear) × ((t : ℕ) → link (m.fnext b) ≡ Some t → InRange p t)
+  fnext_in b = (let a = r.whole.help.ranged.below b in let c = r.whole.help.ranged.own b in omega arith, λ t e. (cut_sound p (shows first) used m vs st h r.whole (flushed_image m) (flushed_is m)).target b t e)
+
+  next_shown : (b : ℕ) → IsWithin p (NextOf (buffer_at b)) → (s : Side) → IsShown p (NextOf (buffer_at b)) (copy_in p ws (NextOf (buffer_at b)) s)
+  next_shown b hw Current = let i = inside_of p b hw in let e = read_next p ws b i in
+      (r.decodes (NextOf (buffer_at b)) Current hw tt, subst (λ (n : Next). (gen n ≤ p.wear) × ((t : ℕ) → link n ≡ Some t → InRange p t)) e (r.whole.help.ranged.own b, link_in b))
+  next_shown b hw Flushed = let i = inside_of p b hw in let e = read_fnext p ws b i in
+      (r.decodes (NextOf (buffer_at b)) Flushed hw tt, subst (λ (n : Next). (gen n ≤ p.wear) × ((t : ℕ) → link n ≡ Some t → InRange p t)) e (fnext_in b))
+
+  content_shown : (b j : ℕ) (x : ℕ) → IsShown p (content_at b j) x
+  content_shown b zero x = tt
+  content_shown b (suc j) x = tt
+
+  pub number_shown : (a : Step) → IsWithin p (word_of a) → IsShown p (word_of a) (found p a ws)
+  number_shown (LoadNext s t) hw = next_shown (home t) hw Current
+  number_shown (DecideNext s t c y) hw = next_shown (home t) hw Current
+  number_shown (RaiseNext l) hw = next_shown (home l.from) hw Flushed
+  number_shown (LinkNext s u t c) hw = next_shown (home u) hw Current
+  number_shown (StoreContent t j x) hw = content_shown (home t) j (found p (StoreContent t j x) ws)
+  number_shown (FlushContent t j x) hw = content_shown (home t) j (found p (FlushContent t j x) ws)
+  number_shown (LoadContent s t j) hw = content_shown (home t) j (found p (LoadContent s t j) ws)
+  number_shown (ReadRoot s) hw = (r.decodes (Root s) Current hw tt, λ t e. root_here s t (read_root p ws s hw ∙ e))
+    where
+      root_here : (s t : ℕ) → m.root s ≡ Some t → InRange p t
+      root_here s t e = r.whole.help.ranged.tags s (st.lead s) t (sym (r.whole.rule.core.root s) ∙ e)
+  number_shown (ReadShort s) hw = (r.decodes (Short s) Current hw tt, λ t e. root_in_range s t (r.whole.help.short s t (read_short p ws s hw ∙ e)))
+  number_shown (StoreShort s u) hw = (r.decodes (Short s) Current hw tt, λ t e. root_in_range s t (r.whole.help.short s t (read_short p ws s hw ∙ e)))
+  number_shown ReadCount hw = tt
+  number_shown (AbsentCount c) hw = tt
+
+-- what a step tells
+pub told : (p : Pool) (first : Tagged) (used : List ℕ) (ws : List ℕ) (vs : List View) (h : List Entry) (id : ℕ) (v : View) → IsMet p first used ws vs h → nth vs id ≡ Some v → (a : Step) (b : Bool) → Asks p a v → Told p a b v (found p a ws) (next_view b a h v (found p a ws))
+told p first used ws vs h id v (st, r) at a b asks =
+    let w : View = next_view b a h v (found p a ws) in
+    let after = keeps p first used ws vs st h r id v at a b asks in
+    (h, record { before = facts p first used ws vs st h r id v at; number = number_shown p first used ws vs st h r a asks.0; next = refl;
+      after = facts p first used (words_after_step p a ws) (slice_set vs id w) after.0 (next_history a h v (found p a ws)) after.1 id w (set_here vs id w v at) })
+
+pub table_law : TableLaw
+table_law S p first used slots id me a b then asks tells s (h, met) len at fits =
+    let x : ℕ = found p a s.words in
+    let w : View = next_view b a h me.0 x in
+    let here : nth s.views id ≡ Some me.0 = nth_elem s.views id me.0 at in
+    (w, stay, tt, (next_history a h me.0 x, keeps p first used s.words s.views met.0 h met.1 id me.0 here a b asks), tells x w (told p first used s.words s.views h id me.0 met here a b asks))

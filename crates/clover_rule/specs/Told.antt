@@ -1,0 +1,61 @@
+-- What a step tells its actor: facts on its own view and the history, before and after.
+use Rattle.std.specs.Prelude.{◌≡◌, ℕ, ◌<◌, ◌≤◌, List, length, Bool, Some}
+use mathlib.Core.Option.{none}
+use Rattle.clover_words.specs.declared.pool.Pool.{Pool}
+use Rattle.clover_words.specs.declared.word.Word.{Word}
+use Rattle.clover_words.specs.declared.word.Word.TheVariants.{Next as NextOf, Meta, Value as ValueOf, Root, Key, Short, Count}
+use Rattle.clover_words.specs.Place.{address_of}
+use Rattle.clover_map.specs.declared.call.Entry.{Entry}
+use Rattle.clover_map.specs.Tagged.{Tagged}
+use Rattle.clover_map.specs.Legal.{Legal}
+use Rattle.atomic_table.specs.Table.{State, Me, Allows}
+use Rattle.clover_rule.specs.Content.{InRange, IsKey}
+use Rattle.clover_rule.specs.Lists.{Each, IsPrefix}
+use Rattle.clover_rule.specs.Meets.{IsCode, IsMet}
+use Rattle.clover_rule.specs.State.{gen, link}
+use Rattle.clover_rule.specs.Steps.{Step, Asks, word_of, side_of, becomes, next_view, next_history}
+use Rattle.clover_rule.specs.Views.{OwnCalls, Apart}
+use Rattle.clover_rule.specs.Words.{next_of, root_of}
+use Rattle.clover_rule.specs.declared.view.Link.{Link}
+use Rattle.clover_rule.specs.declared.view.View.{View}
+
+-- what the rule says of one actor
+pub record Facts (p : Pool) (v : View) (h : List Entry) : Type 0 where
+  pub of_pool : v.pass.pool ≡ p
+  -- its history begins the history, which is legal, and its calls are its entries there
+  pub begins : IsPrefix v.pass.history h
+  pub legal : Legal v.pass.map v.pass.used h
+  pub calls : OwnCalls v.pass.role v.pass.calls h
+  -- what it knows is in the pool
+  pub stock : Each (InRange p) v.pass.stock
+  pub apart : Apart v.pass.stock
+  pub durable : Each (λ (q : ℕ × ℕ). (q.0 < p.slots) × InRange p q.1) v.pass.durable
+  pub links : Each (λ (l : Link). (l.slot < p.slots) × InRange p l.from × InRange p l.to) v.pass.links
+  pub names : Each (λ (q : ℕ × List ℕ). (q.0 < p.slots) × IsKey q.1) v.pass.names
+
+-- a number that the word may have: it decodes, and names a tag of the pool or none
+abbrev pub IsShown : Pool → Word → ℕ → Type 0
+IsShown p (NextOf b) x = IsCode (NextOf b) x × ((gen (next_of x) ≤ p.wear) × ((t : ℕ) → link (next_of x) ≡ Some t → InRange p t))
+IsShown p (Root s) x = IsCode (Root s) x × ((t : ℕ) → root_of x ≡ Some t → InRange p t)
+IsShown p (Short s) x = IsCode (Short s) x × ((t : ℕ) → root_of x ≡ Some t → InRange p t)
+IsShown p w x = Unit {0}
+
+-- a step of the actor v found the number x and left the view w, the first of its call or a later one
+pub record ToldAt (p : Pool) (a : Step) (b : Bool) (v : View) (x : ℕ) (w : View) (h : List Entry) : Type 0 where
+  pub before : Facts p v h
+  pub number : IsShown p (word_of a) x
+  pub next : w ≡ next_view b a h v x
+  pub after : Facts p w (next_history a h v x)
+
+abbrev pub Told : Pool → Step → Bool → View → ℕ → View → Type 0
+Told p a b v x w = (h : List Entry) × ToldAt p a b v x w h
+
+-- the rule of a table whose words are the pool's and whose seats are the actors
+abbrev pub Holds : {S : Type 0} → Pool → Tagged → List ℕ → State S View → Type 0
+Holds p first used s = (h : List Entry) × IsMet p first used s.words s.views h
+
+-- The law over a table: any step that the actor may make is allowed, and tells what the rule says of it.
+abbrev pub TableLaw : Type 1
+TableLaw = (S : Type 0) (p : Pool) (first : Tagged) (used : List ℕ) (slots id : ℕ) (me : Me S View) (a : Step) (b : Bool) (then : ℕ → Me S View → Type 0) → Asks p a me.0
+    → ((x : ℕ) (w : View) → Told p a b me.0 x w → then x (w, me.1))
+    → Allows {S = S} (Holds p first used) slots id me (address_of p (word_of a) (side_of a)) (becomes a) then
