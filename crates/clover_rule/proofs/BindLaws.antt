@@ -11,7 +11,7 @@ use Rattle.clover_rule.specs.History.{Version, Map, own, commits, ends, at_key}
 use Rattle.clover_rule.specs.Lists.{nth, upd}
 use Rattle.clover_rule.specs.Server.{Ready, unnamed, IsStoring, Stage, Help, is_home, book_of, Serves, Whole, IsWhole, BindRoot, server_after, served_view, ServerLaw}
 use Rattle.clover_rule.specs.State.{home, age, gen, Mem, Place, Chained, Story, tag_in_version, tag_at, Core, Tale, unsure}
-use Rattle.clover_rule.specs.Views.{book, Holds, Stands, Rule, renewed, book_at, root_at}
+use Rattle.clover_rule.specs.Views.{book, Holds, Stands, Basis, renewed, book_at, root_at}
 use Rattle.clover_rule.specs.declared.view.BufferState.TheVariants.{Bound as IsBound, Out as IsOut}
 use Rattle.clover_rule.specs.declared.view.Role.TheVariants.{Serving}
 use Rattle.clover_rule.specs.declared.view.Task.TheVariants.{Storing, Rooted}
@@ -52,8 +52,8 @@ module _ (l : Pool) (m0 : Map) (used : List ℕ) (m : Mem) (vs : List View) (id 
   abbrev x : Version
   x = record { tag = t; value = None }
 
-  r : Rule m0 used m vs st h
-  r = w.rule
+  r : Basis m0 used m vs st h
+  r = w.basis
 
   g : Stage l m st (Storing s k t n)
   g = stage_at l m0 used m vs id v st h w at role (Storing s k t n) e

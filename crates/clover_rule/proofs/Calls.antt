@@ -18,7 +18,7 @@ use Rattle.clover_rule.specs.History.{Version, Map, used_by, Does, named, commit
 use Rattle.clover_rule.specs.Lists.{Each, nth, Within}
 use Rattle.clover_rule.specs.Server.{Ready, Whole, MayLink, link_entry, link_view, SawValue, SawTombstone, CopiedValue}
 use Rattle.clover_rule.specs.State.{home, age, word, gen, Mem, Loose, Story, Core, linked_mem, linked_story}
-use Rattle.clover_rule.specs.Views.{Rule, renewed}
+use Rattle.clover_rule.specs.Views.{Basis, renewed}
 use Rattle.clover_rule.specs.declared.view.Role.TheVariants.{Client}
 use Rattle.clover_rule.specs.declared.view.View.{View}
 use Rattle.clover_words.specs.declared.pool.Pool.{Pool}
@@ -38,8 +38,8 @@ tag_of_pair : (w : Version) (x : Value) → w.value ≡ Some x → tag_in (pair_
 tag_of_pair w x e = rw e refl
 
 module _ (l : Pool) (m0 : Map) (used : List ℕ) (m : Mem) (vs : List View) (st : Story) (h : List Entry) (w : Whole l m0 used m vs st h) (id : ℕ) (v : View) (at : nth vs id ≡ Some v) where
-  abbrev r : Rule m0 used m vs st h
-  r = w.rule
+  abbrev r : Basis m0 used m vs st h
+  r = w.basis
 
   -- any deciding exchange
   pub commit_whole : (n s : ℕ) (k : List ℕ) (u t : ℕ) (y : Option Value) (call : Call) (reply : Reply) (rest : List ℕ) → MayLink v n s k u t y rest → named call ≡ k → committed call reply ≡ Some (record { tag = t; value = y }) → (Fresh t (used_by used h) → Does (leads m0 h k) (used_by used h) call reply)

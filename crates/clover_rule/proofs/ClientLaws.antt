@@ -10,7 +10,7 @@ use Rattle.clover_rule.specs.History.{Map, own, used_by}
 use Rattle.clover_rule.specs.Lists.{nth, upd, Within}
 use Rattle.clover_rule.specs.Server.{unnamed, AtStage, Whole}
 use Rattle.clover_rule.specs.State.{home, age, word, gen, link, Mem, Story, Core, Durable, greater, raised_mem, raised_story}
-use Rattle.clover_rule.specs.Views.{ViewOk, Rule, renewed, raise_view}
+use Rattle.clover_rule.specs.Views.{ViewOk, Basis, renewed, raise_view}
 use Rattle.clover_rule.specs.declared.view.Link.{Link}
 use Rattle.clover_rule.specs.declared.view.Role.TheVariants.{Client}
 use Rattle.clover_rule.specs.declared.view.Task.{Task}
@@ -28,8 +28,8 @@ use Rattle.clover_rule.proofs.Stages.{gen_least}
 use Rattle.clover_rule.proofs.Quiet.{quiet}
 
 module _ (l : Pool) (m0 : Map) (used : List ℕ) (m : Mem) (vs : List View) (st : Story) (h : List Entry) (w : Whole l m0 used m vs st h) (id : ℕ) (v : View) (at : nth vs id ≡ Some v) where
-  abbrev r : Rule m0 used m vs st h
-  r = w.rule
+  abbrev r : Basis m0 used m vs st h
+  r = w.basis
 
   -- the raise over a link that the client hops over or wrote
   pub raise_whole : (n : ℕ) → v.pass.role ≡ Client n → (q : Link) → Within q v.pass.links
@@ -53,9 +53,9 @@ module _ (l : Pool) (m0 : Map) (used : List ℕ) (m : Mem) (vs : List View) (st 
   quiet_whole n role v' same past ok = client_whole l m0 used m vs st h w id v v' at n role same m st h (quiet m0 used m vs st h r id v v' at same past ok) w.help (λ sv e. e) w.safe (λ cs x y. y)
 
   -- a store of the shortcut with a durable tag
-  pub short_whole : (n s t : ℕ) → v.pass.role ≡ Client n → Within (s, t) v.pass.durable → (rule : Rule m0 used (record m { short = upd m.short s (Some t) }) (renewed vs id v) st h)
+  pub short_whole : (n s t : ℕ) → v.pass.role ≡ Client n → Within (s, t) v.pass.durable → (rule : Basis m0 used (record m { short = upd m.short s (Some t) }) (renewed vs id v) st h)
       → Whole l m0 used (record m { short = upd m.short s (Some t) }) (renewed vs id v) st h
-  short_whole n s t role d rule = let p = w.help in client_whole l m0 used m vs st h w id v v at n role refl (record m { short = upd m.short s (Some t) }) st h rule
+  short_whole n s t role d ru = let p = w.help in client_whole l m0 used m vs st h w id v v at n role refl (record m { short = upd m.short s (Some t) }) st h ru
       record {
         ranged = let a = p.ranged in record { tags = a.tags; own = a.own; below = a.below; ready = a.ready; worn = a.worn; fits = a.fits };
         keyed = let a = p.keyed in record { valid = a.valid; current = a.current; flushed = a.flushed; bare = a.bare; nameless = a.nameless; filled = a.filled; slots = a.slots };
@@ -76,4 +76,4 @@ module _ (l : Pool) (m0 : Map) (used : List ℕ) (m : Mem) (vs : List View) (st 
       here (Raised s1 r1 t1) a = a
       here (Led s1 r1 t1) a = a
       here (Both s1 r1 t1) a = a
-      here (Exchanged s1 r1 t1) a = record { place = a.place; now = a.now; safe = a.safe; root = a.root; inside = a.inside; young = a.young }
+      here (Exchanged s1 r1 t1) a = record { place = a.place; now = a.now; safe = a.safe; root = a.root; old = a.old; inside = a.inside; young = a.young }

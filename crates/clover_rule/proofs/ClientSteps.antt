@@ -11,7 +11,7 @@ use Rattle.clover_rule.specs.History.{Version, Map, own, used_by}
 use Rattle.clover_rule.specs.Lists.{Each, nth, Within}
 use Rattle.clover_rule.specs.Server.{Ready, unnamed, IsWaiting, IsRecycling, AtStage, Help, root_in, is_home, book_of, Serves, Whole}
 use Rattle.clover_rule.specs.State.{home, age, Next, word, gen, link, Mem, Place, Chained, Taken, Story, tag_at, Core, linked_mem, linked_story, greater, order, raised_mem, raised_story}
-use Rattle.clover_rule.specs.Views.{book, Rule, renewed}
+use Rattle.clover_rule.specs.Views.{book, Basis, renewed}
 use Rattle.clover_rule.specs.declared.view.BufferState.TheVariants.{Bound as IsBound, Out as IsOut}
 use Rattle.clover_rule.specs.declared.view.Role.TheVariants.{Client, Serving}
 use Rattle.clover_rule.specs.declared.view.Server.{Server}
@@ -35,7 +35,7 @@ each_snoc P (y ∷ ys) x e p = (e.0, each_snoc P ys x e.1 p)
 -- any step of a client, from the rule after it and what it keeps
 module _ (l : Pool) (m0 : Map) (used : List ℕ) (m : Mem) (vs : List View) (st : Story) (h : List Entry) (w : Whole l m0 used m vs st h)
          (id : ℕ) (v v' : View) (at : nth vs id ≡ Some v) (n : ℕ) (role : v.pass.role ≡ Client n) (same : v'.pass.role ≡ v.pass.role) (m' : Mem) (st' : Story) (h' : List Entry)
-         (rule : Rule m0 used m' (renewed vs id v') st' h') (help : Help l m' st') (serves : (sv : Server) → Serves l m st st.task sv → Serves l m' st' st'.task sv)
+         (rule : Basis m0 used m' (renewed vs id v') st' h') (help : Help l m' st') (serves : (sv : Server) → Serves l m st st.task sv → Serves l m' st' st'.task sv)
          (safe : Each (λ (t : ℕ). (age t < l.wear) × (age t ≤ gen (m'.fnext (home t)))) (used_by used h'))
          (entries : (cs : List ℕ) → Within n cs → Each (λ (e : Entry). Within e.client cs) h → Each (λ (e : Entry). Within e.client cs) h') where
   was : (i1 : ℕ) (x : View) → nth (renewed vs id v') i1 ≡ Some x → ((i1 ≡ id) × (x.pass.role ≡ Client n)) ⊎ (nth vs i1 ≡ Some x)
@@ -46,7 +46,7 @@ module _ (l : Pool) (m0 : Map) (used : List ℕ) (m : Mem) (vs : List View) (st 
 
   pub client_whole : Whole l m0 used m' (renewed vs id v') st' h'
   client_whole = record {
-      rule = rule; help = help;
+      basis = rule; help = help;
       serves = λ i1 x q e. serves x.server (w.serves i1 x (server_was i1 x q e) e);
       one = λ i1 j1 x y qx qy rx ry. w.one i1 j1 x y (server_was i1 x qx rx) (server_was j1 y qy ry) rx ry;
       safe = safe;
@@ -106,7 +106,8 @@ module _ (l : Pool) (m : Mem) (st : Story) (c : Core m st) (p : Help l m st) (s 
   here_kept (Led s1 r1 t1) a = (recycling_kept s1 r1 t1 a.0, a.1, a.2, a.3)
   here_kept (Both s1 r1 t1) a = (recycling_kept s1 r1 t1 a.0, a.1, a.2, a.3)
   here_kept (Exchanged s1 r1 t1) a = record { place = held_place (home r1) a.place; now = held_next (home r1) a.place ∙ a.now; safe = a.safe;
-      root = tag_else st s x s1 (st.gone s1) (λ d q. let a1 = tag_within st s1 (st.gone s1) t1 a.root in let a2 = ap (λ (z : ℕ). length (st.log z)) d in absurd (omega arith)) ∙ a.root; inside = a.inside; young = a.young }
+      root = tag_else st s x s1 (st.gone s1) (λ d q. let a1 = tag_within st s1 (st.gone s1) t1 a.root in let a2 = ap (λ (z : ℕ). length (st.log z)) d in absurd (omega arith)) ∙ a.root;
+      old = (a.old.0, a.old.1, tag_else st s x s1 a.old.0 (λ d q. let a1 = tag_within st s1 a.old.0 r1 a.old.2 in let a2 = ap (λ (z : ℕ). length (st.log z)) d in absurd (omega arith)) ∙ a.old.2); inside = a.inside; young = a.young }
 
   pub link_help : Help l m' st'
   link_help = record {
@@ -244,7 +245,7 @@ module _ (l : Pool) (m : Mem) (st : Story) (c : Core m st) (p : Help l m st) (s 
   raised_here (Raised s1 r1 t1) a = (record { root = a.0.root; next = a.0.next }, more_sure s1 (suc (st.gone s1)) a.1)
   raised_here (Led s1 r1 t1) a = (record { root = a.0.root; next = a.0.next }, more_sure s1 (suc (st.gone s1)) a.1, a.2, a.3)
   raised_here (Both s1 r1 t1) a = (record { root = a.0.root; next = a.0.next }, more_sure s1 (suc (st.gone s1)) a.1, a.2, a.3)
-  raised_here (Exchanged s1 r1 t1) a = record { place = a.place; now = a.now; safe = held_off (home r1) a.place ∙ a.safe; root = a.root; inside = a.inside; young = a.young }
+  raised_here (Exchanged s1 r1 t1) a = record { place = a.place; now = a.now; safe = held_off (home r1) a.place ∙ a.safe; root = a.root; old = a.old; inside = a.inside; young = a.young }
 
   pub raise_help : Help l mr sr
   raise_help = record {

@@ -14,7 +14,7 @@ use Rattle.clover_rule.specs.History.{Version, Map, own, used_by, commits, joine
 use Rattle.clover_rule.specs.Lists.{Each, nth, Within}
 use Rattle.clover_rule.specs.Server.{MayLink, link_entry, link_view}
 use Rattle.clover_rule.specs.State.{home, age, word, gen, link, Mem, Chained, Stocked, Story, tag_in_version, tag_at, Core, Tale, Durable, unsure, linked_mem, linked_story}
-use Rattle.clover_rule.specs.Views.{Holds, Stands, IsLink, Past, Owned, Apart, OwnCalls, ViewOk, Spent, Rule, renewed, without, Numbered}
+use Rattle.clover_rule.specs.Views.{Holds, Stands, IsLink, Past, Owned, Apart, OwnCalls, ViewOk, Spent, Basis, renewed, without, Numbered}
 use Rattle.clover_rule.specs.declared.view.Content.{Content}
 use Rattle.clover_rule.specs.declared.view.Role.{Role}
 use Rattle.clover_rule.specs.declared.view.Role.TheVariants.{Client}
@@ -34,7 +34,7 @@ version_kept st s w s' i x e = go (ℕ_discrete s' s)
     go (yes d) = ap (λ (ws : List Version). nth ws i) (ap (linked_story st s w).log d ∙ upd_same st.log s (st.log s ++ w ∷ [])) ∙ nth_front (st.log s) w i (let f : nth (st.log s) i ≡ Some x = ap (λ (j : ℕ). nth (st.log j) i) (sym d) ∙ e in let q = nth_within (st.log s) i x f in (λ z. omega arith)) ∙ ap (λ (j : ℕ). nth (st.log j) i) (sym d) ∙ e
     go (no n) = ap (λ (ws : List Version). nth ws i) (upd_else st.log s s' (st.log s ++ w ∷ []) n) ∙ e
 
-module _ (m0 : Map) (used : List ℕ) (m : Mem) (vs : List View) (st : Story) (h : List Entry) (r : Rule m0 used m vs st h)
+module _ (m0 : Map) (used : List ℕ) (m : Mem) (vs : List View) (st : Story) (h : List Entry) (r : Basis m0 used m vs st h)
          (id : ℕ) (v : View) (at : nth vs id ≡ Some v) (n s : ℕ) (k : List ℕ) (u t : ℕ) (y : Option Value) (call : Call) (reply : Reply) (rest : List ℕ) (p : MayLink v n s k u t y rest) (nm : named call ≡ k) (cm : committed call reply ≡ Some (record { tag = t; value = y })) (does : Fresh t (used_by used h) → Does (leads m0 h k) (used_by used h) call reply) (found : m.next (home u) ≡ word (age u) None) where
   abbrev w : Version
   w = record { tag = t; value = y }
@@ -251,7 +251,7 @@ module _ (m0 : Map) (used : List ℕ) (m : Mem) (vs : List View) (st : Story) (h
   numbered' : Numbered (renewed vs id v')
   numbered' i j c a b qa qb ra rb = let x = was i a qa in let y = was j b qb in r.numbered i j c x.0 y.0 x.1 y.1 (x.2 ∙ ra) (y.2 ∙ rb)
 
-  pub rule' : Rule m0 used m' (renewed vs id v') st' h'
+  pub rule' : Basis m0 used m' (renewed vs id v') st' h'
   rule' = record {
       core = core';
       tale = tale';

@@ -10,7 +10,7 @@ use Rattle.clover_rule.specs.History.{Version, Map, own}
 use Rattle.clover_rule.specs.Lists.{upd}
 use Rattle.clover_rule.specs.Server.{Ready, moving, unnamed, holding, IsStoring, Stage, root_in, is_home, book_of, waiting_name, Serves, Whole}
 use Rattle.clover_rule.specs.State.{home, gen, link, Mem, Place, Chained, Stocked, Taken, Story, tag_in_version, tag_at, Core}
-use Rattle.clover_rule.specs.Views.{find_book, book_at, book, Holds, Stands, Spent, Rule}
+use Rattle.clover_rule.specs.Views.{find_book, book_at, book, Holds, Stands, Spent, Basis}
 use Rattle.clover_rule.specs.declared.view.BookLine.{BookLine}
 use Rattle.clover_rule.specs.declared.view.BufferState.TheVariants.{Out as IsOut}
 use Rattle.clover_rule.specs.declared.view.Server.{Server}
@@ -34,8 +34,8 @@ module _ (l : Pool) (m0 : Map) (used : List ℕ) (m : Mem) (vs : List View) (st 
   abbrev pub content_story : Story
   content_story = record st { place = upd st.place b0 Taken; task = T' }
 
-  r : Rule m0 used m vs st h
-  r = w.rule
+  r : Basis m0 used m vs st h
+  r = w.basis
 
   place_else : (b : ℕ) → b ≢ b0 → content_story.place b ≡ st.place b
   place_else b n = upd_else st.place b0 b Taken n

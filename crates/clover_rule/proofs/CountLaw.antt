@@ -15,7 +15,7 @@ use Rattle.clover_rule.specs.History.{Version, Map, own, used_by, commits, joine
 use Rattle.clover_rule.specs.Lists.{Each, nth, Within}
 use Rattle.clover_rule.specs.Server.{link_entry, Whole, Stage, unnamed}
 use Rattle.clover_rule.specs.State.{home, age, gen, Mem, Story, tag_in_version, Core, Tale, unsure, greatest}
-use Rattle.clover_rule.specs.Views.{OwnCalls, ViewOk, Spent, Rule, renewed}
+use Rattle.clover_rule.specs.Views.{OwnCalls, ViewOk, Spent, Basis, renewed}
 use Rattle.clover_rule.specs.declared.view.Role.{Role}
 use Rattle.clover_rule.specs.declared.view.Role.TheVariants.{Client}
 use Rattle.clover_rule.specs.declared.view.Task.{Task}
@@ -40,8 +40,8 @@ most_ok a b q = grind (arith, nat_tests)
 
 module _ (l : Pool) (m0 : Map) (used : List ℕ) (m : Mem) (vs : List View) (st : Story) (h : List Entry) (w : Whole l m0 used m vs st h)
          (id : ℕ) (v : View) (at : nth vs id ≡ Some v) (k : List ℕ) (missing : (s : ℕ) → Within (s, k) v.pass.names → ⊥) (found : m.count ≡ length v.pass.names) where
-  abbrev r : Rule m0 used m vs st h
-  r = w.rule
+  abbrev r : Basis m0 used m vs st h
+  r = w.basis
 
   ok : ViewOk m st h id v
   ok = r.views id v at
@@ -144,7 +144,7 @@ module _ (l : Pool) (m0 : Map) (used : List ℕ) (m : Mem) (vs : List View) (st 
     was : (i1 : ℕ) (a : View) → nth (renewed vs id v') i1 ≡ Some a → (y : View) × (nth vs i1 ≡ Some y) × (y.pass.role ≡ a.pass.role)
     was i1 a q = ⊎_elim {C = (y : View) × (nth vs i1 ≡ Some y) × (y.pass.role ≡ a.pass.role)} (λ d. (v, ap (nth vs) d.0 ∙ at, ap (λ (z : View). z.pass.role) d.1)) (λ d. (a, d.1, refl)) (nth_set vs id i1 v' a q)
 
-    pub decide_rule : Rule m0 used m (renewed vs id v') st h'
+    pub decide_rule : Basis m0 used m (renewed vs id v') st h'
     decide_rule = record {
         core = r.core;
         tale = tale';

@@ -16,7 +16,7 @@ use Rattle.clover_rule.specs.History.{pair_of, Version, Map, own, used_by, commi
 use Rattle.clover_rule.specs.Lists.{Each, nth, Within}
 use Rattle.clover_rule.specs.Server.{link_entry}
 use Rattle.clover_rule.specs.State.{home, age, word, gen, Mem, Story, tag_in_version, tag_at, Core, Tale, Durable, unsure}
-use Rattle.clover_rule.specs.Views.{IsCopied, OwnCalls, ViewOk, Spent, Rule, renewed, shown}
+use Rattle.clover_rule.specs.Views.{IsCopied, OwnCalls, ViewOk, Spent, Basis, renewed, shown}
 use Rattle.clover_rule.specs.declared.view.Role.{Role}
 use Rattle.clover_rule.specs.declared.view.Role.TheVariants.{Client}
 use Rattle.clover_rule.specs.declared.view.View.{View}
@@ -30,7 +30,7 @@ use Rattle.clover_rule.proofs.Snocs.{unread_snoc, used_more, fresh_commit, withi
 use Rattle.clover_rule.proofs.Steps.{each_map, each_within, prefix_trans, prefix_self, within_prefix, Grows, Leaves, view_kept, nth_set, set_here, link_kept, durable_kept, past_kept, copied_kept}
 
 
-module _ (m0 : Map) (used : List ℕ) (m : Mem) (vs : List View) (st : Story) (h : List Entry) (r : Rule m0 used m vs st h)
+module _ (m0 : Map) (used : List ℕ) (m : Mem) (vs : List View) (st : Story) (h : List Entry) (r : Basis m0 used m vs st h)
          (id : ℕ) (v : View) (at : nth vs id ≡ Some v) (s : ℕ) (k : List ℕ) (t : ℕ) (tail : Within (s, t) v.pass.durable) (name : Within (s, k) v.pass.names) (found : m.next (home t) ≡ word (age t) None) where
   pub ok : ViewOk m st h id v
   ok = r.views id v at
@@ -141,7 +141,7 @@ module _ (m0 : Map) (used : List ℕ) (m : Mem) (vs : List View) (st : Story) (h
     was : (i1 : ℕ) (a : View) → nth (renewed vs id v') i1 ≡ Some a → (y : View) × (nth vs i1 ≡ Some y) × (y.pass.role ≡ a.pass.role)
     was i1 a q = ⊎_elim {C = (y : View) × (nth vs i1 ≡ Some y) × (y.pass.role ≡ a.pass.role)} (λ d. (v, ap (nth vs) d.0 ∙ at, ap (λ (z : View). z.pass.role) d.1)) (λ d. (a, d.1, refl)) (nth_set vs id i1 v' a q)
 
-    pub decide_rule : Rule m0 used m (renewed vs id v') st h'
+    pub decide_rule : Basis m0 used m (renewed vs id v') st h'
     decide_rule = record {
         core = r.core;
         tale = tale';

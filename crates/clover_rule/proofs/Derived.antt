@@ -32,24 +32,30 @@ within_drop zero (suc i) (x ∷ ws) w e h = inr (within_drop zero i ws w e (omeg
 within_drop (suc p) zero (x ∷ ws) w e h = absurd (omega arith)
 within_drop (suc p) (suc i) (x ∷ ws) w e h = within_drop p i ws w e (omega arith)
 
-drop_within : (p : ℕ) (ws : List Version) (t : ℕ) → Within t (tags (drop p ws)) → (i : ℕ) × (p ≤ i) × (tag_in_version (nth ws i) ≡ Some t)
+pub drop_within : (p : ℕ) (ws : List Version) (t : ℕ) → Within t (tags (drop p ws)) → (i : ℕ) × (p ≤ i) × (tag_in_version (nth ws i) ≡ Some t)
 drop_within zero [] t w = absurd w
 drop_within (suc p) [] t w = absurd w
 drop_within zero (x ∷ ws) t w = ⊎_elim (λ q. (zero, omega arith, ap Some q)) (λ q. let r = drop_within zero ws t q in (suc r.0, omega arith, r.2)) w
 drop_within (suc p) (x ∷ ws) t w = let r = drop_within p ws t w in (suc r.0, let q = r.1 in omega arith, r.2)
 
+-- the chain of a slot, and the version under recycling, from the store of the root on
+abbrev pub chain_of : Story → ℕ → List ℕ
+chain_of st s = tags (drop (st.lead s) (st.log s))
+
+abbrev pub recycled_of : Story → ℕ → Option ℕ
+recycled_of st s = cond (eqb (st.lead s) (st.gone s)) None (tag_at st s (st.gone s))
+
 module _ (m : Mem) (st : Story) (c : Core m st) where
   abbrev chain : ℕ → List ℕ
-  chain s = tags (drop (st.lead s) (st.log s))
+  chain s = chain_of st s
 
-  -- the version under recycling, from the store of the root on
   abbrev held : ℕ → Option ℕ
-  held s = cond (eqb (st.lead s) (st.gone s)) None (tag_at st s (st.gone s))
+  held s = recycled_of st s
 
-  on_chain : (s i t : ℕ) → tag_at st s i ≡ Some t → st.lead s ≤ i → Within t (chain s)
+  pub on_chain : (s i t : ℕ) → tag_at st s i ≡ Some t → st.lead s ≤ i → Within t (chain s)
   on_chain s i t e h = let w = tag_there st s i t e in subst (λ (x : ℕ). Within x (chain s)) w.2 (within_drop (st.lead s) i (st.log s) w.0 w.1 h)
 
-  is_held : (s i t : ℕ) → tag_at st s i ≡ Some t → st.gone s ≤ i → i < st.lead s → held s ≡ Some t
+  pub is_held : (s i t : ℕ) → tag_at st s i ≡ Some t → st.gone s ≤ i → i < st.lead s → held s ≡ Some t
   is_held s i t e g h = let d = c.led s in let q : i ≡ st.gone s = omega arith in let n : st.lead s ≢ st.gone s = λ z. omega arith in rw (ne_eqb (st.lead s) (st.gone s) n) (ap (tag_at st s) (sym q) ∙ e)
 
   pub known : (s t : ℕ) → Durable st s t → IsKnown m chain held s t
@@ -136,7 +142,7 @@ module _ (m : Mem) (st : Story) (c : Core m st) where
 unfoldable pub tag_of : ℕ → ℕ → ℕ
 tag_of b a = b * 1048576 + a
 
-tag_of_own : (t : ℕ) → tag_of (home t) (age t) ≡ t
+pub tag_of_own : (t : ℕ) → tag_of (home t) (age t) ≡ t
 unfolding tag_of home age
 tag_of_own t = omega arith
 
@@ -160,7 +166,7 @@ top_falls : (a : ℕ) (o : Option ℕ) (rest : List Next) → Falls (a + a) rest
 top_falls a None rest h = (omega arith, h)
 top_falls a (Some t) rest h = (omega arith, (omega arith, h))
 
-values_fall : (st : Story) (b a : ℕ) → Falls (suc (suc (a + a))) (values st b a)
+pub values_fall : (st : Story) (b a : ℕ) → Falls (suc (suc (a + a))) (values st b a)
 values_fall st b zero = top_falls zero (linked_to st (tag_of b zero)) [] tt
 values_fall st b (suc a) = top_falls (suc a) (linked_to st (tag_of b (suc a))) (values st b a) (subst (λ (n : ℕ). Falls n (values st b a)) (let e : suc (suc (a + a)) ≡ suc a + suc a = omega arith in e) (values_fall st b a))
 

@@ -11,7 +11,7 @@ use Rattle.clover_rule.specs.History.{Map, own}
 use Rattle.clover_rule.specs.Lists.{nth, upd}
 use Rattle.clover_rule.specs.Server.{Ready, Stage, Help, root_in, is_home, book_of, Serves, Whole, IsWhole, ServerStep, LoadRoot, FlushLink, StoreRoot, StoreFlushedRoot, ExchangeRoot, FreeOld, Begin, FlushMeta, StoreKey, FlushKey, BindRoot, BindFlushedRoot, StoreCount, freed, served_view, ServerLaw}
 use Rattle.clover_rule.specs.State.{home, age, Next, word, gen, link, Mem, Place, Chained, Free, Worn, Taken, Story, tag_at, Core, Standing, greater, order, recycled_mem, recycled_story, only}
-use Rattle.clover_rule.specs.Views.{Book, book, Rule, renewed, book_at, root_at}
+use Rattle.clover_rule.specs.Views.{Book, book, Basis, renewed, book_at, root_at}
 use Rattle.clover_rule.specs.declared.view.BufferState.TheVariants.{Free as IsFree, Worn as IsWorn, Bound as IsBound, Out as IsOut}
 use Rattle.clover_rule.specs.declared.view.Role.TheVariants.{Serving}
 use Rattle.clover_rule.specs.declared.view.Task.TheVariants.{Idle, Both, Exchanged}
@@ -33,8 +33,8 @@ passes : (a b : ℕ) → a < b → ltb a b ≡ true
 passes a b h = grind (arith, nat_tests)
 
 module _ (l : Pool) (m0 : Map) (used : List ℕ) (m : Mem) (vs : List View) (id : ℕ) (v : View) (st : Story) (h : List Entry) (w : Whole l m0 used m vs st h) (at : nth vs id ≡ Some v) (role : v.pass.role ≡ Serving) where
-  abbrev ru : Rule m0 used m vs st h
-  ru = w.rule
+  abbrev ru : Basis m0 used m vs st h
+  ru = w.basis
 
   module _ (s r t : ℕ) (e : v.server.task ≡ Both s r t) where
     g : Stage l m st (Both s r t)
@@ -97,7 +97,7 @@ module _ (l : Pool) (m0 : Map) (used : List ℕ) (m : Mem) (vs : List View) (id 
           holds = λ b f. dite (ℕ_discrete b (home r)) (λ d. ap Some (sym d)) (λ d. absurd (let z : ◌≡◌ {A = Option ℕ} None (Some b) = g.holds b (sym (place_else b d) ∙ f) in cc));
           names = g.names;
           here = record { place = place_now; now = next_now; safe = stand.safe ∙ ap (λ (b : Bool). word (age r) (only b (tag_at st s (suc (st.gone s))))) (passes (suc (st.gone s)) (st.sure s) g.here.1) ∙ ap (word (age r)) g.here.0.next;
-            root = ap (tag_at st s) gone_now ∙ g.here.0.next; inside = range.0; young = range.1 } };
+            root = ap (tag_at st s) gone_now ∙ g.here.0.next; old = (st.gone s, sym gone_now, g.here.0.root); inside = range.0; young = range.1 } };
         short = p.short
       }
 

@@ -71,7 +71,7 @@ module _ (l : Pool) (m0 : Map) (used : List ℕ) (m : Mem) (vs : List View) (st 
   loose0 (Chained s) f = absurd f
 
   pub hand_core : Core m st'
-  hand_core = core_handed m st batch q w.rule.core tt (λ s e. cc) (each_map (λ t d. subst Loose (sym d) (loose0 q0 ready)) batch was)
+  hand_core = core_handed m st batch q w.basis.core tt (λ s e. cc) (each_map (λ t d. subst Loose (sym d) (loose0 q0 ready)) batch was)
 
   not_in : (b : ℕ) (x : Place) → st.place b ≡ x → x ≢ q0 → (ts : List ℕ) → Each (λ (t : ℕ). st.place (home t) ≡ q0) ts → Each (λ (t : ℕ). home t ≢ b) ts
   not_in b x e n [] f = tt
@@ -111,7 +111,7 @@ module _ (l : Pool) (m0 : Map) (used : List ℕ) (m : Mem) (vs : List View) (st 
       here (Raised s1 r1 t1) a = (record { root = a.0.root; next = a.0.next }, a.1)
       here (Led s1 r1 t1) a = (record { root = a.0.root; next = a.0.next }, a.1, a.2, a.3)
       here (Both s1 r1 t1) a = (record { root = a.0.root; next = a.0.next }, a.1, a.2, a.3)
-      here (Exchanged s1 r1 t1) a = record { place = held_kept (home r1) a.place; now = a.now; safe = a.safe; root = a.root; inside = a.inside; young = a.young }
+      here (Exchanged s1 r1 t1) a = record { place = held_kept (home r1) a.place; now = a.now; safe = a.safe; root = a.root; old = a.old; inside = a.inside; young = a.young }
 
   pub hand_spent : (y : ℕ) → Spent m st y → Spent m st' y
   hand_spent y (inl a) = inl a
@@ -134,8 +134,8 @@ module _ (l : Pool) (m0 : Map) (used : List ℕ) (m : Mem) (vs : List View) (st 
            (made : (i j n : ℕ) (y z : View) → nth vs' i ≡ Some y → nth vs' j ≡ Some z → y.pass.role ≡ Serving → z.pass.role ≡ Client n → Within n y.server.clients)
            (entered : (i : ℕ) (y : View) → nth vs' i ≡ Some y → y.pass.role ≡ Serving → Each (λ (e : Entry). Within e.client y.server.clients) h) where
     pub hand_whole : Whole l m0 used m vs' st' h
-    hand_whole = let r = w.rule in record {
-        rule = record { core = hand_core; tale = tale_copy st m0 used h r.tale (handed st.place batch q) st.gone st.lead st.flead st.named st.bindings st.task st.slot_named;
+    hand_whole = let r = w.basis in record {
+        basis = record { core = hand_core; tale = tale_copy st m0 used h r.tale (handed st.place batch q) st.gone st.lead st.flead st.named st.bindings st.task st.slot_named;
           bodies = r.bodies; spent = each_map hand_spent (used_by used h) r.spent; bound = r.bound; keyed = r.keyed; views = views; numbered = numbered; longest = longest };
         help = hand_help; serves = serves; one = one; safe = w.safe; made = made; entered = entered
       }
@@ -165,7 +165,7 @@ module _ (l : Pool) (m0 : Map) (used : List ℕ) (m : Mem) (vs : List View) (st 
   client_at i c y e s = ⊎_elim (λ a. inl (a.0, let z : Client n ≡ Client c = ap (λ (z : View). z.pass.role) a.1 ∙ s in cc)) (λ a. ⊎_elim (λ b. absurd (cc (ap (λ (z : View). z.pass.role) b.1, role, s))) (λ b. inr b.1) a) (made_case i y e)
 
   pub split_client : Whole l m0 used m views_then st h
-  split_client = let p = w.rule in hand_whole l m0 used m vs st h w [] Free (length vs) tt tt views_then
+  split_client = let p = w.basis in hand_whole l m0 used m vs st h w [] Free (length vs) tt tt views_then
       (λ i y e. ⊎_elim (λ a. rw (← a.1) (record { stocked = tt; apart = tt; durable = tt; links = tt; words = tt; written = tt; flushed = tt; copied = tt; names = (st.bindings, refl); added = inl refl; most = omega arith; history = (h, refl); calls = sym (none_own v.server.clients h fresh (w.entered id v at role)) }))
           (λ a. ⊎_elim (λ b. rw (b.0, ← b.1) (let k = p.views id v at in record { stocked = k.stocked; apart = k.apart; durable = k.durable; links = k.links; words = k.words; written = k.written; flushed = k.flushed; copied = k.copied; names = k.names; added = k.added; most = k.most; history = k.history; calls = k.calls })) (λ b. p.views i y b.1) a) (made_case i y e))
       (λ i j c y z e f s t. ⊎_elim (λ a. ⊎_elim (λ b. a.0 ∙ sym b.0) (λ b. absurd (fresh (subst (λ (x : ℕ). Within x v.server.clients) a.1 (w.made id j c v z at b role t)))) (client_at j c z f t))

@@ -35,10 +35,10 @@ module _ (l : Pool) (m0 : Map) (used : List ℕ) (m : Mem) (vs : List View) (st 
   joined_list = set (set vs id joining) j spent_view
 
   okv : ViewOk m st h id v
-  okv = w.rule.views id v at
+  okv = w.basis.views id v at
 
   oky : ViewOk m st h j y
-  oky = w.rule.views j y there_at
+  oky = w.basis.views j y there_at
 
   was : Each (λ (t : ℕ). st.place (home t) ≡ Stocked j) y.pass.stock
   was = each_map (λ t d. d.0) y.pass.stock oky.stocked
@@ -80,7 +80,7 @@ module _ (l : Pool) (m0 : Map) (used : List ℕ) (m : Mem) (vs : List View) (st 
         (hand_case l m0 used m vs st h w y.pass.stock (Stocked j) id tt was b) }
 
   pub join_whole : Whole l m0 used m joined_list st1 h
-  join_whole = let p = w.rule in hand_whole l m0 used m vs st h w y.pass.stock (Stocked j) id tt was joined_list
+  join_whole = let p = w.basis in hand_whole l m0 used m vs st h w y.pass.stock (Stocked j) id tt was joined_list
       (λ i a e. ⊎_elim (λ b. rw (← b.1) (record { stocked = tt; apart = tt; durable = tt; links = tt; words = tt; written = tt; flushed = tt; copied = tt; names = (st.bindings, refl); added = inl refl; most = omega arith; history = (h, refl); calls = tt }))
           (λ b. ⊎_elim (λ c. rw (c.0, ← c.1) ok_join) (λ c. hand_view l m0 used m vs st h w y.pass.stock (Stocked j) id tt was i a (λ z. c.1 (let z1 : Stocked i ≡ Stocked j = z in cc)) (p.views i a c.2)) b) (cases i a e))
       (λ i k c a b e f s t. let x = old i a e (λ z. absurd (cc (z, s))) in let z = old k b f (λ z. absurd (cc (z, t))) in p.numbered i k c x.0 z.0 x.1 z.1 (x.2 ∙ s) (z.2 ∙ t))

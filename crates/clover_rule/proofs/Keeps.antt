@@ -163,7 +163,7 @@ module _ (p : Pool) (first : Tagged) (used : List ℕ) (ws : List ℕ) (vs : Lis
         (λ n. load_next b a s t refl refl hw tt may.client may.tail 1)
 
   own_range : (t : ℕ) (rest : List ℕ) → v.pass.stock ≡ t ∷ rest → InRange p t
-  own_range t rest e = let o = (subst (Each (Owned m st id)) e (r.whole.rule.views id v at).stocked).0 in let g = r.whole.help.ranged.ready (home t) (subst Ready (sym o.0) tt) in (g.0, let q = o.1 in let z = g.1 in omega arith)
+  own_range t rest e = let o = (subst (Each (Owned m st id)) e (r.whole.basis.views id v at).stocked).0 in let g = r.whole.help.ranged.ready (home t) (subst Ready (sym o.0) tt) in (g.0, let q = o.1 in let z = g.1 in omega arith)
 
   -- the exchange that wrote
   link_wrote : (s u t : ℕ) (c : Call) (rest : List ℕ) → MayLink v (client v) s (named c) u t (value_of c) rest → Fits p (value_of c) → MayCall v s u c → m.next (home u) ≡ word (age u) None
@@ -197,8 +197,8 @@ module _ (p : Pool) (first : Tagged) (used : List ℕ) (ws : List ℕ) (vs : Lis
 
   flushed_link : (l : Link) (i : ℕ) → tag_at st l.slot i ≡ Some l.from → tag_at st l.slot (suc i) ≡ Some l.to → gen (m.fnext (home l.from)) ≡ age l.from → (m.fnext (home l.from) ≡ word (age l.from) None) ⊎ (m.fnext (home l.from) ≡ word (age l.from) (Some l.to))
   flushed_link l i e f g = dite (dec_le (st.gone l.slot) i)
-      (λ d. let x = (r.whole.rule.core.standing l.slot i l.from e d).safe in either_way (ltb (suc i) (st.sure l.slot)) x)
-      (λ d. let x = (r.whole.rule.core.passed l.slot i l.from e (omega arith)).safe in ⊎_elim (λ q. absurd (omega arith)) (λ q. inr (q ∙ ap (word (age l.from)) f)) x)
+      (λ d. let x = (r.whole.basis.core.standing l.slot i l.from e d).safe in either_way (ltb (suc i) (st.sure l.slot)) x)
+      (λ d. let x = (r.whole.basis.core.passed l.slot i l.from e (omega arith)).safe in ⊎_elim (λ q. absurd (omega arith)) (λ q. inr (q ∙ ap (word (age l.from)) f)) x)
     where
       either_way : (b : Bool) → m.fnext (home l.from) ≡ word (age l.from) (only b (tag_at st l.slot (suc i))) → (m.fnext (home l.from) ≡ word (age l.from) None) ⊎ (m.fnext (home l.from) ≡ word (age l.from) (Some l.to))
       either_way true x = inr (x ∙ ap (word (age l.from)) f)
@@ -210,7 +210,7 @@ module _ (p : Pool) (first : Tagged) (used : List ℕ) (ws : List ℕ) (vs : Lis
       let a : Step = RaiseNext l in
       let x : ℕ = found p a ws in
       let i : inside p (home l.from) ≡ true = inside_of p (home l.from) hw in
-      let k : IsLink st l = known m0 used m vs st h r.whole.rule id v at l d in
+      let k : IsLink st l = known m0 used m vs st h r.whole.basis id v at l d in
       let target : InRange p l.to = r.whole.help.ranged.tags l.slot (suc k.0) l.to k.2 in
       let n : Next = word (age l.from) (Some l.to) in
       let o : Next = next_of x in

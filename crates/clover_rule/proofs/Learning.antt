@@ -8,15 +8,16 @@ use Rattle.clover_map.specs.declared.call.Entry.{Entry}
 use Rattle.clover_rule.specs.History.{Map, used_by}
 use Rattle.clover_rule.specs.Lists.{upd, Each, Within, nth}
 use Rattle.clover_rule.specs.Server.{Whole}
-use Rattle.clover_rule.specs.State.{Next, word, gen, link, home, age, Mem, Story, Core, Place, Chained, Stocked, Free, Worn, Taken, Loose, tag_at, now_at, greatest, Durable}
+use Rattle.clover_rule.specs.State.{Next, word, home, age, Mem, Story, Core, tag_at, greatest, Durable}
 use Rattle.clover_rule.specs.Steps.{IsClient, client, seen, started, counts, counted}
-use Rattle.clover_rule.specs.Views.{Rule, ViewOk, renewed, Past, IsLink, shown}
+use Rattle.clover_rule.specs.Views.{Basis, ViewOk, renewed, Past, IsLink, shown}
 use Rattle.clover_rule.specs.declared.access.Act.{Act}
 use Rattle.clover_rule.specs.declared.view.View.{View}
 use Rattle.clover_words.specs.declared.pool.Pool.{Pool}
 use Rattle.clover_rule.proofs.Tools.{upd_same, upd_else, nth_within}
 use Rattle.clover_rule.proofs.Standings.{tag_there, tag_within}
 use Rattle.clover_rule.proofs.Steps.{each_map, each_within, set_here}
+use Rattle.clover_rule.proofs.Derived.{current_past}
 use Rattle.clover_rule.proofs.Quiet.{loaded_link, loaded_root, loaded_body}
 use Rattle.clover_rule.proofs.ClientLaws.{quiet_whole, short_whole}
 use Rattle.clover_rule.proofs.ServerTools.{core_copy}
@@ -29,42 +30,23 @@ set_set (x ∷ vs) (suc i) a b = ap (λ (l : List _). x ∷ l) (set_set vs i a b
 pub most_kept : (a b c : ℕ) → a ≤ c → b ≤ c → greatest a b ≤ c
 most_kept a b c h i = grind (arith, nat_tests)
 
--- the present value of a next word is one that it has or had
-pub past_now : (m : Mem) (st : Story) → Core m st → (b : ℕ) → Past m st b (m.next b)
-past_now m st c b = at (st.place b) refl
-  where
-    bare : link (m.next b) ≡ None → Past m st b (m.next b)
-    bare e = (omega arith, inl e)
-    at : (q : Place) → st.place b ≡ q → Past m st b (m.next b)
-    at (Chained s) e = let a = c.chained b s e in let x = c.standing s a.0 a.1 a.2 a.3 in
-        let nx : m.next b ≡ now_at st s a.0 a.1 = ap m.next (sym a.4) ∙ x.now in
-        chain (tag_at st s (suc a.0)) refl nx
-      where
-        chain : (o : Option ℕ) → tag_at st s (suc (c.chained b s e).0) ≡ o → m.next b ≡ now_at st s (c.chained b s e).0 (c.chained b s e).1 → Past m st b (m.next b)
-        chain None f nx = bare (ap link nx ∙ f)
-        chain (Some u) f nx = let a = c.chained b s e in (omega arith, inr (record { slot = s; from = a.1; to = u }, (a.0, a.2, f), a.4, sym (ap gen nx), ap link nx ∙ f))
-    at (Stocked i) e = bare (c.loose b (subst Loose (sym e) tt)).0
-    at Free e = bare (c.loose b (subst Loose (sym e) tt)).0
-    at Worn e = bare (c.loose b (subst Loose (sym e) tt)).0
-    at Taken e = bare (c.held b e)
-
 module _ (p : Pool) (m0 : Map) (used : List ℕ) (m : Mem) (vs : List View) (st : Story) (h : List Entry) (w : Whole p m0 used m vs st h) (id : ℕ) (v : View) (at : nth vs id ≡ Some v) (cl : IsClient v) where
   ok : ViewOk m st h id v
-  ok = w.rule.views id v at
+  ok = w.basis.views id v at
 
   pub seen_whole : (s t : ℕ) → Within (s, t) v.pass.durable → (n : Next) → m.next (home t) ≡ n → Whole p m0 used m (renewed vs id (seen s t v n)) st h
   seen_whole s t d (word a None) e = quiet_whole p m0 used m vs st h w id v at (client v) cl (seen s t v (word a None)) refl refl
-      record { stocked = ok.stocked; apart = ok.apart; durable = ok.durable; links = ok.links; words = (subst (Past m st (home t)) e (past_now m st w.rule.core (home t)), ok.words); written = ok.written; flushed = ok.flushed; copied = ok.copied; names = ok.names; added = ok.added; most = ok.most; history = ok.history; calls = ok.calls }
+      record { stocked = ok.stocked; apart = ok.apart; durable = ok.durable; links = ok.links; words = (subst (Past m st (home t)) e (current_past m st w.basis.core (home t)), ok.words); written = ok.written; flushed = ok.flushed; copied = ok.copied; names = ok.names; added = ok.added; most = ok.most; history = ok.history; calls = ok.calls }
   seen_whole s t d (word a (Some u)) e = go (eqb a (age t)) refl
     where
       seen_link : Bool → View
       seen_link b = record v { pass = record v.pass { words = shown (home t) a (Some u) ∷ v.pass.words; links = cond b (record { slot = s; from = t; to = u } ∷ v.pass.links) v.pass.links } }
       linked : (b : Bool) → eqb a (age t) ≡ b → Each (IsLink st) (cond b (record { slot = s; from = t; to = u } ∷ v.pass.links) v.pass.links)
-      linked true q = (loaded_link m st w.rule.core s t (each_within (λ (z : ℕ × ℕ). Durable st z.0 z.1) (s, t) v.pass.durable ok.durable d) u (e ∙ ap (λ (y : ℕ). word y (Some u)) (eqb-true a (age t) q)), ok.links)
+      linked true q = (loaded_link m st w.basis.core s t (each_within (λ (z : ℕ × ℕ). Durable st z.0 z.1) (s, t) v.pass.durable ok.durable d) u (e ∙ ap (λ (y : ℕ). word y (Some u)) (eqb-true a (age t) q)), ok.links)
       linked false q = ok.links
       go : (b : Bool) → eqb a (age t) ≡ b → Whole p m0 used m (renewed vs id (record v { pass = record v.pass { words = shown (home t) a (Some u) ∷ v.pass.words; links = cond b (record { slot = s; from = t; to = u } ∷ v.pass.links) v.pass.links } })) st h
       go b q = quiet_whole p m0 used m vs st h w id v at (client v) cl (record v { pass = record v.pass { words = shown (home t) a (Some u) ∷ v.pass.words; links = cond b (record { slot = s; from = t; to = u } ∷ v.pass.links) v.pass.links } }) refl refl
-        record { stocked = ok.stocked; apart = ok.apart; durable = ok.durable; links = linked b q; words = (subst (Past m st (home t)) e (past_now m st w.rule.core (home t)), ok.words); written = ok.written; flushed = ok.flushed; copied = ok.copied; names = ok.names; added = ok.added; most = ok.most; history = ok.history; calls = ok.calls }
+        record { stocked = ok.stocked; apart = ok.apart; durable = ok.durable; links = linked b q; words = (subst (Past m st (home t)) e (current_past m st w.basis.core (home t)), ok.words); written = ok.written; flushed = ok.flushed; copied = ok.copied; names = ok.names; added = ok.added; most = ok.most; history = ok.history; calls = ok.calls }
 
   pub started_whole : (s : ℕ) (o : Option ℕ) → ((t : ℕ) → o ≡ Some t → Durable st s t) → Whole p m0 used m (renewed vs id (started s v o)) st h
   started_whole s None f = quiet_whole p m0 used m vs st h w id v at (client v) cl v refl refl ok
@@ -72,7 +54,7 @@ module _ (p : Pool) (m0 : Map) (used : List ℕ) (m : Mem) (vs : List View) (st 
       record { stocked = ok.stocked; apart = ok.apart; durable = (f t refl, ok.durable); links = ok.links; words = ok.words; written = ok.written; flushed = ok.flushed; copied = ok.copied; names = ok.names; added = ok.added; most = ok.most; history = ok.history; calls = ok.calls }
 
   pub root_durable : (s t : ℕ) → m.root s ≡ Some t → Durable st s t
-  root_durable s t e = let a : tag_at st s (st.lead s) ≡ Some t = sym (w.rule.core.root s) ∙ e in let b = tag_within st s (st.lead s) t a in (st.lead s, a, w.rule.core.rooted s (omega arith))
+  root_durable s t e = let a : tag_at st s (st.lead s) ≡ Some t = sym (w.basis.core.root s) ∙ e in let b = tag_within st s (st.lead s) t a in (st.lead s, a, w.basis.core.rooted s (omega arith))
 
   pub copied_whole : (s t j : ℕ) → Within (s, t) v.pass.durable → Whole p m0 used m (renewed vs id (record v { pass = record v.pass { copied = (s, record { tag = t; place = j; word = m.body (home t) j }) ∷ v.pass.copied } })) st h
   copied_whole s t j d =
@@ -80,7 +62,7 @@ module _ (p : Pool) (m0 : Map) (used : List ℕ) (m : Mem) (vs : List View) (st 
       let y = tag_there st s k.0 t k.1 in
       quiet_whole p m0 used m vs st h w id v at (client v) cl (record v { pass = record v.pass { copied = (s, record { tag = t; place = j; word = m.body (home t) j }) ∷ v.pass.copied } }) refl refl
       record { stocked = ok.stocked; apart = ok.apart; durable = ok.durable; links = ok.links; words = ok.words; written = ok.written; flushed = ok.flushed;
-          copied = (loaded_body m st w.rule.core s t k y.0 y.1 (λ g. w.rule.bodies s k.0 y.0 y.1 g) j, ok.copied); names = ok.names; added = ok.added; most = ok.most; history = ok.history; calls = ok.calls }
+          copied = (loaded_body m st w.basis.core s t k y.0 y.1 (λ g. w.basis.bodies s k.0 y.0 y.1 g) j, ok.copied); names = ok.names; added = ok.added; most = ok.most; history = ok.history; calls = ok.calls }
 
   pub counts_whole : Whole p m0 used m (renewed vs id (counts v m.count)) st h
   counts_whole = quiet_whole p m0 used m vs st h w id v at (client v) cl (counts v m.count) refl refl
@@ -89,7 +71,7 @@ module _ (p : Pool) (m0 : Map) (used : List ℕ) (m : Mem) (vs : List View) (st 
   -- a shortcut that is stored
   pub lead_whole : (s t : ℕ) → Within (s, t) v.pass.durable → Whole p m0 used (record m { short = upd m.short s (Some t) }) (renewed vs id v) st h
   lead_whole s t d = short_whole p m0 used m vs st h w id v at (client v) s t cl d
-      (let r : Rule m0 used m (renewed vs id v) st h = (quiet_whole p m0 used m vs st h w id v at (client v) cl v refl refl ok).rule in record {
+      (let r : Basis m0 used m (renewed vs id v) st h = (quiet_whole p m0 used m vs st h w id v at (client v) cl v refl refl ok).basis in record {
         core = core_copy m st r.core m.body m.fbody m.key m.fkey (upd m.short s (Some t)) m.count st.keys st.first st.bindings st.task st.slot_named;
         tale = r.tale; bodies = r.bodies; spent = each_map (λ y a. a) (used_by used h) r.spent; bound = r.bound; keyed = r.keyed; numbered = r.numbered; longest = r.longest;
         views = λ i y q. let a = r.views i y q in record { stocked = each_map (λ y1 b. b) y.pass.stock a.stocked; apart = a.apart; durable = a.durable; links = a.links; words = each_map (λ y1 b. b) y.pass.words a.words; written = each_map (λ y1 b. b) y.pass.written a.written; flushed = each_map (λ y1 b. b) y.pass.flushed a.flushed; copied = a.copied; names = a.names; added = a.added; most = a.most; history = a.history; calls = a.calls } })
@@ -98,7 +80,7 @@ module _ (p : Pool) (m0 : Map) (used : List ℕ) (m : Mem) (vs : List View) (st 
 pub recount : (p : Pool) (m0 : Map) (used : List ℕ) (m : Mem) (vs : List View) (st : Story) (h : List Entry) (id : ℕ) (v : View) → nth vs id ≡ Some v → (y : View) → IsClient y → (first : Bool) (a : Act) (n : ℕ) → Whole p m0 used m (renewed vs id y) st h → Whole p m0 used m (renewed vs id (counted first a n y)) st h
 recount p m0 used m vs st h id v at y cl first a n w =
     let here : nth (renewed vs id y) id ≡ Some y = set_here vs id y v at in
-    let ok : ViewOk m st h id y = w.rule.views id y here in
+    let ok : ViewOk m st h id y = w.basis.views id y here in
     subst (λ (l : List View). Whole p m0 used m l st h) (set_set vs id y (counted first a n y))
       (quiet_whole p m0 used m (renewed vs id y) st h w id y here (client y) cl (counted first a n y) refl refl
         record { stocked = ok.stocked; apart = ok.apart; durable = ok.durable; links = ok.links; words = ok.words; written = ok.written; flushed = ok.flushed; copied = ok.copied; names = ok.names; added = ok.added; most = ok.most; history = ok.history; calls = ok.calls })

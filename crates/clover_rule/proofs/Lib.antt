@@ -1,4 +1,5 @@
 pub mod Keys
+pub mod TwelveParts
 pub mod Telling
 pub mod Keeps
 pub mod Keeping
@@ -16,7 +17,6 @@ pub mod Cuts
 pub mod Steps
 pub mod Snocs
 pub mod RaiseLaw
-pub mod ChainsB
 pub mod Roots
 pub mod Derived
 pub mod Quiet

@@ -10,7 +10,7 @@ use Rattle.clover_rule.specs.History.{Map, own, used_by}
 use Rattle.clover_rule.specs.Lists.{nth}
 use Rattle.clover_rule.specs.Server.{Ready, unnamed, AtStage, Help, is_home, book_of, Whole}
 use Rattle.clover_rule.specs.State.{gen, Mem, Place, Chained, Stocked, Free, Worn, Taken, Loose, Story, Core}
-use Rattle.clover_rule.specs.Views.{alone, empty_pass, book, Owned, ViewOk, Rule}
+use Rattle.clover_rule.specs.Views.{alone, empty_pass, book, Owned, ViewOk, Basis}
 use Rattle.clover_rule.specs.declared.view.BufferState.TheVariants.{Bound as IsBound, Out as IsOut}
 use Rattle.clover_rule.specs.declared.view.Role.TheVariants.{Client, Noting}
 use Rattle.clover_rule.specs.declared.view.Task.{Task}
@@ -72,8 +72,8 @@ module _ (l : Pool) (m0 : Map) (used : List ℕ) (m : Mem) (vs vs' : List View) 
   abbrev pub st' : Story
   st' = record st { place = λ (b : ℕ). moved f (st.place b) }
 
-  abbrev r : Rule m0 used m vs st h
-  r = w.rule
+  abbrev r : Basis m0 used m vs st h
+  r = w.basis
 
   owned : (i t : ℕ) → Owned m st i t → Owned m st' (f i) t
   owned i t d = (ap (moved f) d.0, d.1)
@@ -102,7 +102,7 @@ module _ (l : Pool) (m0 : Map) (used : List ℕ) (m : Mem) (vs vs' : List View) 
   here (Raised s1 r1 t1) a = (record { root = a.0.root; next = a.0.next }, a.1)
   here (Led s1 r1 t1) a = (record { root = a.0.root; next = a.0.next }, a.1, a.2, a.3)
   here (Both s1 r1 t1) a = (record { root = a.0.root; next = a.0.next }, a.1, a.2, a.3)
-  here (Exchanged s1 r1 t1) a = record { place = ap (moved f) a.place; now = a.now; safe = a.safe; root = a.root; inside = a.inside; young = a.young }
+  here (Exchanged s1 r1 t1) a = record { place = ap (moved f) a.place; now = a.now; safe = a.safe; root = a.root; old = a.old; inside = a.inside; young = a.young }
 
   help' : Help l m st'
   help' = let p = w.help in record {
@@ -121,7 +121,7 @@ module _ (l : Pool) (m0 : Map) (used : List ℕ) (m : Mem) (vs vs' : List View) 
 
   pub moved_whole : Whole l m0 used m vs' st' h
   moved_whole = record {
-      rule = record { core = core'; tale = tale_copy st m0 used h r.tale st'.place st.gone st.lead st.flead st.named st.bindings st.task st.slot_named;
+      basis = record { core = core'; tale = tale_copy st m0 used h r.tale st'.place st.gone st.lead st.flead st.named st.bindings st.task st.slot_named;
         bodies = r.bodies; spent = each_map (λ y q. ⊎_elim inl (λ a. inr (a.0, ap (moved f) a.1, a.2)) q) (used_by used h) r.spent; bound = r.bound; keyed = r.keyed;
         views = λ k y e. let a = back k y e in rw (← a.2) (view_moved a.0 y (r.views a.0 y a.1));
         numbered = λ i j n y z e g a b. let c = back i y e in let d = back j z g in sym c.2 ∙ ap f (r.numbered c.0 d.0 n y z c.1 d.1 a b) ∙ d.2;
@@ -140,6 +140,6 @@ module _ (l : Pool) (m0 : Map) (used : List ℕ) (m : Mem) (vs : List View) (st 
   note = alone (record (empty_pass v.pass Noting) { names = v.pass.names; most = v.pass.most; history = v.pass.history })
 
   pub note_whole : Whole l m0 used m (set vs id v ++ note ∷ []) st h
-  note_whole = let k = w.rule.views id v at in split_whole l m0 used m vs st h w id v v note at [] tt refl refl refl (λ e. cc) (λ c e. cc) k
+  note_whole = let k = w.basis.views id v at in split_whole l m0 used m vs st h w id v v note at [] tt refl refl refl (λ e. cc) (λ c e. cc) k
       (record { stocked = tt; apart = tt; durable = tt; links = tt; words = tt; written = tt; flushed = tt; copied = tt; names = k.names; added = inl refl; most = k.most; history = k.history; calls = tt })
       (λ e. absurd (cc (role, e))) (λ sv e q. e)

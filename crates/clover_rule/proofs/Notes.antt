@@ -64,10 +64,10 @@ module _ (l : Pool) (m0 : Map) (used : List ℕ) (m : Mem) (vs : List View) (st 
   joined_list = set (set vs id joining) j spent_view
 
   okv : ViewOk m st h id v
-  okv = w.rule.views id v at
+  okv = w.basis.views id v at
 
   oky : ViewOk m st h j y
-  oky = w.rule.views j y there_at
+  oky = w.basis.views j y there_at
 
   abbrev st1 : Story
   st1 = st
@@ -86,7 +86,7 @@ module _ (l : Pool) (m0 : Map) (used : List ℕ) (m : Mem) (vs : List View) (st 
   old i a e d = ⊎_elim (λ b. absurd (d (ap (λ (q : View). q.pass.role) b.1))) (λ b. ⊎_elim (λ c. (v, ap (nth vs) c.0 ∙ at, ap (λ (q : View). q.pass.role) c.1, ap (λ (q : View). q.server) c.1)) (λ c. (a, c.2, refl, refl)) b) (cases i a e)
 
   pub join_note : Whole l m0 used m joined_list st1 h
-  join_note = let p = w.rule in hand_whole l m0 used m vs st h w [] (Stocked j) id tt tt joined_list
+  join_note = let p = w.basis in hand_whole l m0 used m vs st h w [] (Stocked j) id tt tt joined_list
       (λ i a e. ⊎_elim (λ b. rw (← b.1) (record { stocked = tt; apart = tt; durable = tt; links = tt; words = tt; written = tt; flushed = tt; copied = tt; names = (st.bindings, refl); added = inl refl; most = omega arith; history = (h, refl); calls = tt }))
           (λ b. ⊎_elim (λ c. rw (c.0, ← c.1) ok_join) (λ c. p.views i a c.2) b) (cases i a e))
       (λ i k c a b e f s t. let x = old i a e (λ z. absurd (cc (z, s))) in let z = old k b f (λ z. absurd (cc (z, t))) in p.numbered i k c x.0 z.0 x.1 z.1 (x.2 ∙ s) (z.2 ∙ t))

@@ -236,7 +236,7 @@ module _ (l : Pool) (im : Image) (sound : Sound l im) (m0 : Map) (used : List �
 
     pub open_whole : Whole l m0 used m first_views opened []
     open_whole = record {
-        rule = record {
+        basis = record {
           core = open_core; tale = open_tale;
           bodies = λ s i w e g j y q. let a = versions_at (sound.chain s) (sound.value s) i w e in let b = (sound.contents s i w.tag a.0).1 j y (ap (λ (x : Option Value). nth (content x) j) (sym a.1) ∙ q) in ((o.body (home w.tag) j).0 ∙ b, (o.body (home w.tag) j).1 ∙ b);
           spent = each_map (λ t d. ⊎_elim (λ a. inl (let z = ap gen (o.next (home t)).0 in omega arith)) (λ a. inr (a.0, ap (λ (p : Option (ℕ × ℕ)). placed p (ready_test (home t))) a.2, a.3 ∙ sym (ap gen (o.next (home t)).0))) d.1) used o.used_is;

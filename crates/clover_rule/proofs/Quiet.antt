@@ -13,7 +13,7 @@ use Rattle.clover_map.specs.declared.call.Reply.TheVariants.{Stored}
 use Rattle.clover_rule.specs.History.{Version, Map, own}
 use Rattle.clover_rule.specs.Lists.{nth}
 use Rattle.clover_rule.specs.State.{home, age, word, gen, Mem, Story, tag_in_version, tag_at, now_at, Core, Durable}
-use Rattle.clover_rule.specs.Views.{Holds, IsLink, IsCopied, ViewOk, Rule, renewed}
+use Rattle.clover_rule.specs.Views.{Holds, IsLink, IsCopied, ViewOk, Basis, renewed}
 use Rattle.clover_rule.specs.declared.view.View.{View}
 use Rattle.clover_rule.proofs.Tools.{upd_same, upd_else, nth_within, nth_snoc, nth_front, nth_last}
 use Rattle.clover_rule.proofs.Standings.{tag_there, tag_within, tag_past, same_tag}
@@ -24,7 +24,7 @@ use Rattle.clover_rule.proofs.Steps.{each_map, each_within, prefix_trans, prefix
 
 
 -- one view is renewed by another of the same role, which knows true facts and has the same history or the longer one
-module _ (m0 : Map) (used : List ℕ) (m : Mem) (vs : List View) (st : Story) (h : List Entry) (r : Rule m0 used m vs st h)
+module _ (m0 : Map) (used : List ℕ) (m : Mem) (vs : List View) (st : Story) (h : List Entry) (r : Basis m0 used m vs st h)
          (id : ℕ) (v v' : View) (at : nth vs id ≡ Some v) (role : v'.pass.role ≡ v.pass.role) (past : v'.pass.history ≡ v.pass.history) (ok : ViewOk m st h id v') where
   views' : (i1 : ℕ) (v1 : View) → nth (renewed vs id v') i1 ≡ Some v1 → ViewOk m st h i1 v1
   views' i1 v1 q = go (nth_set vs id i1 v' v1 q)
@@ -43,7 +43,7 @@ module _ (m0 : Map) (used : List ℕ) (m : Mem) (vs : List View) (st : Story) (h
       go j a q w (yes d) = (id, v', set_here vs id v' v at, let z : v ≡ a = let zz : Some v ≡ Some a = sym at ∙ ap (nth vs) (sym d) ∙ q in cc in past ∙ ap (λ (y : View). y.pass.history) z ∙ w)
       go j a q w (no n) = (j, a, set_away vs id j v' n ∙ q, w)
 
-  pub quiet : Rule m0 used m (renewed vs id v') st h
+  pub quiet : Basis m0 used m (renewed vs id v') st h
   quiet = record {
       core = r.core;
       tale = r.tale;

@@ -13,7 +13,7 @@ use Rattle.clover_map.specs.declared.call.Reply.TheVariants.{Stored}
 use Rattle.clover_rule.specs.History.{Map}
 use Rattle.clover_rule.specs.Lists.{nth, Within}
 use Rattle.clover_rule.specs.State.{link, Mem, Stocked, Story, Core, Tale, unsure, raised_mem, raised_story, greatest}
-use Rattle.clover_rule.specs.Views.{IsLink, ViewOk, Rule, renewed, raise_view, RaiseLaw}
+use Rattle.clover_rule.specs.Views.{IsLink, ViewOk, Basis, renewed, raise_view, RaiseLaw}
 use Rattle.clover_rule.specs.declared.view.Link.{Link}
 use Rattle.clover_rule.specs.declared.view.View.{View}
 use Rattle.clover_rule.proofs.Tools.{upd_same, upd_else, nth_within, nth_snoc, nth_front, nth_last}
@@ -26,7 +26,7 @@ use Rattle.clover_rule.proofs.Steps.{each_map, each_within, prefix_trans, prefix
 use Rattle.clover_rule.proofs.Raising.{CanRaise, raise_core}
 use Rattle.clover_rule.proofs.Cuts.{unread_less}
 
-module _ (m0 : Map) (used : List ℕ) (m : Mem) (vs : List View) (st : Story) (h : List Entry) (r : Rule m0 used m vs st h)
+module _ (m0 : Map) (used : List ℕ) (m : Mem) (vs : List View) (st : Story) (h : List Entry) (r : Basis m0 used m vs st h)
          (id : ℕ) (v : View) (at : nth vs id ≡ Some v) (l : Link) (p : Within l v.pass.links) where
   ok : ViewOk m st h id v
   ok = r.views id v at
@@ -109,7 +109,7 @@ module _ (m0 : Map) (used : List ℕ) (m : Mem) (vs : List View) (st : Story) (h
       go j a q w (yes d) = (id, v', set_here vs id v' v at, let z : v ≡ a = let zz : Some v ≡ Some a = sym at ∙ ap (nth vs) (sym d) ∙ q in cc in ap (λ (y : View). y.pass.history) z ∙ w)
       go j a q w (no n) = (j, a, set_away vs id j v' n ∙ q, w)
 
-  pub rule' : Rule m0 used m' (renewed vs id v') st' h
+  pub rule' : Basis m0 used m' (renewed vs id v') st' h
   rule' = record {
       core = core';
       tale = tale';

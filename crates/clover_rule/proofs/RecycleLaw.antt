@@ -13,7 +13,7 @@ use Rattle.clover_map.specs.declared.call.Reply.TheVariants.{Stored}
 use Rattle.clover_rule.specs.History.{Map, used_by}
 use Rattle.clover_rule.specs.Lists.{nth}
 use Rattle.clover_rule.specs.State.{home, age, word, gen, Mem, Chained, Stocked, Taken, Story, Core, Tale, recycled_mem, recycled_story}
-use Rattle.clover_rule.specs.Views.{ViewOk, Spent, Rule, renewed}
+use Rattle.clover_rule.specs.Views.{ViewOk, Spent, Basis, renewed}
 use Rattle.clover_rule.specs.declared.view.View.{View}
 use Rattle.clover_rule.proofs.Tools.{upd_same, upd_else, nth_within, nth_snoc, nth_front, nth_last}
 use Rattle.clover_rule.proofs.Standings.{tag_there, tag_within, tag_past, same_tag}
@@ -25,7 +25,7 @@ use Rattle.clover_rule.proofs.Steps.{each_map, each_within, prefix_trans, prefix
 
 use Rattle.clover_rule.proofs.Recycling.{CanRecycle, recycle_core, stands, is, else_same, gone_cases, behind}
 
-module _ (m0 : Map) (used : List ℕ) (m : Mem) (vs : List View) (st : Story) (h : List Entry) (r : Rule m0 used m vs st h)
+module _ (m0 : Map) (used : List ℕ) (m : Mem) (vs : List View) (st : Story) (h : List Entry) (r : Basis m0 used m vs st h)
          (id : ℕ) (v v' : View) (at : nth vs id ≡ Some v) (s x : ℕ) (l : CanRecycle m st s x) where
   abbrev m' : Mem
   m' = recycled_mem m x
@@ -87,7 +87,7 @@ module _ (m0 : Map) (used : List ℕ) (m : Mem) (vs : List View) (st : Story) (h
         go j a q w (yes d) = (id, v', set_here vs id v' v at, let z : v ≡ a = let zz : Some v ≡ Some a = sym at ∙ ap (nth vs) (sym d) ∙ q in cc in past ∙ ap (λ (y : View). y.pass.history) z ∙ w)
         go j a q w (no n) = (j, a, set_away vs id j v' n ∙ q, w)
 
-    pub recycle_rule : Rule m0 used m' (renewed vs id v') st' h
+    pub recycle_rule : Basis m0 used m' (renewed vs id v') st' h
     recycle_rule = record {
         core = recycle_core m st s x r.core l;
         tale = tale';

@@ -58,7 +58,7 @@ module _ (l : Pool) (m0 : Map) (used : List ℕ) (m : Mem) (vs : List View) (st 
   role_dec Joined = no (λ e. cc)
 
   pub split_whole : Whole l m0 used m split_list (record st { place = handed st.place batch (Stocked (length vs)) }) h
-  split_whole = let p = w.rule in hand_whole l m0 used m vs st h w batch Free (length vs) tt was split_list
+  split_whole = let p = w.basis in hand_whole l m0 used m vs st h w batch Free (length vs) tt was split_list
       (λ i y e. ⊎_elim (λ a. rw (a.0, ← a.1) okx) (λ a. ⊎_elim (λ b. rw (b.0, ← b.1) okv) (λ b. hand_view l m0 used m vs st h w batch Free (length vs) tt was i y (λ z. absurd cc) (p.views i y b.1)) a) (cases i y e))
       (λ i j c y z e f s t. let a = old i y e (no_client_view c y s) in let b = old j z f (no_client_view c z t) in p.numbered i j c a.0 b.0 a.1 b.1 (a.2 ∙ s) (b.2 ∙ t))
       (let o = p.longest in longest_of o.0 o.1 o.2 o.3 (ℕ_discrete o.0 id))
@@ -164,7 +164,7 @@ module _ (l : Pool) (m0 : Map) (used : List ℕ) (m : Mem) (vs : List View) (st 
 
   pub grant_whole : Whole l m0 used m (set vs id granting ++ grant ∷ []) st1 h
   grant_whole = split_whole l m0 used m vs st h w id v granting grant at batch was refl refl refl (λ e. cc) (λ c e. cc)
-      (let a = hand_view l m0 used m vs st h w batch Free k tt was id v (λ z. absurd cc) (w.rule.views id v at) in record { stocked = a.stocked; apart = a.apart; durable = a.durable; links = a.links; words = a.words; written = a.written; flushed = a.flushed; copied = a.copied; names = a.names; added = a.added; most = a.most; history = a.history; calls = a.calls })
+      (let a = hand_view l m0 used m vs st h w batch Free k tt was id v (λ z. absurd cc) (w.basis.views id v at) in record { stocked = a.stocked; apart = a.apart; durable = a.durable; links = a.links; words = a.words; written = a.written; flushed = a.flushed; copied = a.copied; names = a.names; added = a.added; most = a.most; history = a.history; calls = a.calls })
       (record { stocked = hand_owned l m0 used m vs st h w batch Free k tt was batch was ages; apart = apart; durable = tt; links = tt; words = tt; written = tt; flushed = tt; copied = tt; names = (st.bindings, refl); added = inr part; most = omega arith; history = (h, refl); calls = tt })
       (λ e. record { task_is = sv.task_is; directory = sv.directory; roots = λ s1. sv.roots s1 ∙ root_kept st.task s1; books = books_then })
       (λ s e n. absurd (n role))

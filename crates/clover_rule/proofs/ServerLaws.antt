@@ -116,7 +116,7 @@ begin_law l s k t m0 used m vs id v (st, h, w) at role (e, f, i, j, ik, ns, nk) 
     let g : Stage l m st Idle = stage_at l m0 used m vs id v st h w at role Idle e in
     let sv : Serves l m st Idle v.server = serves_at l m0 used m vs id v st h w at role Idle e in
     let fr = free_place Idle st (st.place (home t)) (gen (m.next (home t))) (home t) (age t) (sym (sv.books (home t) i) ∙ f) in
-    let lo = w.rule.core.loose (home t) (subst Loose (sym fr.0) tt) in
+    let lo = w.basis.core.loose (home t) (subst Loose (sym fr.0) tt) in
     let nw : m.next (home t) ≡ word (age t) None = at_rest (m.next (home t)) (age t) fr.1 lo.0 in
     let rg = w.help.ranged.ready (home t) (subst Ready (sym fr.0) tt) in
     let dir : v.server.directory ≡ st.bindings = sv.directory ∙ append-nil st.bindings in

@@ -10,7 +10,7 @@ use Rattle.clover_rule.specs.History.{Version, Map, used_by}
 use Rattle.clover_rule.specs.Lists.{Each, nth, upd, Within}
 use Rattle.clover_rule.specs.Server.{unnamed, Help, root_in, is_home, book_of, Serves, Whole, ServerStep, LoadRoot, FlushLink, StoreRoot, StoreFlushedRoot, ExchangeRoot, FreeOld, Begin, FlushMeta, StoreKey, FlushKey, BindRoot, BindFlushedRoot, StoreCount, server_after, served_view}
 use Rattle.clover_rule.specs.State.{home, gen, link, Mem, Place, Chained, Stocked, Free, Worn, Taken, Loose, Story, Core, Tale}
-use Rattle.clover_rule.specs.Views.{book, Holds, Stands, ViewOk, Spent, Rule, renewed}
+use Rattle.clover_rule.specs.Views.{book, Holds, Stands, ViewOk, Spent, Basis, renewed}
 use Rattle.clover_rule.specs.declared.view.BufferState.TheVariants.{Free as IsFree, Bound as IsBound, Out as IsOut}
 use Rattle.clover_rule.specs.declared.view.Role.TheVariants.{Serving}
 use Rattle.clover_rule.specs.declared.view.Server.{Server}
@@ -63,8 +63,8 @@ clients_same l (StoreCount s k t) sv = refl
 
 module _ (l : Pool) (m0 : Map) (used : List ℕ) (m : Mem) (vs : List View) (st : Story) (h : List Entry) (w : Whole l m0 used m vs st h)
          (id : ℕ) (v : View) (at : nth vs id ≡ Some v) (role : v.pass.role ≡ Serving) (a : ServerStep) (m' : Mem) (st' : Story) (mv : Moves l m0 used m st h m' st') (sv : Serves l m' st' st'.task (server_after l a v.server)) where
-  abbrev r : Rule m0 used m vs st h
-  r = w.rule
+  abbrev r : Basis m0 used m vs st h
+  r = w.basis
 
   abbrev v' : View
   v' = served_view l a v
@@ -89,7 +89,7 @@ module _ (l : Pool) (m0 : Map) (used : List ℕ) (m : Mem) (vs : List View) (st 
       go j x q e (yes d) = (id, v', set_here vs id v' v at, let z : v ≡ x = let zz : Some v ≡ Some x = sym at ∙ ap (nth vs) (sym d) ∙ q in cc in ap (λ (y : View). y.pass.history) z ∙ e)
       go j x q e (no n) = (j, x, set_away vs id j v' n ∙ q, e)
 
-  rule' : Rule m0 used m' (renewed vs id v') st' h
+  rule' : Basis m0 used m' (renewed vs id v') st' h
   rule' = record {
       core = mv.core; tale = mv.tale; bodies = mv.bodies; spent = each_map mv.spent (used_by used h) r.spent; bound = mv.bound; keyed = mv.keyed;
       views = λ i1 x q. ⊎_elim (λ d. rw (d.0, ← d.1) ok) (λ d. kept i1 x (r.views i1 x d.1)) (nth_set vs id i1 v' x q);
@@ -99,7 +99,7 @@ module _ (l : Pool) (m0 : Map) (used : List ℕ) (m : Mem) (vs : List View) (st 
 
   pub whole : Whole l m0 used m' (renewed vs id v') st' h
   whole = record {
-      rule = rule';
+      basis = rule';
       help = mv.help;
       serves = λ i1 x q e. ⊎_elim (λ d. rw (← d.1) sv) (λ d. absurd (d.0 (w.one i1 id x v d.1 at e role))) (nth_set vs id i1 v' x q);
       one = λ i1 j1 x y qx qy rx ry. let x1 = was i1 x qx in let y1 = was j1 y qy in w.one i1 j1 x1.0 y1.0 x1.1 y1.1 (x1.2 ∙ rx) (y1.2 ∙ ry);

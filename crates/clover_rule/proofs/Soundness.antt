@@ -40,7 +40,7 @@ value_in (Some w) = w.value
 
 module _ (l : Pool) (m0 : Map) (used : List ℕ) (m : Mem) (vs : List View) (st : Story) (h : List Entry) (w : Whole l m0 used m vs st h) (im : Image) (is : IsImage m im) where
   abbrev c : Core m st
-  c = w.rule.core
+  c = w.basis.core
 
   abbrev p : Help l m st
   p = w.help
@@ -147,7 +147,7 @@ module _ (l : Pool) (m0 : Map) (used : List ℕ) (m : Mem) (vs : List View) (st 
       target = λ b t e. place_cases b t (st.place b) refl (⊎_elim (λ q. inl (sym (ap link q) ∙ e)) (λ q. inr (sym (ap link q) ∙ e)) (is.next b));
       root = λ s t e. let a = start s t e in p.ranged.tags s a.at t a.tag;
       key = λ s t e. let a = bound_root s t e in (a.0, p.keyed.valid s a.0 a.1, spelled s a.0 a.1);
-      same = λ s1 s2 t1 t2 k e1 e2 ik q1 q2. let a = bound_root s1 t1 e1 in let b = bound_root s2 t2 e2 in w.rule.keyed s2 s1 k (b.1 ∙ ap Some (one_key (im.key s2) b.0 k (p.keyed.valid s2 b.0 b.1) ik (spelled s2 b.0 b.1) q2)) (a.1 ∙ ap Some (one_key (im.key s1) a.0 k (p.keyed.valid s1 a.0 a.1) ik (spelled s1 a.0 a.1) q1));
+      same = λ s1 s2 t1 t2 k e1 e2 ik q1 q2. let a = bound_root s1 t1 e1 in let b = bound_root s2 t2 e2 in w.basis.keyed s2 s1 k (b.1 ∙ ap Some (one_key (im.key s2) b.0 k (p.keyed.valid s2 b.0 b.1) ik (spelled s2 b.0 b.1) q2)) (a.1 ∙ ap Some (one_key (im.key s1) a.0 k (p.keyed.valid s1 a.0 a.1) ik (spelled s1 a.0 a.1) q1));
       chain = chain;
       walk = λ s. walk_from s (im.root s) refl;
       once = λ s1 s2 i1 i2 t1 t2 e1 e2 q. let a = on_chain s1 (im.root s1) refl i1 t1 e1 in let b = on_chain s2 (im.root s2) refl i2 t2 e2 in
@@ -156,7 +156,7 @@ module _ (l : Pool) (m0 : Map) (used : List ℕ) (m : Mem) (vs : List View) (st 
       value = λ s i. value_in (nth (st.log s) (from s + i));
       inside = λ s t e. let a = bound_root s t e in p.keyed.slots s a.0 a.1;
       contents = λ s i t e. let a = on_chain s (im.root s) refl i t e in let va : value_in (nth (st.log s) (from s + i)) ≡ a.version.value = ap value_in a.there in (subst (Fits l) (sym va) (p.ranged.fits s (from s + i) a.version a.there),
-          λ j y q. let b = w.rule.bodies s (from s + i) a.version a.there a.late j y (ap (λ (x : Option Value). nth (content x) j) (sym va) ∙ q) in ap (λ (x : ℕ). im.body (home x) j) (sym a.tag) ∙ ⊎_elim (λ f. f ∙ b.0) (λ f. f ∙ b.1) (is.body (home a.version.tag) j))
+          λ j y q. let b = w.basis.bodies s (from s + i) a.version a.there a.late j y (ap (λ (x : Option Value). nth (content x) j) (sym va) ∙ q) in ap (λ (x : ℕ). im.body (home x) j) (sym a.tag) ∙ ⊎_elim (λ f. f ∙ b.0) (λ f. f ∙ b.1) (is.body (home a.version.tag) j))
     }
 
 -- the flushed copies alone are an image

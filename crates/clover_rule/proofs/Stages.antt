@@ -11,7 +11,7 @@ use Rattle.clover_rule.specs.History.{Version, Map, own}
 use Rattle.clover_rule.specs.Lists.{nth, upd, Within, IsPrefix}
 use Rattle.clover_rule.specs.Server.{unnamed, holding, IsRecycling, Stage, root_in, is_home, book_of, Serves, Whole, IsWhole, LoadRoot, FlushLink, StoreRoot, StoreFlushedRoot, BindFlushedRoot, StoreCount, served_view}
 use Rattle.clover_rule.specs.State.{home, age, Next, word, gen, link, Mem, Taken, Story, tag_at, now_at, Core, unsure, greater, order, raised_mem, raised_story, greatest}
-use Rattle.clover_rule.specs.Views.{Rule, renewed, root_at, book_at}
+use Rattle.clover_rule.specs.Views.{Basis, renewed, root_at, book_at}
 use Rattle.clover_rule.specs.declared.view.Role.TheVariants.{Serving}
 use Rattle.clover_rule.specs.declared.view.Server.{Server}
 use Rattle.clover_rule.specs.declared.view.Task.{Task}
@@ -64,8 +64,8 @@ within_end y [] = inl refl
 within_end y (z ∷ xs) = inr (within_end y xs)
 
 module _ (l : Pool) (m0 : Map) (used : List ℕ) (m : Mem) (vs : List View) (id : ℕ) (v : View) (st : Story) (h : List Entry) (w : Whole l m0 used m vs st h) (at : nth vs id ≡ Some v) (role : v.pass.role ≡ Serving) where
-  abbrev ru : Rule m0 used m vs st h
-  ru = w.rule
+  abbrev ru : Basis m0 used m vs st h
+  ru = w.basis
 
   stage_of : (T : Task) → v.server.task ≡ T → Stage l m st T
   stage_of T e = stage_at l m0 used m vs id v st h w at role T e

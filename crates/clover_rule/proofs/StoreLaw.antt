@@ -11,7 +11,7 @@ use Rattle.clover_rule.specs.History.{Map, own, used_by}
 use Rattle.clover_rule.specs.Lists.{Each, nth, upd, Within}
 use Rattle.clover_rule.specs.Server.{unnamed, AtStage, Whole, dropped, stored_view, stored_mem}
 use Rattle.clover_rule.specs.State.{home, word, gen, Mem, Stocked, Story, tag_in_version, Core}
-use Rattle.clover_rule.specs.Views.{Owned, ViewOk, Rule, renewed}
+use Rattle.clover_rule.specs.Views.{Owned, ViewOk, Basis, renewed}
 use Rattle.clover_rule.specs.declared.view.Content.{Content}
 use Rattle.clover_rule.specs.declared.view.Role.TheVariants.{Client}
 use Rattle.clover_rule.specs.declared.view.Task.{Task}
@@ -32,8 +32,8 @@ other_place c t j k e f = λ q. true≢false (sym (let a : eqb c t && eqb k j �
 
 module _ (l : Pool) (m0 : Map) (used : List ℕ) (m : Mem) (vs : List View) (st : Story) (h : List Entry) (w : Whole l m0 used m vs st h) (id : ℕ) (v : View) (at : nth vs id ≡ Some v) (n : ℕ) (role : v.pass.role ≡ Client n)
          (t j x : ℕ) (own : Within t v.pass.stock) where
-  abbrev r : Rule m0 used m vs st h
-  r = w.rule
+  abbrev r : Basis m0 used m vs st h
+  r = w.basis
 
   abbrev m1 : Mem
   m1 = stored_mem m t j x
@@ -91,7 +91,7 @@ module _ (l : Pool) (m0 : Map) (used : List ℕ) (m : Mem) (vs : List View) (st 
       go k a q e (yes d) = (id, v', set_here vs id v' v at, let z : v ≡ a = let zz : Some v ≡ Some a = sym at ∙ ap (nth vs) (sym d) ∙ q in cc in ap (λ (y : View). y.pass.history) z ∙ e)
       go k a q e (no d) = (k, a, set_away vs id k v' d ∙ q, e)
 
-  rule' : Rule m0 used m1 (renewed vs id v') st h
+  rule' : Basis m0 used m1 (renewed vs id v') st h
   rule' = record {
       core = core_copy m st r.core m1.body m.fbody m.key m.fkey m.short m.count st.keys st.first st.bindings st.task st.slot_named;
       tale = r.tale;
@@ -112,7 +112,7 @@ module _ (l : Pool) (m0 : Map) (used : List ℕ) (m : Mem) (vs : List View) (st 
   here (Raised s1 r1 t1) a = a
   here (Led s1 r1 t1) a = a
   here (Both s1 r1 t1) a = a
-  here (Exchanged s1 r1 t1) a = record { place = a.place; now = a.now; safe = a.safe; root = a.root; inside = a.inside; young = a.young }
+  here (Exchanged s1 r1 t1) a = record { place = a.place; now = a.now; safe = a.safe; root = a.root; old = a.old; inside = a.inside; young = a.young }
 
   pub store_whole : Whole l m0 used m1 (renewed vs id v') st h
   store_whole = let p = w.help in client_whole l m0 used m vs st h w id v v' at n role refl m1 st h rule'

@@ -26,7 +26,7 @@ use Rattle.clover_rule.specs.declared.view.View.{View}
 use Rattle.clover_rule.proofs.Steps.{each_map, each_within, within_prefix, set_here}
 use Rattle.clover_rule.proofs.Standings.{tag_within}
 use Rattle.clover_rule.proofs.TaggedMaps.{legal_history}
-use Rattle.clover_rule.proofs.Learning.{past_now}
+use Rattle.clover_rule.proofs.Derived.{current_past}
 use Rattle.clover_rule.proofs.Keeping.{read_next, read_fnext, read_root, read_short, inside_of}
 use Rattle.clover_rule.proofs.Keeps.{keeps}
 use Rattle.clover_rule.proofs.Soundness.{cut_sound, flushed_image, flushed_is}
@@ -71,7 +71,7 @@ module _ (p : Pool) (first : Tagged) (used : List ℕ) (ws : List ℕ) (vs : Lis
 
   link_in : (b t : ℕ) → link (m.next b) ≡ Some t → InRange p t
   link_in b t e = ⊎_elim (λ q. absurd (let z : ◌≡◌ {A = Option ℕ} None (Some t) = sym q ∙ e in cc))
-      (λ q. r.whole.help.ranged.tags q.0.slot (suc q.1.0) t (q.1.2 ∙ (sym q.4 ∙ e))) (past_now m st r.whole.rule.core b).1
+      (λ q. r.whole.help.ranged.tags q.0.slot (suc q.1.0) t (q.1.2 ∙ (sym q.4 ∙ e))) (current_past m st r.whole.basis.core b).1
 
   root_in_range : (s t : ℕ) → Durable st s t → InRange p t
   root_in_range s t d = r.whole.help.ranged.tags s d.0 t d.1
@@ -79,19 +79,19 @@ module _ (p : Pool) (first : Tagged) (used : List ℕ) (ws : List ℕ) (vs : Lis
   module _ (id : ℕ) (v : View) (at : nth vs id ≡ Some v) where
     pub facts : Facts p v h
     facts =
-        let ok = r.whole.rule.views id v at in
+        let ok = r.whole.basis.views id v at in
         let o = r.same id v at in
         record {
           of_pool = o.of_pool;
           begins = ok.history;
-          legal = subst (λ (u : List ℕ). Runs.Legal v.pass.map u h) (sym o.from_used) (subst (λ (f : Tagged). Runs.Legal f used h) (sym o.from_map) (legal_history first used h r.whole.rule.tale.legal).2);
+          legal = subst (λ (u : List ℕ). Runs.Legal v.pass.map u h) (sym o.from_used) (subst (λ (f : Tagged). Runs.Legal f used h) (sym o.from_map) (legal_history first used h r.whole.basis.tale.legal).2);
           calls = ok.calls;
           stock = each_map (λ t q. let g = r.whole.help.ranged.ready (home t) (subst Ready (sym q.0) tt) in (g.0, let z = q.1 in let y = g.1 in omega arith)) v.pass.stock ok.stocked;
           apart = ok.apart;
           durable = each_map (λ q d. (slot_in q.0 d.0 q.1 d.1, root_in_range q.0 q.1 d)) v.pass.durable ok.durable;
           links = each_map (λ l d. (slot_in l.slot d.0 l.from d.1, r.whole.help.ranged.tags l.slot d.0 l.from d.1, r.whole.help.ranged.tags l.slot (suc d.0) l.to d.2)) v.pass.links ok.links;
           names = each_list (λ (q : ℕ × List ℕ). (q.0 < p.slots) × IsKey q.1) v.pass.names (λ q w.
-              let b = r.whole.rule.bound q.0 q.1 (subst (Within q) (sym ok.names.1) (within_prefix q v.pass.names ok.names.0 w)) in
+              let b = r.whole.basis.bound q.0 q.1 (subst (Within q) (sym ok.names.1) (within_prefix q v.pass.names ok.names.0 w)) in
               (r.whole.help.keyed.slots q.0 q.1 b.0, r.whole.help.keyed.valid q.0 q.1 b.0))
         }
 
@@ -120,7 +120,7 @@ module _ (p : Pool) (first : Tagged) (used : List ℕ) (ws : List ℕ) (vs : Lis
   number_shown (ReadRoot s) hw = (r.decodes (Root s) Current hw tt, λ t e. root_here s t (read_root p ws s hw ∙ e))
     where
       root_here : (s t : ℕ) → m.root s ≡ Some t → InRange p t
-      root_here s t e = r.whole.help.ranged.tags s (st.lead s) t (sym (r.whole.rule.core.root s) ∙ e)
+      root_here s t e = r.whole.help.ranged.tags s (st.lead s) t (sym (r.whole.basis.core.root s) ∙ e)
   number_shown (ReadShort s) hw = (r.decodes (Short s) Current hw tt, λ t e. root_in_range s t (r.whole.help.short s t (read_short p ws s hw ∙ e)))
   number_shown (StoreShort s u) hw = (r.decodes (Short s) Current hw tt, λ t e. root_in_range s t (r.whole.help.short s t (read_short p ws s hw ∙ e)))
   number_shown ReadCount hw = tt

@@ -8,6 +8,7 @@ pub mod Words
 pub mod Steps
 pub mod Meets
 pub mod Told
+pub mod Rule
 pub mod Laws
 pub mod Parts
 pub mod Server

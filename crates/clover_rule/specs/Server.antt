@@ -10,7 +10,7 @@ use Rattle.clover_rule.specs.History.{ends, Version, Map, used_by, own}
 use Rattle.clover_rule.specs.Image.{Image, Chain}
 use Rattle.clover_rule.specs.Lists.{Each, nth, upd, Within}
 use Rattle.clover_rule.specs.State.{Mem, word, gen, link, home, age, Place, Chained, Stocked, Free, Worn, Taken, Story, tag_at, greater, raised_mem, recycled_mem, Durable}
-use Rattle.clover_rule.specs.Views.{book_at, root_at, line, shown, Book, book, Rule, renewed, Naming, without}
+use Rattle.clover_rule.specs.Views.{book_at, root_at, line, shown, Book, book, Basis, renewed, Naming, without}
 use Rattle.clover_rule.specs.declared.view.BufferState.{BufferState}
 use Rattle.clover_rule.specs.declared.view.BufferState.TheVariants.{Free as IsFree, Worn as IsWorn, Bound as IsBound, Out as IsOut}
 use Rattle.clover_rule.specs.declared.view.Content.{Content}
@@ -96,6 +96,7 @@ pub record IsExchanged (l : Pool) (m : Mem) (st : Story) (s r t : ℕ) : Type 0 
   pub place : st.place (home r) ≡ Taken
   pub now : m.next (home r) ≡ word (suc (age r)) None
   pub safe : m.fnext (home r) ≡ word (age r) (Some t)
+  pub old : (i : ℕ) × (suc i ≡ st.gone s) × (tag_at st s i ≡ Some r)
   pub root : tag_at st s (st.gone s) ≡ Some t
   pub inside : inside l (home r) ≡ true
   pub young : age r < l.wear
@@ -156,7 +157,7 @@ pub record Serves (l : Pool) (m : Mem) (st : Story) (task : Task) (sv : Server) 
   pub books : (b : ℕ) → inside l b ≡ true → book_at sv b ≡ book_of task st (st.place b) (gen (m.next b)) b
 
 pub record Whole (l : Pool) (m0 : Map) (used : List ℕ) (m : Mem) (vs : List View) (st : Story) (h : List Entry) : Type 0 where
-  pub rule : Rule m0 used m vs st h
+  pub basis : Basis m0 used m vs st h
   pub help : Help l m st
   pub serves : (i : ℕ) (v : View) → nth vs i ≡ Some v → v.pass.role ≡ Serving → Serves l m st st.task v.server
   pub one : (i j : ℕ) (v w : View) → nth vs i ≡ Some v → nth vs j ≡ Some w → v.pass.role ≡ Serving → w.pass.role ≡ Serving → i ≡ j

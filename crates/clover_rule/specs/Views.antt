@@ -107,7 +107,7 @@ pub record ViewOk (m : Mem) (st : Story) (h : List Entry) (id : ℕ) (v : View) 
 abbrev pub Numbered : List View → Type 0
 Numbered vs = (i j n : ℕ) (v w : View) → nth vs i ≡ Some v → nth vs j ≡ Some w → v.pass.role ≡ Client n → w.pass.role ≡ Client n → i ≡ j
 
-pub record Rule (m0 : Map) (used : List ℕ) (m : Mem) (vs : List View) (st : Story) (h : List Entry) : Type 0 where
+pub record Basis (m0 : Map) (used : List ℕ) (m : Mem) (vs : List View) (st : Story) (h : List Entry) : Type 0 where
   pub core : Core m st
   pub tale : Tale st m0 used h
   pub bodies : (s i : ℕ) (w : Version) → Stands st s i w → st.gone s ≤ i → Holds m w
@@ -118,8 +118,8 @@ pub record Rule (m0 : Map) (used : List ℕ) (m : Mem) (vs : List View) (st : St
   pub numbered : Numbered vs
   pub longest : (i : ℕ) × (v : View) × (nth vs i ≡ Some v) × (v.pass.history ≡ h)
 
-abbrev pub IsRule : Map → List ℕ → Mem → List View → Type 0
-IsRule m0 used m vs = (st : Story) × (h : List Entry) × Rule m0 used m vs st h
+abbrev pub IsBasis : Map → List ℕ → Mem → List View → Type 0
+IsBasis m0 used m vs = (st : Story) × (h : List Entry) × Basis m0 used m vs st h
 
 -- one view of a list is renewed
 abbrev pub renewed : List View → ℕ → View → List View
@@ -135,8 +135,8 @@ raise_view v l = record v { pass = record v.pass { durable = (l.slot, l.to) ∷ 
 
 abbrev pub RaiseLaw : Type 0
 RaiseLaw = (m0 : Map) (used : List ℕ) (m : Mem) (vs : List View) (id : ℕ) (v : View) (l : Link)
-    → IsRule m0 used m vs → nth vs id ≡ Some v → Within l v.pass.links
-    → IsRule m0 used (raised_mem m l.from l.to) (renewed vs id (raise_view v l))
+    → IsBasis m0 used m vs → nth vs id ≡ Some v → Within l v.pass.links
+    → IsBasis m0 used (raised_mem m l.from l.to) (renewed vs id (raise_view v l))
 
 -- the buffers of a batch change hands
 abbrev pub handed : (ℕ → Place) → List ℕ → Place → ℕ → Place
