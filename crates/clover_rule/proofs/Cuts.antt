@@ -9,7 +9,7 @@ use Rattle.clover_map.specs.declared.call.Entry.{Entry}
 use Rattle.clover_map.specs.declared.bytes.Held.{Held}
 use Rattle.clover_rule.proofs.Keys.{eq_key, ne_key}
 use Rattle.clover_rule.specs.History.{same_key, Version, Map, pair_of, ends, kept, commits, Unread, Survives, key_of, commit_of, lost_in, joined, leads}
-use Rattle.clover_rule.specs.Image.{Image, IsImage, Chain, is_none, leads_to, missing, sift, tags, Reads, StandsFor}
+use Rattle.clover_rule.specs.Image.{Image, IsImage, Chain, is_none, leads_to, missing, sift, tags, Reads, ReadsMap}
 use Rattle.clover_rule.specs.Lists.{Each, nth}
 use Rattle.clover_rule.specs.State.{home, age, word, gen, link, Mem, Story, tag_in_version, tag_at, only, Core, Tale, unsure, Durable}
 use Rattle.clover_rule.proofs.Tools.{nth_within, nth_none, nth_past}
@@ -102,7 +102,7 @@ ends_some : (x y : Option Held) (ws : List Version) → 0 < length ws → ends x
 ends_some x y [] h = absurd (omega arith)
 ends_some x y (w ∷ ws) h = refl
 
-ends_drop : (x y : Option Held) (p : ℕ) (ws : List Version) → p < length ws → ends x (drop p ws) ≡ ends y ws
+pub ends_drop : (x y : Option Held) (p : ℕ) (ws : List Version) → p < length ws → ends x (drop p ws) ≡ ends y ws
 ends_drop x y zero ws h = ends_some x y ws h
 ends_drop x y (suc p) [] h = absurd (omega arith)
 ends_drop x y (suc p) (w ∷ ws) h = ends_drop x (pair_of w) p ws (omega arith)
@@ -265,10 +265,10 @@ module _ (m : Mem) (st : Story) (c : Core m st) (im : Image) (is : IsImage m im)
         ∙ ap (λ (ws : List Version). ws ++ sift lost (commits k h)) (sift_all lost (st.first s) (λ i w p. kept_before s i w (ap (λ (ws : List Version). nth ws i) a ∙ nth_append (st.first s) (commits k h) i w p) (t.settled s i w p)))
         ∙ ap (λ (ws : List Version). st.first s ++ ws) (sym (commits_kept lost k h))
 
-    map_left : (s : ℕ) (k : List ℕ) → st.keys s ≡ Some k → ends None (sift lost (st.log s)) ≡ leads m0 (kept lost h) k
+    pub map_left : (s : ℕ) (k : List ℕ) → st.keys s ≡ Some k → ends None (sift lost (st.log s)) ≡ leads m0 (kept lost h) k
     map_left s k e = ap (ends None) (log_left s k e) ∙ ends_append None (st.first s) (commits k (kept lost h)) ∙ ap (λ (x : Option Held). ends x (commits k (kept lost h))) (t.began s k e) ∙ sym (leads_commits m0 (kept lost h) k)
 
-    longer : (s p : ℕ) → p < st.sure s → p < length (sift lost (st.log s))
+    pub longer : (s p : ℕ) → p < st.sure s → p < length (sift lost (st.log s))
     longer s p q =
         let n = (shown s).0 in
         let f : Shown s n = (shown s).1 in
@@ -296,7 +296,7 @@ module _ (m : Mem) (st : Story) (c : Core m st) (im : Image) (is : IsImage m im)
     read_root : (s : ℕ) (k : List ℕ) (p : ℕ) → st.keys s ≡ Some k → st.gone s ≤ p → p ≤ st.lead s → im.root s ≡ tag_at st s p → Reads im s (leads m0 (kept lost h) k)
     read_root s k p e g q r = dite (ℕ_discrete (length (st.log s)) 0) (λ z. read_bare s k e p z r) (λ n. let x = c.rooted s (omega arith) in read_at s k p e g (omega arith) r)
 
-    pub cut_stands : StandsFor st im (leads m0 (kept lost h))
+    pub cut_stands : ReadsMap st im (leads m0 (kept lost h))
     cut_stands = record {
         bound = λ s k e. let d = c.led s in
             ⊎_elim (λ r. read_root s k (st.lead s) e (omega arith) (omega arith) (r ∙ c.root s))

@@ -7,10 +7,10 @@ use Rattle.std.proofs.lemmas.Bool.Decides.{nat_tests}
 use Rattle.clover_map.specs.declared.bytes.Value.{Value}
 use Rattle.clover_map.specs.declared.call.Entry.{Entry}
 use Rattle.clover_rule.specs.Content.{content, InRange, Spells, Fits}
-use Rattle.clover_rule.specs.History.{Version, Map, own}
+use Rattle.clover_rule.specs.History.{Version, Map, own, ends, leads, kept}
 use Rattle.clover_rule.specs.Image.{Image, IsImage, Chain, missing, sift, tags}
 use Rattle.clover_rule.specs.Lists.{Each, nth}
-use Rattle.clover_rule.specs.Server.{holding, AtStage, Stage, Help, Whole, Sound}
+use Rattle.clover_rule.specs.Server.{versions_of, holding, AtStage, Stage, Help, Whole, Sound}
 use Rattle.clover_rule.specs.State.{home, gen, link, Mem, Place, Chained, Stocked, Free, Worn, Taken, Loose, Story, tag_in_version, tag_at, Core, only}
 use Rattle.clover_rule.specs.declared.view.Task.{Task}
 use Rattle.clover_rule.specs.declared.view.Task.TheVariants.{Idle, Storing, Rooted, Waiting, Loaded, Raised, Led, Both, Exchanged}
@@ -22,7 +22,7 @@ use Rattle.clover_rule.proofs.Standings.{tag_there, tag_within, tag_past, same_t
 use Rattle.clover_rule.proofs.Steps.{each_map, each_within, prefix_trans, prefix_self, within_prefix, Grows, Leaves, view_kept, nth_set, set_here, set_away, link_kept, durable_kept, past_kept, copied_kept}
 
 use Rattle.std.specs.Prelude.{drop, map}
-use Rattle.clover_rule.proofs.Cuts.{Shown, shown, inside, up_to, nth_drop, cut_chain}
+use Rattle.clover_rule.proofs.Cuts.{ends_drop, longer, map_left, Shown, shown, inside, up_to, nth_drop, cut_chain}
 use Rattle.clover_rule.proofs.BindLaws.{unrooted}
 
 nth_tags : (ws : List Version) (i t : ℕ) → nth (tags ws) i ≡ Some t → (w : Version) × (nth ws i ≡ Some w) × (w.tag ≡ t)
@@ -61,14 +61,14 @@ module _ (l : Pool) (m0 : Map) (used : List ℕ) (m : Mem) (vs : List View) (st 
         (λ q. ⊎_elim (λ f. lead_start s t (st.flead s) (sym f ∙ sym q ∙ e) (omega arith) (omega arith)) (λ f. absurd (cc (f.empty, q, e))) (c.froot s)) (is.root s)
 
   -- a slot with a root is bound
-  bound_root : (s t : ℕ) → im.root s ≡ Some t → (k : List ℕ) × (st.keys s ≡ Some k)
+  pub bound_root : (s t : ℕ) → im.root s ≡ Some t → (k : List ℕ) × (st.keys s ≡ Some k)
   bound_root s t e = go (st.keys s) refl
     where
       go : (x : Option (List ℕ)) → st.keys s ≡ x → (k : List ℕ) × (st.keys s ≡ Some k)
       go (Some k) q = (k, q)
       go None q = let a = start s t e in let b = tag_within st s a.at t a.tag in let d = p.keyed.bare s q in absurd (omega arith)
 
-  spelled : (s : ℕ) (k : List ℕ) → st.keys s ≡ Some k → Spells (im.key s) k
+  pub spelled : (s : ℕ) (k : List ℕ) → st.keys s ≡ Some k → Spells (im.key s) k
   spelled s k e j x q = ⊎_elim (λ a. a ∙ p.keyed.current s k e j x q) (λ a. a ∙ p.keyed.flushed s k e j x q) (is.key s j)
 
   lost_list : ℕ → List Version
@@ -158,6 +158,34 @@ module _ (l : Pool) (m0 : Map) (used : List ℕ) (m : Mem) (vs : List View) (st 
       contents = λ s i t e. let a = on_chain s (im.root s) refl i t e in let va : value_in (nth (st.log s) (from s + i)) ≡ a.version.value = ap value_in a.there in (subst (Fits l) (sym va) (p.ranged.fits s (from s + i) a.version a.there),
           λ j y q. let b = w.basis.bodies s (from s + i) a.version a.there a.late j y (ap (λ (x : Option Value). nth (content x) j) (sym va) ∙ q) in ap (λ (x : ℕ). im.body (home x) j) (sym a.tag) ∙ ⊎_elim (λ f. f ∙ b.0) (λ f. f ∙ b.1) (is.body (home a.version.tag) j))
     }
+
+  listed : (ws : List Version) (f : ℕ → Option Value) → ((i : ℕ) (y : Version) → nth ws i ≡ Some y → f i ≡ y.value) → versions_of (tags ws) f ≡ ws
+  listed [] f e = refl
+  listed (y ∷ ws) f e = let a = e zero y refl in cc (ap (λ (o : Option Value). version_of y.tag o) a, listed ws (λ (i : ℕ). f (suc i)) (λ i z q. e (suc i) z q))
+    where
+      version_of : ℕ → Option Value → Version
+      version_of t o = record { tag = t; value = o }
+
+  -- the chain of a bound slot with a root ends in what the history that is left leads to
+  ends_at : (s : ℕ) (k : List ℕ) (x : Option ℕ) (e : im.root s ≡ x) (t : ℕ) → x ≡ Some t → st.keys s ≡ Some k → ends None (versions_of (chain_from s x e) (λ (i : ℕ). value_in (nth (st.log s) (from_of s x e + i)))) ≡ leads m0 (kept (missing st im) h) k
+  unfolding chain_from from_of lost_list value_in
+  ends_at s k None e t z key = absurd cc
+  ends_at s k (Some u) e t z key =
+      let a = start s u e in
+      let L : List Version = sift (missing st im) (st.log s) in
+      let n = (shown m st c im is s).0 in
+      let f : Shown m st c im is s n = (shown m st c im is s).1 in
+      let values : (i : ℕ) (y : Version) → nth (drop a.at L) i ≡ Some y → value_in (nth (st.log s) (a.at + i)) ≡ y.value =
+          λ i y q. let z : nth L (a.at + i) ≡ Some y = sym (nth_drop a.at i L) ∙ q in
+            let b = sym (f.sifted (a.at + i)) ∙ z in
+            let d : a.at + i < n = inside (a.at + i) n (nth (st.log s) (a.at + i)) y b in
+            ap value_in (up_to (a.at + i) n (nth (st.log s) (a.at + i)) d ∙ b) in
+      ap (ends None) (listed (drop a.at L) (λ (i : ℕ). value_in (nth (st.log s) (a.at + i))) values)
+      ∙ ends_drop None None a.at L (longer m st c im is m0 used h w.basis.tale s a.at a.early) ∙ map_left m st c im is m0 used h w.basis.tale s k key
+
+  pub cut_ends : (s t : ℕ) (k : List ℕ) → im.root s ≡ Some t → st.keys s ≡ Some k → ends None (versions_of (cut_sound.chain s) (cut_sound.value s)) ≡ leads m0 (kept (missing st im) h) k
+  unfolding cut_sound
+  cut_ends s t k e key = ends_at s k (im.root s) refl t e key
 
 -- the flushed copies alone are an image
 abbrev pub flushed_image : Mem → Image

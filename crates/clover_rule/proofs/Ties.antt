@@ -83,7 +83,7 @@ content_same b zero c (suc k) e = absurd (let z : 0 ≡ suc k = ap value_of e in
 content_same b (suc j) c zero e = absurd (let z : suc j ≡ 0 = ap value_of e in omega arith)
 content_same b (suc j) c (suc k) e = (buffer_same b c (ap node_of e) (ap index_of e), ap value_of e)
 
-both : (a b : Bool) → a && b ≡ true → (a ≡ true) × (b ≡ true)
+pub both : (a b : Bool) → a && b ≡ true → (a ≡ true) × (b ≡ true)
 both true b e = (refl, e)
 both false b e = absurd (let z : false ≡ true = e in cc)
 

@@ -57,6 +57,6 @@ pub record Reads (im : Image) (s : ℕ) (x : Option Held) : Type 0 where
   pub chain : Chain im (im.root s) (tags versions)
   pub last : ends None versions ≡ x
 
-pub record StandsFor (st : Story) (im : Image) (m : Map) : Type 0 where
+pub record ReadsMap (st : Story) (im : Image) (m : Map) : Type 0 where
   pub bound : (s : ℕ) (k : List ℕ) → st.keys s ≡ Some k → Reads im s (m k)
   pub unbound : (k : List ℕ) → ((s : ℕ) → st.keys s ≢ Some k) → m k ≡ None

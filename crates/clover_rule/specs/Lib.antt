@@ -9,6 +9,6 @@ pub mod Steps
 pub mod Meets
 pub mod Told
 pub mod Rule
-pub mod Laws
+pub mod Cut
 pub mod Parts
 pub mod Server

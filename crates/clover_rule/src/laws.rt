@@ -1,14 +1,7 @@
 // The laws, each a contract of a function without a body.
-ghost use Rattle.clover_rule.specs.Views.{RaiseLaw};
-ghost use Rattle.clover_rule.specs.Laws.{CutLaw};
+ghost use Rattle.clover_rule.specs.Cut.{CutLaw};
 
-/// A raise over a loaded link keeps the rule.
-pub fn raise_law()
-    ensures { RaiseLaw }
-{
-}
-
-/// Each image of a cut stands for the map of a history that survives.
+/// Each image of a power cut is sound and stands for the map of a history that survived.
 pub fn cut_law()
     ensures { CutLaw }
 {

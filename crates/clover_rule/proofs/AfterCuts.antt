@@ -1,0 +1,118 @@
+-- The law of cuts over the words of a pool.
+use Rattle.std.proofs.Common.{◌≡◌, ℕ, zero, suc, ◌+◌, ◌<◌, ◌≤◌, ◌≢◌, ◌⊎◌, ◌&&◌, List, [], ◌∷◌, length, Bool, true, false, refl, sym, ap, ◌∙◌, inl, inr, ⊎_elim, subst, nat_lt}
+use native.Mathlib.Decide.{ℕ_discrete, dec_le}
+use mathlib.Core.Logic.{dite}
+use Rattle.std.specs.Prelude.{Option, Some, None, slice_index}
+use Rattle.std.specs.FinMap.{get}
+use Rattle.clover_words.specs.declared.pool.Pool.{Pool}
+use Rattle.clover_words.specs.declared.word.Word.{Word}
+use Rattle.clover_words.specs.declared.word.Word.TheVariants.{Next as NextOf, Meta, Value as ValueOf, Root, Key, Short, Count}
+use Rattle.clover_words.specs.declared.word.Side.TheVariants.{Current, Flushed}
+use Rattle.clover_words.specs.Place.{IsWithin, HasSide, place, copy_in}
+use Rattle.clover_words.proofs.Places.{has_current}
+use Rattle.clover_map.specs.declared.call.Entry.{Entry}
+use Rattle.clover_map.specs.Tagged.{Tagged}
+use Rattle.clover_map.specs.declared.bytes.Held.{Held}
+use Rattle.clover_rule.specs.Content.{IsKey, Spells, inside}
+use Rattle.clover_rule.specs.Cut.{IsCut, image_of, ImageDecodes, StandsFor, IsKnownDurable, Survived, AfterCut, CutLaw}
+use Rattle.clover_rule.specs.History.{Survives, Version, Map, shows, kept, leads, ends, commits}
+use Rattle.clover_rule.specs.Image.{Image, IsImage, Reads, ReadsMap, missing, tags, Chain}
+use Rattle.clover_rule.specs.Lists.{Each, Within, nth}
+use Rattle.clover_rule.specs.Meets.{Meets, IsCode}
+use Rattle.clover_rule.specs.Rule.{Rule}
+use Rattle.clover_rule.specs.Server.{Sound, versions_of}
+use Rattle.clover_rule.specs.State.{Story, Mem, Durable, word, Next}
+use Rattle.clover_rule.specs.Words.{guarded, mem_of, next_of, root_of, buffer_at, content_at}
+use Rattle.clover_rule.specs.declared.view.View.{View}
+use Rattle.clover_rule.proofs.Steps.{each_within}
+use Rattle.clover_rule.proofs.Snocs.{within_nth}
+use Rattle.clover_rule.proofs.Cuts.{cut_survives, cut_stands}
+use Rattle.clover_rule.proofs.Soundness.{cut_sound, cut_ends, bound_root as bound_key, spelled as spelled_key}
+use Rattle.clover_rule.proofs.Spelling.{one_key}
+use Rattle.clover_rule.proofs.Keys.{key_discrete}
+use Rattle.clover_rule.proofs.TaggedMaps.{legal_history}
+use Rattle.clover_rule.proofs.Ties.{both, below, buffer_in, content_in, content_side}
+
+either_guard : {A B : Type 0} (b : Bool) (f : A → B) (x y z : A) (d : B) → (b ≡ true → (x ≡ y) ⊎ (x ≡ z)) → (guarded b (f x) d ≡ guarded b (f y) d) ⊎ (guarded b (f x) d ≡ guarded b (f z) d)
+either_guard true f x y z d h = ⊎_elim (λ e. inl (ap f e)) (λ e. inr (ap f e)) (h refl)
+either_guard false f x y z d h = inl refl
+
+module _ (p : Pool) (first : Tagged) (used ws : List ℕ) (vs : List View) (st : Story) (h : List Entry) (r : Meets p first used ws vs st h) (im : List ℕ) (cut : IsCut p ws im) where
+  abbrev m : Mem
+  m = mem_of p ws
+
+  abbrev i : Image
+  i = image_of p im
+
+  abbrev is : IsImage m i
+  is = record {
+      next = λ b. either_guard (inside p b) next_of _ _ _ (word 0 None) (λ e. cut.copies (NextOf (buffer_at b)) (buffer_in p b e) tt);
+      root = λ s. either_guard (nat_lt s p.slots) root_of _ _ _ None (λ e. cut.copies (Root s) (below s p.slots e) tt);
+      body = λ b k. either_guard (inside p b && nat_lt k (1 + p.words)) (λ (n : ℕ). n) _ _ _ 0 (λ e. let q = both (inside p b) (nat_lt k (1 + p.words)) e in cut.copies (content_at b k) (content_in p b k q.0 (below k (1 + p.words) q.1)) (content_side b k Flushed));
+      key = λ s k. either_guard (nat_lt s p.slots && nat_lt k 32) (λ (n : ℕ). n) _ _ _ 0 (λ e. let q = both (nat_lt s p.slots) (nat_lt k 32) e in cut.copies (Key s k) (below s p.slots q.0, below k 32 q.1) tt)
+    }
+
+  decoded : ImageDecodes p im
+  decoded w hw hs = ⊎_elim (λ e. subst (IsCode w) (sym e) (r.decodes w Current hw (has_current w))) (λ e. subst (IsCode w) (sym e) (r.decodes w Flushed hw hs)) (cut.copies w hw hs)
+
+  abbrev sound : Sound p i
+  sound = cut_sound p (shows first) used m vs st h r.whole i is
+
+  abbrev rest : List Entry
+  rest = kept (missing st i) h
+
+  abbrev survives : Survives (shows first) used (λ (x : ℕ). (s : ℕ) × Durable st s x) h rest
+  survives = cut_survives m st r.whole.basis.core i is (shows first) used h r.whole.basis.tale
+
+  told_durable : (t : ℕ) → IsKnownDurable vs t → (s : ℕ) × Durable st s t
+  told_durable t (v, w, (s, d)) = let x = within_nth v vs w in (s, each_within (λ (q : ℕ × ℕ). Durable st q.0 q.1) (s, t) v.pass.durable (r.whole.basis.views x.0 v x.1).durable d)
+
+
+  reads : ReadsMap st i (leads (shows first) rest)
+  reads = cut_stands m st r.whole.basis.core i is (shows first) used h r.whole.basis.tale
+
+  -- a slot without a root reads as nothing
+  bare_reads : (s : ℕ) (y : Option Held) → Reads i s y → i.root s ≡ None → y ≡ None
+  bare_reads s y q e = go q.versions (subst (λ (x : Option ℕ). Chain i x (tags q.versions)) e q.chain) q.last
+    where
+      go : (ws : List Version) → Chain i None (tags ws) → ends None ws ≡ y → y ≡ None
+      go [] c l = sym l
+      go (w ∷ ws) c l = absurd c
+
+  -- the slot that has a key
+  slot_of_key : (k : List ℕ) → ((s : ℕ) × (st.keys s ≡ Some k)) ⊎ ((s : ℕ) → st.keys s ≢ Some k)
+  slot_of_key k = go (st.keys (st.slot_named k)) refl
+    where
+      go : (x : Option (List ℕ)) → st.keys (st.slot_named k) ≡ x → ((s : ℕ) × (st.keys s ≡ Some k)) ⊎ ((s : ℕ) → st.keys s ≢ Some k)
+      go None e = inr (λ s z. absurd (let f = r.whole.help.naming.found s k z in let y : ◌≡◌ {A = Option (List ℕ)} None (Some k) = sym e ∙ ap st.keys f ∙ z in cc))
+      go (Some j) e = dite (key_discrete j k) (λ d. inl (st.slot_named k, e ∙ ap Some d))
+          (λ n. inr (λ s z. let f = r.whole.help.naming.found s k z in n (let y : Some j ≡ Some k = sym e ∙ ap st.keys f ∙ z in cc)))
+
+  -- a slot with a root is bound to the key that its words spell
+  key_of_slot : (s t : ℕ) (k : List ℕ) → i.root s ≡ Some t → IsKey k → Spells (i.key s) k → st.keys s ≡ Some k
+  key_of_slot s t k e ik sp = let a = bound_key p (shows first) used m vs st h r.whole i is s t e in
+      a.1 ∙ ap Some (one_key (i.key s) a.0 k (r.whole.help.keyed.valid s a.0 a.1) ik (spelled_key p (shows first) used m vs st h r.whole i is s a.0 a.1) sp)
+
+  -- what the map has where no slot with a root spells the key
+  unspelled : (k : List ℕ) → ((s t : ℕ) → i.root s ≡ Some t → Spells (i.key s) k → ⊥) → leads (shows first) rest k ≡ None
+  unspelled k f = ⊎_elim (λ a. bare_reads a.0 (leads (shows first) rest k) (reads.bound a.0 k a.1) (no_root a.0 a.1 (i.root a.0) refl)) (λ g. reads.unbound k g) (slot_of_key k)
+    where
+      no_root : (s : ℕ) → st.keys s ≡ Some k → (x : Option ℕ) → i.root s ≡ x → i.root s ≡ None
+      no_root s q None e = e
+      no_root s q (Some t) e = absurd (f s t e (spelled_key p (shows first) used m vs st h r.whole i is s k q))
+
+  after : AfterCut p first used vs h im
+  after = let l = legal_history first used rest survives.legal in record {
+      decodes = decoded;
+      sound = sound;
+      rest = rest;
+      survived = record { lost = survives.lost; without = survives.is; last = survives.last; untold = λ t e q. survives.untold t e (told_durable t q); legal = l.2 };
+      map = l.0;
+      leads = l.1;
+      stands = record {
+        bound = λ s t k e ik sp. ap (λ (f : Map). f k) l.3 ∙ sym (cut_ends p (shows first) used m vs st h r.whole i is s t k e (key_of_slot s t k e ik sp));
+        unbound = λ k f. ap (λ (g : Map). g k) l.3 ∙ unspelled k f }
+    }
+
+pub cut_law : CutLaw
+cut_law p first used ws vs h im r cut = after p first used ws vs r.story h r.helped im cut
