@@ -10,5 +10,7 @@ pub mod Meets
 pub mod Told
 pub mod Rule
 pub mod Cut
+pub mod Accesses
+pub mod Laws
 pub mod Parts
 pub mod Server

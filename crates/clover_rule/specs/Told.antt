@@ -51,11 +51,11 @@ abbrev pub Told : Pool → Step → Bool → View → ℕ → View → Type 0
 Told p a b v x w = (h : List Entry) × ToldAt p a b v x w h
 
 -- the rule of a table whose words are the pool's and whose seats are the actors
-abbrev pub Holds : {S : Type 0} → Pool → Tagged → List ℕ → State S View → Type 0
-Holds p first used s = (h : List Entry) × IsMet p first used s.words s.views h
+abbrev pub TableHolds : {S : Type 0} → Pool → Tagged → List ℕ → State S View → Type 0
+TableHolds p first used s = (h : List Entry) × IsMet p first used s.words s.views h
 
 -- The law over a table: any step that the actor may make is allowed, and tells what the rule says of it.
 abbrev pub TableLaw : Type 1
 TableLaw = (S : Type 0) (p : Pool) (first : Tagged) (used : List ℕ) (slots id : ℕ) (me : Me S View) (a : Step) (b : Bool) (then : ℕ → Me S View → Type 0) → Asks p a me.0
     → ((x : ℕ) (w : View) → Told p a b me.0 x w → then x (w, me.1))
-    → Allows {S = S} (Holds p first used) slots id me (address_of p (word_of a) (side_of a)) (becomes a) then
+    → Allows {S = S} (TableHolds p first used) slots id me (address_of p (word_of a) (side_of a)) (becomes a) then
