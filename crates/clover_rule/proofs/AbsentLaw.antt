@@ -1,6 +1,5 @@
 -- A load of the count that equals the length of a copy without the key decides that the key is absent.
-use Rattle.std.proofs.Common.{◌≡◌, ℕ, zero, suc, ◌+◌, ◌<◌, ◌≤◌, ◌≢◌, ◌⊎◌, List, [], ◌∷◌, ◌++◌, length, length-append, append-nil, Bool, true, false, cond, eqb, refl, sym, ap, ◌∙◌, inl, inr, arith, subst, true≢false}
-use native.Mathlib.Decide.{ℕ_discrete}
+use Rattle.std.proofs.Common.{◌≡◌, ℕ, zero, suc, List, [], ◌∷◌, ◌++◌, length, length-append, append-nil, Bool, true, false, refl, sym, ap, ◌∙◌, arith, subst}
 use mathlib.Core.Logic.{dite}
 use Rattle.std.specs.Prelude.{Option, Some, None}
 use Rattle.clover_map.specs.declared.call.Entry.{Entry}
@@ -9,7 +8,7 @@ use Rattle.clover_rule.specs.History.{Version, Map, commits, ends, pair_of, lead
 use Rattle.clover_rule.specs.Lists.{nth, Within, IsPrefix}
 use Rattle.clover_rule.specs.State.{Mem, Story, Tale}
 use Rattle.clover_rule.specs.Views.{Naming}
-use Rattle.clover_rule.proofs.Keys.{eq_key, ne_key, key_discrete}
+use Rattle.clover_rule.proofs.Keys.{key_discrete}
 use Rattle.clover_rule.proofs.Histories.{leads_commits}
 use Rattle.clover_rule.proofs.Histories.{ends_more}
 
@@ -37,6 +36,7 @@ absent_map m st f m0 used h names k n t p e away = go (same_option (st.keys (f k
   where
     all_named : st.bindings ≡ names
     all_named = whole_prefix names st.bindings p (sym n.counted ∙ e)
+
     go : Dec (st.keys (f k) ≡ Some k) → leads m0 h k ≡ None
     go (no d) = let u = t.unbound k (λ s q. d (ap st.keys (n.found s k q) ∙ q)) in leads_commits m0 h k ∙ ap (ends (m0 k)) u.1 ∙ u.0
     go (yes q) = named (st.named (f k)) refl

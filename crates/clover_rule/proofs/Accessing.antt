@@ -1,32 +1,26 @@
 -- A step's access replays, and what a deciding load shows is the tail of its key.
-use Rattle.std.proofs.Common.{◌≡◌, ℕ, zero, suc, ◌+◌, ◌<◌, ◌≤◌, ◌≢◌, List, [], ◌∷◌, ◌++◌, length, drop, set, get_or, Bool, true, false, refl, sym, ap, ◌∙◌, arith, subst}
-use Rattle.std.specs.Prelude.{Option, Some, None, slice_set, slice_index}
+use Rattle.std.proofs.Common.{◌≡◌, ℕ, zero, suc, ◌≤◌, List, [], ◌∷◌, ◌++◌, length, drop, refl, sym, ap, ◌∙◌, arith, subst}
+use Rattle.std.specs.Prelude.{Some, None, slice_set, slice_index}
 use Rattle.std.proofs.lemmas.List.{set-get_or}
-use Rattle.clover_words.specs.declared.pool.Pool.{Pool}
 use Rattle.clover_words.specs.declared.word.Word.TheVariants.{Next as NextOf}
-use Rattle.clover_words.specs.declared.word.Side.TheVariants.{Current, Flushed}
-use Rattle.clover_words.specs.Place.{address_of, copy_in, IsWithin}
-use Rattle.clover_map.specs.declared.call.Entry.{Entry}
-use Rattle.clover_map.specs.Tagged.{Tagged}
-use Rattle.clover_rule.specs.Accesses.{CameBack, words_after_act, IsTail}
+use Rattle.clover_words.specs.declared.word.Side.TheVariants.{Current}
+use Rattle.clover_words.specs.Place.{address_of}
 use Rattle.clover_rule.specs.History.{Version, shows, named}
 use Rattle.clover_rule.specs.Image.{tags}
 use Rattle.clover_rule.specs.Laws.{PartsLaw, StepLaw, ToldLaw, TableStepLaw, AccessLaw, TailLaw}
 use Rattle.clover_rule.specs.Lists.{nth}
-use Rattle.clover_rule.specs.Meets.{Meets}
 use Rattle.clover_rule.specs.Parts.{Walk}
 use Rattle.clover_rule.specs.State.{Story, Mem, word, home, age}
-use Rattle.clover_rule.specs.Steps.{Step, LoadNext, DecideNext, RaiseNext, LinkNext, StoreContent, FlushContent, LoadContent, ReadRoot, ReadShort, StoreShort, ReadCount, AbsentCount, word_of, side_of, act_of, found, words_after_step, unlinked, MayDecide}
+use Rattle.clover_rule.specs.Steps.{LoadNext, DecideNext, RaiseNext, LinkNext, StoreContent, FlushContent, LoadContent, ReadRoot, ReadShort, StoreShort, ReadCount, AbsentCount, word_of}
 use Rattle.clover_rule.specs.Told.{Told}
 use Rattle.clover_rule.specs.Words.{mem_of, next_of, content_at, buffer_at}
-use Rattle.clover_rule.specs.declared.view.View.{View}
 use Rattle.clover_rule.proofs.Keeps.{keeps}
 use Rattle.clover_rule.proofs.Keeping.{inside_of, read_next}
 use Rattle.clover_rule.proofs.Ties.{next_again}
 use Rattle.clover_rule.proofs.Telling.{told, table_law}
 use Rattle.clover_rule.proofs.TwelveParts.{rule_holds}
-use Rattle.clover_rule.proofs.Derived.{chain_of, chains}
-use Rattle.clover_rule.proofs.Decide.{tail_durable, slot_bound, last, version, stands}
+use Rattle.clover_rule.proofs.Derived.{chains}
+use Rattle.clover_rule.proofs.Decide.{tail_durable, slot_bound, last, version}
 
 pub parts_law : PartsLaw
 parts_law = rule_holds

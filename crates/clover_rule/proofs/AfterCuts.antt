@@ -1,27 +1,21 @@
 -- The law of cuts over the words of a pool.
-use Rattle.std.proofs.Common.{◌≡◌, ℕ, zero, suc, ◌+◌, ◌<◌, ◌≤◌, ◌≢◌, ◌⊎◌, ◌&&◌, List, [], ◌∷◌, length, Bool, true, false, refl, sym, ap, ◌∙◌, inl, inr, ⊎_elim, subst, nat_lt}
-use native.Mathlib.Decide.{ℕ_discrete, dec_le}
+use Rattle.std.proofs.Common.{◌≡◌, ℕ, ◌+◌, ◌≢◌, ◌⊎◌, ◌&&◌, List, [], ◌∷◌, Bool, true, false, refl, sym, ap, ◌∙◌, inl, inr, ⊎_elim, subst, nat_lt}
 use mathlib.Core.Logic.{dite}
-use Rattle.std.specs.Prelude.{Option, Some, None, slice_index}
-use Rattle.std.specs.FinMap.{get}
+use Rattle.std.specs.Prelude.{Option, Some, None}
 use Rattle.clover_words.specs.declared.pool.Pool.{Pool}
-use Rattle.clover_words.specs.declared.word.Word.{Word}
-use Rattle.clover_words.specs.declared.word.Word.TheVariants.{Next as NextOf, Meta, Value as ValueOf, Root, Key, Short, Count}
+use Rattle.clover_words.specs.declared.word.Word.TheVariants.{Next as NextOf, Root, Key}
 use Rattle.clover_words.specs.declared.word.Side.TheVariants.{Current, Flushed}
-use Rattle.clover_words.specs.Place.{IsWithin, HasSide, place, copy_in}
 use Rattle.clover_words.proofs.Places.{has_current}
 use Rattle.clover_map.specs.declared.call.Entry.{Entry}
 use Rattle.clover_map.specs.Tagged.{Tagged}
 use Rattle.clover_map.specs.declared.bytes.Held.{Held}
 use Rattle.clover_rule.specs.Content.{IsKey, Spells, inside}
-use Rattle.clover_rule.specs.Cut.{IsCut, image_of, ImageDecodes, StandsFor, IsKnownDurable, Survived, AfterCut, CutLaw}
-use Rattle.clover_rule.specs.History.{Survives, Version, Map, shows, kept, leads, ends, commits}
+use Rattle.clover_rule.specs.Cut.{IsCut, image_of, ImageDecodes, IsKnownDurable, AfterCut, CutLaw}
+use Rattle.clover_rule.specs.History.{Survives, Version, Map, shows, kept, leads, ends}
 use Rattle.clover_rule.specs.Image.{Image, IsImage, Reads, ReadsMap, missing, tags, Chain}
-use Rattle.clover_rule.specs.Lists.{Each, Within, nth}
 use Rattle.clover_rule.specs.Meets.{Meets, IsCode}
-use Rattle.clover_rule.specs.Rule.{Rule}
-use Rattle.clover_rule.specs.Server.{Sound, versions_of}
-use Rattle.clover_rule.specs.State.{Story, Mem, Durable, word, Next}
+use Rattle.clover_rule.specs.Server.{Sound}
+use Rattle.clover_rule.specs.State.{Story, Mem, Durable, word}
 use Rattle.clover_rule.specs.Words.{guarded, mem_of, next_of, root_of, buffer_at, content_at}
 use Rattle.clover_rule.specs.declared.view.View.{View}
 use Rattle.clover_rule.proofs.Steps.{each_within}
@@ -46,11 +40,11 @@ module _ (p : Pool) (first : Tagged) (used ws : List ℕ) (vs : List View) (st :
 
   abbrev is : IsImage m i
   is = record {
-      next = λ b. either_guard (inside p b) next_of _ _ _ (word 0 None) (λ e. cut.copies (NextOf (buffer_at b)) (buffer_in p b e) tt);
-      root = λ s. either_guard (nat_lt s p.slots) root_of _ _ _ None (λ e. cut.copies (Root s) (below s p.slots e) tt);
-      body = λ b k. either_guard (inside p b && nat_lt k (1 + p.words)) (λ (n : ℕ). n) _ _ _ 0 (λ e. let q = both (inside p b) (nat_lt k (1 + p.words)) e in cut.copies (content_at b k) (content_in p b k q.0 (below k (1 + p.words) q.1)) (content_side b k Flushed));
-      key = λ s k. either_guard (nat_lt s p.slots && nat_lt k 32) (λ (n : ℕ). n) _ _ _ 0 (λ e. let q = both (nat_lt s p.slots) (nat_lt k 32) e in cut.copies (Key s k) (below s p.slots q.0, below k 32 q.1) tt)
-    }
+    next = λ b. either_guard (inside p b) next_of _ _ _ (word 0 None) (λ e. cut.copies (NextOf (buffer_at b)) (buffer_in p b e) tt);
+    root = λ s. either_guard (nat_lt s p.slots) root_of _ _ _ None (λ e. cut.copies (Root s) (below s p.slots e) tt);
+    body = λ b k. either_guard (inside p b && nat_lt k (1 + p.words)) (λ (n : ℕ). n) _ _ _ 0 (λ e. let q = both (inside p b) (nat_lt k (1 + p.words)) e in cut.copies (content_at b k) (content_in p b k q.0 (below k (1 + p.words) q.1)) (content_side b k Flushed));
+    key = λ s k. either_guard (nat_lt s p.slots && nat_lt k 32) (λ (n : ℕ). n) _ _ _ 0 (λ e. let q = both (nat_lt s p.slots) (nat_lt k 32) e in cut.copies (Key s k) (below s p.slots q.0, below k 32 q.1) tt);
+  }
 
   decoded : ImageDecodes p im
   decoded w hw hs = ⊎_elim (λ e. subst (IsCode w) (sym e) (r.decodes w Current hw (has_current w))) (λ e. subst (IsCode w) (sym e) (r.decodes w Flushed hw hs)) (cut.copies w hw hs)
@@ -66,7 +60,6 @@ module _ (p : Pool) (first : Tagged) (used ws : List ℕ) (vs : List View) (st :
 
   told_durable : (t : ℕ) → IsKnownDurable vs t → (s : ℕ) × Durable st s t
   told_durable t (v, w, (s, d)) = let x = within_nth v vs w in (s, each_within (λ (q : ℕ × ℕ). Durable st q.0 q.1) (s, t) v.pass.durable (r.whole.basis.views x.0 v x.1).durable d)
-
 
   reads : ReadsMap st i (leads (shows first) rest)
   reads = cut_stands m st r.whole.basis.core i is (shows first) used h r.whole.basis.tale
@@ -103,16 +96,17 @@ module _ (p : Pool) (first : Tagged) (used ws : List ℕ) (vs : List View) (st :
 
   after : AfterCut p first used vs h im
   after = let l = legal_history first used rest survives.legal in record {
-      decodes = decoded;
-      sound = sound;
-      rest = rest;
-      survived = record { lost = survives.lost; without = survives.is; last = survives.last; untold = λ t e q. survives.untold t e (told_durable t q); legal = l.2 };
-      map = l.0;
-      leads = l.1;
-      stands = record {
-        bound = λ s t k e ik sp. ap (λ (f : Map). f k) l.3 ∙ sym (cut_ends p (shows first) used m vs st h r.whole i is s t k e (key_of_slot s t k e ik sp));
-        unbound = λ k f. ap (λ (g : Map). g k) l.3 ∙ unspelled k f }
-    }
+    decodes = decoded;
+    sound = sound;
+    rest = rest;
+    survived = record { lost = survives.lost; without = survives.is; last = survives.last; untold = λ t e q. survives.untold t e (told_durable t q); legal = l.2 };
+    map = l.0;
+    leads = l.1;
+    stands = record {
+      bound = λ s t k e ik sp. ap (λ (f : Map). f k) l.3 ∙ sym (cut_ends p (shows first) used m vs st h r.whole i is s t k e (key_of_slot s t k e ik sp));
+      unbound = λ k f. ap (λ (g : Map). g k) l.3 ∙ unspelled k f;
+    };
+  }
 
 pub cut_law : CutLaw
 cut_law p first used ws vs h im r cut = after p first used ws vs r.story h r.helped im cut

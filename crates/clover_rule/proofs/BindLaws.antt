@@ -1,15 +1,14 @@
 -- The laws of a binding's stores of the root, its flushed copy and the count.
-use Rattle.std.proofs.Common.{◌≡◌, ℕ, zero, suc, ◌+◌, ◌<◌, ◌≤◌, ◌≢◌, ◌⊎◌, List, [], ◌∷◌, ◌++◌, length, length-append, set, append_assoc, append-nil, Bool, true, false, cond, eqb, ltb, leb, refl, sym, ap, ◌∙◌, inl, inr, ⊎_elim, arith, subst, eq-eqb, ne_eqb, eqb-true, true≢false}
-use native.Mathlib.Decide.{ℕ_discrete, dec_le}
+use Rattle.std.proofs.Common.{◌≡◌, ℕ, zero, suc, ◌+◌, ◌≤◌, ◌≢◌, ◌⊎◌, List, [], ◌∷◌, ◌++◌, length, append-nil, Bool, true, cond, leb, refl, sym, ap, ◌∙◌, inl, inr, ⊎_elim, arith, subst, eq-eqb, true≢false}
+use native.Mathlib.Decide.{ℕ_discrete}
 use mathlib.Core.Logic.{dite}
 use Rattle.std.specs.Prelude.{Option, Some, None}
 use Rattle.std.proofs.lemmas.Bool.Decides.{nat_tests}
-use Rattle.clover_map.specs.declared.bytes.Value.{Value}
 use Rattle.clover_map.specs.declared.call.Entry.{Entry}
 use Rattle.clover_rule.specs.Content.{content, tombstone, spelling, Fits, IsKey}
-use Rattle.clover_rule.specs.History.{Version, Map, own, commits, ends, at_key}
+use Rattle.clover_rule.specs.History.{Version, Map, commits, ends, at_key}
 use Rattle.clover_rule.specs.Lists.{nth, upd}
-use Rattle.clover_rule.specs.Server.{Ready, unnamed, IsStoring, Stage, Help, is_home, book_of, Serves, Whole, IsWhole, BindRoot, server_after, served_view, ServerLaw}
+use Rattle.clover_rule.specs.Server.{Ready, IsStoring, Stage, Help, is_home, book_of, Serves, Whole, IsWhole, BindRoot, server_after, served_view, ServerLaw}
 use Rattle.clover_rule.specs.State.{home, age, gen, Mem, Place, Chained, Story, tag_in_version, tag_at, Core, Tale, unsure}
 use Rattle.clover_rule.specs.Views.{book, Holds, Stands, Basis, renewed, book_at, root_at}
 use Rattle.clover_rule.specs.declared.view.BufferState.TheVariants.{Bound as IsBound, Out as IsOut}
@@ -18,14 +17,12 @@ use Rattle.clover_rule.specs.declared.view.Task.TheVariants.{Storing, Rooted}
 use Rattle.clover_rule.specs.declared.view.View.{View}
 use Rattle.clover_words.specs.declared.pool.Pool.{Pool}
 use Rattle.clover_rule.proofs.Keys.{at_key_same, at_key_else}
-use Rattle.clover_rule.proofs.Tools.{upd_same, upd_else, nth_within, nth_snoc, nth_front, nth_last, nth_past, nth_none}
-use Rattle.clover_rule.proofs.Standings.{tag_there, tag_within, tag_past, same_tag, one_buffer}
-use Rattle.clover_rule.proofs.Steps.{each_map, each_within, prefix_trans, prefix_self, within_prefix, Grows, Leaves, view_kept, nth_set, set_here, set_away, link_kept, durable_kept, past_kept, copied_kept}
-
-use Rattle.clover_rule.proofs.ServerTools.{core_copy, Moves, whole, book_same, free_place, hold_core, tale_copy}
+use Rattle.clover_rule.proofs.Tools.{upd_same, upd_else, nth_within}
+use Rattle.clover_rule.proofs.Standings.{tag_there, tag_within}
+use Rattle.clover_rule.proofs.Steps.{prefix_self, Grows, durable_kept}
+use Rattle.clover_rule.proofs.ServerTools.{core_copy, Moves, whole, book_same}
 use Rattle.clover_rule.proofs.ServerLaws.{stage_at, serves_at}
-use Rattle.clover_rule.proofs.Binding.{CanBind, bound_mem, bound_story, bind_core, Case, here_tag, here_only, else_case, log_here, here_sure}
-use Rattle.clover_rule.proofs.Roots.{flush_core, flushed_mem, flushed_story, flead_cases}
+use Rattle.clover_rule.proofs.Binding.{CanBind, bound_story, bind_core, Case, here_tag, else_case, log_here, here_sure}
 use Rattle.clover_rule.proofs.Cuts.{unread_less}
 
 empty_list : {A : Type 0} (xs : List A) → length xs ≡ 0 → xs ≡ []
@@ -45,7 +42,7 @@ unsure_less : (a b c : ℕ) → a ≤ b → leb b c ≡ true → leb a c ≡ tru
 unsure_less a b c h q = grind (arith, nat_tests)
 
 module _ (l : Pool) (m0 : Map) (used : List ℕ) (m : Mem) (vs : List View) (id : ℕ) (v : View) (st : Story) (h : List Entry) (w : Whole l m0 used m vs st h) (at : nth vs id ≡ Some v) (role : v.pass.role ≡ Serving)
-         (s : ℕ) (k : List ℕ) (t : ℕ) (e : v.server.task ≡ Storing s k t (2 + length (spelling k) + length (spelling k))) where
+    (s : ℕ) (k : List ℕ) (t : ℕ) (e : v.server.task ≡ Storing s k t (2 + length (spelling k) + length (spelling k))) where
   abbrev n : ℕ
   n = 2 + length (spelling k) + length (spelling k)
 
@@ -117,23 +114,23 @@ module _ (l : Pool) (m0 : Map) (used : List ℕ) (m : Mem) (vs : List View) (id 
   less_unsure y q = dite (ℕ_discrete y t)
       (λ d. absurd (true≢false (sym q ∙ rw d (rw (upd_same st.slot_of t s, upd_same st.rank t (length (st.log s))) (rw (upd_same st.sure s 1) (rw bare refl))))))
       (λ d. let e1 = upd_else st.slot_of t y s d in let e2 = upd_else st.rank t y (length (st.log s)) d in
-         unsure_less (st.sure (st.slot_of y)) (st1.sure (st.slot_of y)) (st.rank y) (sure_more (st.slot_of y)) (sym (ap (λ (a : ℕ). leb (st1.sure a) (st1.rank y)) e1 ∙ ap (leb (st1.sure (st.slot_of y))) e2) ∙ q))
+      unsure_less (st.sure (st.slot_of y)) (st1.sure (st.slot_of y)) (st.rank y) (sure_more (st.slot_of y)) (sym (ap (λ (a : ℕ). leb (st1.sure a) (st1.rank y)) e1 ∙ ap (leb (st1.sure (st.slot_of y))) e2) ∙ q))
 
   tale1 : Tale st1 m0 used h
   tale1 = record {
-      legal = r.tale.legal;
-      told = λ s1 k1 q. ⊎_elim
-          (λ d. ap st1.log d.0 ∙ log_now ∙ sym (ap (λ (ws : List Version). (x ∷ []) ++ ws) (ap (λ (a : List ℕ). commits a h) d.1 ∙ silent.1)) ∙ sym (ap (λ (ws : List Version). ws ++ commits k1 h) (ap st1.first d.0 ∙ upd_same st.first s (x ∷ []))))
-          (λ d. log_else s1 d.0 ∙ r.tale.told s1 k1 d.1 ∙ ap (λ (ws : List Version). ws ++ commits k1 h) (sym (upd_else st.first s s1 (x ∷ []) d.0))) (bound_case s1 k1 q);
-      began = λ s1 k1 q. ⊎_elim
-          (λ d. ap (ends None) (ap st1.first d.0 ∙ upd_same st.first s (x ∷ [])) ∙ sym silent.0 ∙ ap m0 (sym d.1))
-          (λ d. ap (ends None) (upd_else st.first s s1 (x ∷ []) d.0) ∙ r.tale.began s1 k1 d.1) (bound_case s1 k1 q);
-      unread = unread_less (unsure st) (unsure st1) less_unsure h r.tale.unread;
-      settled = λ s1 i y q. dite (ℕ_discrete s1 s)
-          (λ d. let f : nth (x ∷ []) i ≡ Some y = sym (ap (λ (ws : List Version). nth ws i) (ap st1.first d ∙ upd_same st.first s (x ∷ []))) ∙ q in let z = nth_within (x ∷ []) i y f in let z1 = ap st1.sure d ∙ here_sure m st s x r.core can in omega arith)
-          (λ d. let f = r.tale.settled s1 i y (sym (ap (λ (ws : List Version). nth ws i) (upd_else st.first s s1 (x ∷ []) d)) ∙ q) in let z = sure_more s1 in omega arith);
-      unbound = λ k1 f. r.tale.unbound k1 (λ s1 q. dite (ℕ_discrete s1 s) (λ d. absurd (cc (ap st.keys d, q, is.bare))) (λ d. f s1 (key_else s1 d ∙ q)))
-    }
+    legal = r.tale.legal;
+    told = λ s1 k1 q. ⊎_elim
+        (λ d. ap st1.log d.0 ∙ log_now ∙ sym (ap (λ (ws : List Version). (x ∷ []) ++ ws) (ap (λ (a : List ℕ). commits a h) d.1 ∙ silent.1)) ∙ sym (ap (λ (ws : List Version). ws ++ commits k1 h) (ap st1.first d.0 ∙ upd_same st.first s (x ∷ []))))
+        (λ d. log_else s1 d.0 ∙ r.tale.told s1 k1 d.1 ∙ ap (λ (ws : List Version). ws ++ commits k1 h) (sym (upd_else st.first s s1 (x ∷ []) d.0))) (bound_case s1 k1 q);
+    began = λ s1 k1 q. ⊎_elim
+        (λ d. ap (ends None) (ap st1.first d.0 ∙ upd_same st.first s (x ∷ [])) ∙ sym silent.0 ∙ ap m0 (sym d.1))
+        (λ d. ap (ends None) (upd_else st.first s s1 (x ∷ []) d.0) ∙ r.tale.began s1 k1 d.1) (bound_case s1 k1 q);
+    unread = unread_less (unsure st) (unsure st1) less_unsure h r.tale.unread;
+    settled = λ s1 i y q. dite (ℕ_discrete s1 s)
+        (λ d. let f : nth (x ∷ []) i ≡ Some y = sym (ap (λ (ws : List Version). nth ws i) (ap st1.first d ∙ upd_same st.first s (x ∷ []))) ∙ q in let z = nth_within (x ∷ []) i y f in let z1 = ap st1.sure d ∙ here_sure m st s x r.core can in omega arith)
+        (λ d. let f = r.tale.settled s1 i y (sym (ap (λ (ws : List Version). nth ws i) (upd_else st.first s s1 (x ∷ []) d)) ∙ q) in let z = sure_more s1 in omega arith);
+    unbound = λ k1 f. r.tale.unbound k1 (λ s1 q. dite (ℕ_discrete s1 s) (λ d. absurd (cc (ap st.keys d, q, is.bare))) (λ d. f s1 (key_else s1 d ∙ q)));
+  }
 
   stands_case : (s1 i : ℕ) (y : Version) → Stands st1 s1 i y → ((s1 ≡ s) × (i ≡ 0) × (x ≡ y)) ⊎ ((s1 ≢ s) × Stands st s1 i y)
   stands_case s1 i y q = dite (ℕ_discrete s1 s)
@@ -149,62 +146,66 @@ module _ (l : Pool) (m0 : Map) (used : List ℕ) (m : Mem) (vs : List View) (id 
 
   grows : Grows m st h m1 st1 h
   grows = record {
-      versions = λ s1 i y q. dite (ℕ_discrete s1 s) (λ d. let f = nth_within (st.log s1) i y q in let z = bare in let z1 = ap (λ (a : ℕ). length (st.log a)) d in absurd (omega arith)) (λ d. ap (λ (ws : List Version). nth ws i) (log_else s1 d) ∙ q);
-      sure = sure_more;
-      gone = λ s1. dite (ℕ_discrete s1 s) (λ d. let a = ap st.gone d in let b = gone_zero in omega arith) (λ d. let a = (same s1 d).gone in omega arith);
-      gens = λ b. omega arith; names = prefix_self st.bindings; count = omega arith; history = prefix_self h
-    }
+    versions = λ s1 i y q. dite (ℕ_discrete s1 s) (λ d. let f = nth_within (st.log s1) i y q in let z = bare in let z1 = ap (λ (a : ℕ). length (st.log a)) d in absurd (omega arith)) (λ d. ap (λ (ws : List Version). nth ws i) (log_else s1 d) ∙ q);
+    sure = sure_more;
+    gone = λ s1. dite (ℕ_discrete s1 s) (λ d. let a = ap st.gone d in let b = gone_zero in omega arith) (λ d. let a = (same s1 d).gone in omega arith);
+    gens = λ b. omega arith;
+    names = prefix_self st.bindings;
+    count = omega arith;
+    history = prefix_self h;
+  }
 
   tag_case : (s1 i y : ℕ) → tag_at st1 s1 i ≡ Some y → ((s1 ≡ s) × (i ≡ 0) × (y ≡ t)) ⊎ ((s1 ≢ s) × (tag_at st s1 i ≡ Some y))
   tag_case s1 i y q = let z = tag_there st1 s1 i y q in ⊎_elim (λ d. inl (d.0, d.1, sym z.2 ∙ ap (λ (a : Version). a.tag) (sym d.2))) (λ d. inr (d.0, ap tag_in_version d.1 ∙ ap Some z.2)) (stands_case s1 i z.0 z.1)
 
   help1 : Help l m1 st1
   help1 = let p = w.help in record {
-      ranged = let a = p.ranged in record {
-          tags = λ s1 i y q. ⊎_elim (λ d. rw d.2 is.range) (λ d. a.tags s1 i y d.1) (tag_case s1 i y q);
-          own = a.own; below = a.below;
-          ready = λ b f. dite (ℕ_discrete b (home t)) (λ d. absurd (subst Ready (ap st1.place d ∙ upd_same st.place (home t) (Chained s)) f)) (λ d. a.ready b (subst Ready (place_else b d) f));
-          worn = λ b i f. dite (ℕ_discrete b (home t)) (λ d. absurd (cc (ap st1.place d, upd_same st.place (home t) (Chained s), f))) (λ d. a.worn b i (sym (place_else b d) ∙ f));
-          fits = λ s1 i y q. ⊎_elim (λ d. subst (λ (z : Version). Fits l z.value) d.2 tt) (λ d. a.fits s1 i y d.1) (stands_case s1 i y q)
-        };
-      keyed = let a = p.keyed in record {
-          current = λ s1 k1 q. ⊎_elim (λ d. rw (d.0, d.1) (λ j y f. is.key j y f (let z = nth_within (spelling k) j y f in omega arith))) (λ d. a.current s1 k1 d.1) (bound_case s1 k1 q);
-          flushed = λ s1 k1 q. ⊎_elim (λ d. rw (d.0, d.1) (λ j y f. is.fkey j y f (let z = nth_within (spelling k) j y f in omega arith))) (λ d. a.flushed s1 k1 d.1) (bound_case s1 k1 q);
-          bare = λ s1 q. dite (ℕ_discrete s1 s) (λ d. absurd (cc (ap st1.keys d, key_now, q))) (λ d. ap length (log_else s1 d) ∙ a.bare s1 (sym (key_else s1 d) ∙ q));
-          nameless = λ s1 q. dite (ℕ_discrete s1 s) (λ d. absurd (cc (ap st1.keys d, key_now, q))) (λ d. a.nameless s1 (sym (key_else s1 d) ∙ q));
-          valid = λ s1 k1 q. ⊎_elim (λ d. subst IsKey (sym d.1) is.valid) (λ d. a.valid s1 k1 d.1) (bound_case s1 k1 q);
-          filled = λ s1 k1 q. ⊎_elim (λ d. let z = ap length (ap st1.log d.0 ∙ log_now) in omega arith) (λ d. let z = ap length (log_else s1 d.0) in let z1 = a.filled s1 k1 d.1 in omega arith) (bound_case s1 k1 q);
-          slots = λ s1 k1 q. ⊎_elim (λ d. rw d.0 is.slot) (λ d. a.slots s1 k1 d.1) (bound_case s1 k1 q)
-        };
-      naming = let a = p.naming in record {
-          counted = a.counted;
-          found = λ s1 k1 q. ⊎_elim (λ d. rw (d.0, d.1) (at_key_same st.slot_named k s)) (λ d. at_key_else st.slot_named k k1 s (λ z. is.absent s1 (d.1 ∙ ap Some z)) ∙ a.found s1 k1 d.1) (bound_case s1 k1 q);
-          listed = λ s1 k1 q f. ⊎_elim (λ d. absurd (true≢false (sym f ∙ ap st.named d.0 ∙ is.unnamed))) (λ d. a.listed s1 k1 d.1 f) (bound_case s1 k1 q);
-          waiting = λ s1 k1 q f i y z. ⊎_elim (λ d. ap (λ (a1 : Version). a1.value) (sym d.2)) (λ d. ⊎_elim (λ c. absurd (d.0 c.0)) (λ c. a.waiting s1 k1 c.1 f i y d.1) (bound_case s1 k1 q)) (stands_case s1 i y z)
-        };
-      stage = record {
-          settled = λ s1 q. dite (ℕ_discrete s1 s) (λ d. (ap st1.lead d ∙ upd_same st.lead s 0 ∙ sym (ap st1.gone d ∙ upd_same st.gone s 0), ap st1.flead d ∙ upd_same st.flead s 0 ∙ sym (ap st1.gone d ∙ upd_same st.gone s 0)))
-             (λ d. let z = g.settled s1 q in let c = same s1 d in (c.lead ∙ z.0 ∙ sym c.gone, c.flead ∙ z.1 ∙ sym c.gone));
-          holds = λ b f. dite (ℕ_discrete b (home t)) (λ d. absurd (cc (ap st1.place d, upd_same st.place (home t) (Chained s), f))) (λ d. absurd (d (let z : Some (home t) ≡ Some b = g.holds b (sym (place_else b d) ∙ f) in cc)));
-          names = λ s1 k1 q. ⊎_elim (λ d. inr (ap Some (sym d.0))) (λ d. ⊎_elim inl (λ z. absurd cc) (g.names s1 k1 d.1)) (bound_case s1 k1 q);
-          here = (record { key = key_now; unnamed = is.unnamed; alone = ap length log_now; tag = here_tag m st s x r.core can; gone = upd_same st.gone s 0 }, can.unrooted)
-        };
-      short = λ s1 y q. durable_kept m st h m1 st1 h grows s1 y (p.short s1 y q)
-    }
+    ranged = let a = p.ranged in record {
+      tags = λ s1 i y q. ⊎_elim (λ d. rw d.2 is.range) (λ d. a.tags s1 i y d.1) (tag_case s1 i y q);
+      own = a.own;
+      below = a.below;
+      ready = λ b f. dite (ℕ_discrete b (home t)) (λ d. absurd (subst Ready (ap st1.place d ∙ upd_same st.place (home t) (Chained s)) f)) (λ d. a.ready b (subst Ready (place_else b d) f));
+      worn = λ b i f. dite (ℕ_discrete b (home t)) (λ d. absurd (cc (ap st1.place d, upd_same st.place (home t) (Chained s), f))) (λ d. a.worn b i (sym (place_else b d) ∙ f));
+      fits = λ s1 i y q. ⊎_elim (λ d. subst (λ (z : Version). Fits l z.value) d.2 tt) (λ d. a.fits s1 i y d.1) (stands_case s1 i y q);
+    };
+    keyed = let a = p.keyed in record {
+      current = λ s1 k1 q. ⊎_elim (λ d. rw (d.0, d.1) (λ j y f. is.key j y f (let z = nth_within (spelling k) j y f in omega arith))) (λ d. a.current s1 k1 d.1) (bound_case s1 k1 q);
+      flushed = λ s1 k1 q. ⊎_elim (λ d. rw (d.0, d.1) (λ j y f. is.fkey j y f (let z = nth_within (spelling k) j y f in omega arith))) (λ d. a.flushed s1 k1 d.1) (bound_case s1 k1 q);
+      bare = λ s1 q. dite (ℕ_discrete s1 s) (λ d. absurd (cc (ap st1.keys d, key_now, q))) (λ d. ap length (log_else s1 d) ∙ a.bare s1 (sym (key_else s1 d) ∙ q));
+      nameless = λ s1 q. dite (ℕ_discrete s1 s) (λ d. absurd (cc (ap st1.keys d, key_now, q))) (λ d. a.nameless s1 (sym (key_else s1 d) ∙ q));
+      valid = λ s1 k1 q. ⊎_elim (λ d. subst IsKey (sym d.1) is.valid) (λ d. a.valid s1 k1 d.1) (bound_case s1 k1 q);
+      filled = λ s1 k1 q. ⊎_elim (λ d. let z = ap length (ap st1.log d.0 ∙ log_now) in omega arith) (λ d. let z = ap length (log_else s1 d.0) in let z1 = a.filled s1 k1 d.1 in omega arith) (bound_case s1 k1 q);
+      slots = λ s1 k1 q. ⊎_elim (λ d. rw d.0 is.slot) (λ d. a.slots s1 k1 d.1) (bound_case s1 k1 q);
+    };
+    naming = let a = p.naming in record {
+      counted = a.counted;
+      found = λ s1 k1 q. ⊎_elim (λ d. rw (d.0, d.1) (at_key_same st.slot_named k s)) (λ d. at_key_else st.slot_named k k1 s (λ z. is.absent s1 (d.1 ∙ ap Some z)) ∙ a.found s1 k1 d.1) (bound_case s1 k1 q);
+      listed = λ s1 k1 q f. ⊎_elim (λ d. absurd (true≢false (sym f ∙ ap st.named d.0 ∙ is.unnamed))) (λ d. a.listed s1 k1 d.1 f) (bound_case s1 k1 q);
+      waiting = λ s1 k1 q f i y z. ⊎_elim (λ d. ap (λ (a1 : Version). a1.value) (sym d.2)) (λ d. ⊎_elim (λ c. absurd (d.0 c.0)) (λ c. a.waiting s1 k1 c.1 f i y d.1) (bound_case s1 k1 q)) (stands_case s1 i y z);
+    };
+    stage = record {
+      settled = λ s1 q. dite (ℕ_discrete s1 s) (λ d. (ap st1.lead d ∙ upd_same st.lead s 0 ∙ sym (ap st1.gone d ∙ upd_same st.gone s 0), ap st1.flead d ∙ upd_same st.flead s 0 ∙ sym (ap st1.gone d ∙ upd_same st.gone s 0)))
+          (λ d. let z = g.settled s1 q in let c = same s1 d in (c.lead ∙ z.0 ∙ sym c.gone, c.flead ∙ z.1 ∙ sym c.gone));
+      holds = λ b f. dite (ℕ_discrete b (home t)) (λ d. absurd (cc (ap st1.place d, upd_same st.place (home t) (Chained s), f))) (λ d. absurd (d (let z : Some (home t) ≡ Some b = g.holds b (sym (place_else b d) ∙ f) in cc)));
+      names = λ s1 k1 q. ⊎_elim (λ d. inr (ap Some (sym d.0))) (λ d. ⊎_elim inl (λ z. absurd cc) (g.names s1 k1 d.1)) (bound_case s1 k1 q);
+      here = (record { key = key_now; unnamed = is.unnamed; alone = ap length log_now; tag = here_tag m st s x r.core can; gone = upd_same st.gone s 0 }, can.unrooted);
+    };
+    short = λ s1 y q. durable_kept m st h m1 st1 h grows s1 y (p.short s1 y q);
+  }
 
   moves : Moves l m0 used m st h m1 st1
   moves = record {
-      core = core_copy (record m { root = upd m.root s (Some t) }) st0 (bind_core m st s x r.core can) m.body m.fbody m.key m.fkey m.short m.count st1.keys st1.first st.bindings (Rooted s k t) st1.slot_named;
-      tale = tale1;
-      bodies = λ s1 i y q f. ⊎_elim (λ d. subst (Holds m1) d.2 holds_new) (λ d. r.bodies s1 i y d.1 (let z = (same s1 d.0).gone in omega arith)) (stands_case s1 i y q);
-      spent = λ y q. ⊎_elim inl (λ a. inr (a.0, place_else (home y) (λ d. absurd (cc (ap st.place d, a.1, is.place))) ∙ a.1, a.2)) q;
-      bound = λ s1 k1 q. let z = r.bound s1 k1 q in (key_else s1 (λ d. absurd (cc (ap st.keys d, z.0, is.bare))) ∙ z.0, z.1);
-      keyed = λ s1 s2 k1 q1 q2. ⊎_elim (λ a. ⊎_elim (λ b. a.0 ∙ sym b.0) (λ b. absurd (is.absent s2 (b.1 ∙ ap Some a.1))) (bound_case s2 k1 q2)) (λ a. ⊎_elim (λ b. absurd (is.absent s1 (a.1 ∙ ap Some b.1))) (λ b. r.keyed s1 s2 k1 a.1 b.1) (bound_case s2 k1 q2)) (bound_case s1 k1 q1);
-      grows = grows;
-      leaves = λ j b f. record { place = place_else b (λ d. absurd (cc (ap st.place d, f, is.place))) ∙ f; next = refl; body = λ y. refl; fbody = λ y. refl };
-      help = help1;
-      fgens = λ b. omega arith
-    }
+    core = core_copy (record m { root = upd m.root s (Some t) }) st0 (bind_core m st s x r.core can) m.body m.fbody m.key m.fkey m.short m.count st1.keys st1.first st.bindings (Rooted s k t) st1.slot_named;
+    tale = tale1;
+    bodies = λ s1 i y q f. ⊎_elim (λ d. subst (Holds m1) d.2 holds_new) (λ d. r.bodies s1 i y d.1 (let z = (same s1 d.0).gone in omega arith)) (stands_case s1 i y q);
+    spent = λ y q. ⊎_elim inl (λ a. inr (a.0, place_else (home y) (λ d. absurd (cc (ap st.place d, a.1, is.place))) ∙ a.1, a.2)) q;
+    bound = λ s1 k1 q. let z = r.bound s1 k1 q in (key_else s1 (λ d. absurd (cc (ap st.keys d, z.0, is.bare))) ∙ z.0, z.1);
+    keyed = λ s1 s2 k1 q1 q2. ⊎_elim (λ a. ⊎_elim (λ b. a.0 ∙ sym b.0) (λ b. absurd (is.absent s2 (b.1 ∙ ap Some a.1))) (bound_case s2 k1 q2)) (λ a. ⊎_elim (λ b. absurd (is.absent s1 (a.1 ∙ ap Some b.1))) (λ b. r.keyed s1 s2 k1 a.1 b.1) (bound_case s2 k1 q2)) (bound_case s1 k1 q1);
+    grows = grows;
+    leaves = λ j b f. record { place = place_else b (λ d. absurd (cc (ap st.place d, f, is.place))) ∙ f; next = refl; body = λ y. refl; fbody = λ y. refl };
+    help = help1;
+    fgens = λ b. omega arith;
+  }
 
   roots_now : (s1 : ℕ) → upd (root_at v.server) s (Some t) s1 ≡ tag_at st1 s1 (st1.gone s1)
   roots_now s1 = dite (ℕ_discrete s1 s) (λ d. ap (upd (root_at v.server) s (Some t)) d ∙ upd_same (root_at v.server) s (Some t) ∙ sym (ap (λ (a : ℕ). tag_at st1 a (st1.gone a)) d ∙ ap (tag_at st1 s) (upd_same st.gone s 0) ∙ here_tag m st s x r.core can))
@@ -212,20 +213,20 @@ module _ (l : Pool) (m0 : Map) (used : List ℕ) (m : Mem) (vs : List View) (id 
 
   serves1 : Serves l m1 st1 (Rooted s k t) (server_after l (BindRoot s k t) v.server)
   serves1 = record {
-      task_is = refl;
-      directory = ap (λ (a : List (ℕ × List ℕ)). a ++ (s, k) ∷ []) (sv.directory ∙ append-nil st.bindings);
-      roots = roots_now;
-      books = λ b i. dite (ℕ_discrete b (home t))
-         (λ d. ap (upd (book_at v.server) (home t) (book (age t) IsBound)) d ∙ upd_same (book_at v.server) (home t) (book (age t) IsBound)
-            ∙ sym (ap (λ (a : ℕ). book_of (Rooted s k t) st1 (st1.place a) (gen (m.next a)) a) d ∙ ap (λ (p : Place). book_of (Rooted s k t) st1 p (gen (m.next (home t))) (home t)) (upd_same st.place (home t) (Chained s))
-              ∙ ap (λ (a : Option ℕ). book (gen (m.next (home t))) (cond (is_home a (home t)) IsBound IsOut)) (ap (tag_at st1 s) (upd_same st.gone s 0) ∙ here_tag m st s x r.core can)
-              ∙ ap (λ (a : Bool). book (gen (m.next (home t))) (cond a IsBound IsOut)) (eq-eqb (home t) (home t) refl) ∙ ap (λ (a : ℕ). book a IsBound) (ap gen is.now)))
-         (λ d. upd_else (book_at v.server) (home t) b (book (age t) IsBound) d ∙ sv.books b i
-            ∙ sym (book_same (Storing s k t n) (Rooted s k t) st st1 (st.place b) (gen (m.next b)) b
-                (λ s1 q. ap (λ (a : Option ℕ). is_home a b) (let f : s1 ≢ s = λ z. let c = r.core.chained b s1 q in let c1 = tag_within st s1 c.0 c.1 c.2 in let c2 = bare in let c3 = ap (λ (a : ℕ). length (st.log a)) z in absurd (omega arith) in ap (tag_at st1 s1) (same s1 f).gone ∙ (same s1 f).tags (st.gone s1)))
-                (λ q. absurd (d (let z : Some (home t) ≡ Some b = g.holds b q in cc))))
-            ∙ sym (ap (λ (p : Place). book_of (Rooted s k t) st1 p (gen (m.next b)) b) (place_else b d)))
-    }
+    task_is = refl;
+    directory = ap (λ (a : List (ℕ × List ℕ)). a ++ (s, k) ∷ []) (sv.directory ∙ append-nil st.bindings);
+    roots = roots_now;
+    books = λ b i. dite (ℕ_discrete b (home t))
+        (λ d. ap (upd (book_at v.server) (home t) (book (age t) IsBound)) d ∙ upd_same (book_at v.server) (home t) (book (age t) IsBound)
+        ∙ sym (ap (λ (a : ℕ). book_of (Rooted s k t) st1 (st1.place a) (gen (m.next a)) a) d ∙ ap (λ (p : Place). book_of (Rooted s k t) st1 p (gen (m.next (home t))) (home t)) (upd_same st.place (home t) (Chained s))
+        ∙ ap (λ (a : Option ℕ). book (gen (m.next (home t))) (cond (is_home a (home t)) IsBound IsOut)) (ap (tag_at st1 s) (upd_same st.gone s 0) ∙ here_tag m st s x r.core can)
+        ∙ ap (λ (a : Bool). book (gen (m.next (home t))) (cond a IsBound IsOut)) (eq-eqb (home t) (home t) refl) ∙ ap (λ (a : ℕ). book a IsBound) (ap gen is.now)))
+        (λ d. upd_else (book_at v.server) (home t) b (book (age t) IsBound) d ∙ sv.books b i
+        ∙ sym (book_same (Storing s k t n) (Rooted s k t) st st1 (st.place b) (gen (m.next b)) b
+        (λ s1 q. ap (λ (a : Option ℕ). is_home a b) (let f : s1 ≢ s = λ z. let c = r.core.chained b s1 q in let c1 = tag_within st s1 c.0 c.1 c.2 in let c2 = bare in let c3 = ap (λ (a : ℕ). length (st.log a)) z in absurd (omega arith) in ap (tag_at st1 s1) (same s1 f).gone ∙ (same s1 f).tags (st.gone s1)))
+        (λ q. absurd (d (let z : Some (home t) ≡ Some b = g.holds b q in cc))))
+        ∙ sym (ap (λ (p : Place). book_of (Rooted s k t) st1 p (gen (m.next b)) b) (place_else b d)));
+  }
 
   pub bind_root_whole : IsWhole l m0 used m1 (renewed vs id (served_view l (BindRoot s k t) v))
   bind_root_whole = (st1, h, whole l m0 used m vs st h w id v at role (BindRoot s k t) m1 st1 moves serves1)

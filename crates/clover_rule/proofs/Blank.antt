@@ -1,28 +1,22 @@
 -- The server's first view, and a blank pool: the rule can hold.
-use Rattle.std.proofs.Common.{◌≡◌, ℕ, zero, suc, ◌+◌, ◌*◌, ◌/◌, ◌<◌, ◌≤◌, ◌≢◌, ◌⊎◌, List, [], ◌∷◌, ◌++◌, length, length-append, set, append_assoc, append-nil, Bool, true, false, cond, eqb, ltb, leb, refl, sym, ap, ◌∙◌, inl, inr, ⊎_elim, arith, subst, eq-eqb, ne_eqb, eqb-true, true≢false}
+use Rattle.std.proofs.Common.{◌≡◌, ℕ, zero, suc, ◌*◌, ◌/◌, ◌<◌, ◌≤◌, ◌≢◌, List, [], ◌∷◌, ◌++◌, true, refl, sym, ap, ◌∙◌, arith, eq-eqb, ne_eqb}
 use native.Mathlib.Decide.{ℕ_discrete, dec_le}
 use mathlib.Core.Logic.{dite}
 use Rattle.std.specs.Prelude.{Option, Some, None}
 use Rattle.std.proofs.lemmas.Bool.Decides.{nat_tests}
-use Rattle.clover_map.specs.declared.bytes.Value.{Value}
-use Rattle.clover_map.specs.declared.call.Entry.{Entry}
 use Rattle.clover_map.specs.Tagged.{Tagged}
 use Rattle.clover_rule.specs.Content.{inside}
-use Rattle.clover_rule.specs.History.{Map, own}
+use Rattle.clover_rule.specs.History.{Map}
 use Rattle.clover_rule.specs.Image.{Image}
 use Rattle.clover_rule.specs.Lists.{nth}
 use Rattle.clover_rule.specs.Server.{Serves, root_in, book_of, IsWhole, Sound, Opens}
-use Rattle.clover_rule.specs.State.{tag_at, word, gen, Mem, Story, Core}
+use Rattle.clover_rule.specs.State.{tag_at, word, gen, Mem, Story}
 use Rattle.clover_rule.specs.Views.{Book, book, line, find_book, find_root}
 use Rattle.clover_rule.specs.declared.view.BookLine.{BookLine}
 use Rattle.clover_rule.specs.declared.view.Server.{Server}
 use Rattle.clover_rule.specs.declared.view.Task.TheVariants.{Idle}
 use Rattle.clover_rule.specs.declared.view.View.{View}
 use Rattle.clover_words.specs.declared.pool.Pool.{Pool}
-use Rattle.clover_rule.proofs.Tools.{upd_same, upd_else, nth_within, nth_snoc, nth_front, nth_last, nth_past, nth_none}
-use Rattle.clover_rule.proofs.Standings.{tag_there, tag_within, tag_past, same_tag, one_buffer}
-use Rattle.clover_rule.proofs.Steps.{each_map, each_within, prefix_trans, prefix_self, within_prefix, Grows, Leaves, view_kept, nth_set, set_here, set_away, link_kept, durable_kept, past_kept, copied_kept}
-
 use Rattle.clover_rule.proofs.Opening.{opened, open_core, open_whole, first_views}
 
 -- the lines of the books that say a function, of the buffers below a number
@@ -93,8 +87,12 @@ module _ (l : Pool) (im : Image) (sound : Sound l im) (m0 : Map) (used : List �
       go (Some t) e = let z = sound.inside s t (sym (o.root s).0 ∙ (open_core l im sound m0 used m o first).root s ∙ e) in absurd (n z)
 
   pub first_serves : Serves l m st Idle first_server
-  first_serves = record { task_is = refl; directory = refl; roots = λ s. dite (dec_le (suc s) l.slots) (λ d. root_lines_here (root_in Idle st) l.slots s d) (λ n. root_lines_past (root_in Idle st) l.slots s n ∙ sym (none_past s n));
-      books = λ b i. lines_here (λ (x : ℕ). book_of Idle st (st.place x) (gen (m.next x)) x) (l.nodes * 65536) b (inside_below l b i) }
+  first_serves = record {
+    task_is = refl;
+    directory = refl;
+    roots = λ s. dite (dec_le (suc s) l.slots) (λ d. root_lines_here (root_in Idle st) l.slots s d) (λ n. root_lines_past (root_in Idle st) l.slots s n ∙ sym (none_past s n));
+    books = λ b i. lines_here (λ (x : ℕ). book_of Idle st (st.place x) (gen (m.next x)) x) (l.nodes * 65536) b (inside_below l b i);
+  }
 
   pub first_whole : IsWhole l m0 used m (first_views l im sound m0 used m o first first_server first_serves)
   first_whole = (st, [], open_whole l im sound m0 used m o first first_server first_serves)
@@ -107,16 +105,45 @@ blank_mem = record { next = λ (b : ℕ). word 0 None; fnext = λ (b : ℕ). wor
 
 blank_sound : (l : Pool) → Sound l blank_image
 blank_sound l = record {
-    own = λ b. omega arith; target = λ b t e. absurd cc; root = λ s t e. absurd cc; key = λ s t e. absurd cc; same = λ s1 s2 t1 t2 k e1 e2 q1 q2. absurd cc;
-    chain = λ s. []; walk = λ s. tt; once = λ s1 s2 i1 i2 t1 t2 e1 e2 q. absurd cc; value = λ s i. None; contents = λ s i t e. absurd cc; inside = λ s t e. absurd cc }
+  own = λ b. omega arith;
+  target = λ b t e. absurd cc;
+  root = λ s t e. absurd cc;
+  key = λ s t e. absurd cc;
+  same = λ s1 s2 t1 t2 k e1 e2 q1 q2. absurd cc;
+  chain = λ s. [];
+  walk = λ s. tt;
+  once = λ s1 s2 i1 i2 t1 t2 e1 e2 q. absurd cc;
+  value = λ s i. None;
+  contents = λ s i t e. absurd cc;
+  inside = λ s t e. absurd cc;
+}
 
 blank_opens : (l : Pool) → Opens l blank_image (blank_sound l) (λ (k : List ℕ). None) [] blank_mem
 unfolding blank_sound
 blank_opens l = record {
-    next = λ b. (refl, refl); root = λ s. (refl, refl); body = λ b j. (refl, refl); key = λ s j. (refl, refl); short = λ s. refl;
-    spot = λ b. None; on = λ s i t e. absurd (none i e); from = λ b s i e. absurd cc; off = λ b e. refl;
-    keys = λ s. None; keyed = λ s t e. absurd cc; valid = λ s k e. absurd cc; bare = λ s e. refl; bindings = []; listed = λ s k e. absurd cc; bound = λ s k e. absurd e; count = refl;
-    slot_named = λ k. 0; found = λ s k e. absurd cc; map_is = λ s k e. absurd cc; map_else = λ k e. refl; used_is = tt }
+  next = λ b. (refl, refl);
+  root = λ s. (refl, refl);
+  body = λ b j. (refl, refl);
+  key = λ s j. (refl, refl);
+  short = λ s. refl;
+  spot = λ b. None;
+  on = λ s i t e. absurd (none i e);
+  from = λ b s i e. absurd cc;
+  off = λ b e. refl;
+  keys = λ s. None;
+  keyed = λ s t e. absurd cc;
+  valid = λ s k e. absurd cc;
+  bare = λ s e. refl;
+  bindings = [];
+  listed = λ s k e. absurd cc;
+  bound = λ s k e. absurd e;
+  count = refl;
+  slot_named = λ k. 0;
+  found = λ s k e. absurd cc;
+  map_is = λ s k e. absurd cc;
+  map_else = λ k e. refl;
+  used_is = tt;
+}
   where
     none : (i : ℕ) {t : ℕ} → nth [] i ≡ Some t → ⊥
     none i e = absurd cc

@@ -1,9 +1,6 @@
 -- The deciding steps of put, delete and swap over the whole rule.
-use Rattle.std.proofs.Common.{◌≡◌, ℕ, zero, suc, ◌+◌, ◌<◌, ◌≤◌, ◌≢◌, ◌⊎◌, List, [], ◌∷◌, ◌++◌, length, length-append, set, append_assoc, append-nil, Bool, true, false, cond, eqb, ltb, leb, refl, sym, ap, ◌∙◌, inl, inr, ⊎_elim, arith, subst, eq-eqb, ne_eqb, eqb-true, true≢false}
-use native.Mathlib.Decide.{ℕ_discrete, dec_le}
-use mathlib.Core.Logic.{dite}
+use Rattle.std.proofs.Common.{◌≡◌, ℕ, suc, ◌<◌, ◌≤◌, ◌≢◌, List, [], ◌∷◌, ◌++◌, refl, sym, ap, ◌∙◌, arith, subst}
 use Rattle.std.specs.Prelude.{Option, Some, None}
-use Rattle.std.proofs.lemmas.Bool.Decides.{nat_tests}
 use Rattle.clover_map.specs.declared.bytes.Value.{Value}
 use Rattle.clover_map.specs.declared.call.Entry.{Entry}
 use Rattle.clover_map.specs.declared.call.Call.{Call}
@@ -17,7 +14,7 @@ use Rattle.clover_rule.specs.Content.{Fits, tombstone, value_meta}
 use Rattle.clover_rule.specs.History.{Version, Map, used_by, Does, named, committed, pair_of, paired, tag_in, Fresh, grown, leads}
 use Rattle.clover_rule.specs.Lists.{Each, nth, Within}
 use Rattle.clover_rule.specs.Server.{Ready, Whole, MayLink, link_entry, link_view, SawValue, SawTombstone, CopiedValue}
-use Rattle.clover_rule.specs.State.{home, age, word, gen, Mem, Loose, Story, Core, linked_mem, linked_story}
+use Rattle.clover_rule.specs.State.{home, age, word, gen, Mem, Loose, Story, linked_mem, linked_story}
 use Rattle.clover_rule.specs.Views.{Basis, renewed}
 use Rattle.clover_rule.specs.declared.view.Role.TheVariants.{Client}
 use Rattle.clover_rule.specs.declared.view.View.{View}
@@ -25,10 +22,6 @@ use Rattle.clover_words.specs.declared.pool.Pool.{Pool}
 use Rattle.clover_words.specs.Meta.{meta_word}
 use Rattle.clover_words.specs.declared.meta.Kind.TheVariants.{Value as IsValue}
 use Rattle.clover_rule.proofs.Spelling.{meta_dead, meta_live, first_word, read_content}
-use Rattle.clover_rule.proofs.Tools.{upd_same, upd_else, nth_within, nth_snoc, nth_front, nth_last, nth_past, nth_none}
-use Rattle.clover_rule.proofs.Standings.{tag_there, tag_within, tag_past, same_tag, one_buffer}
-use Rattle.clover_rule.proofs.Steps.{each_map, each_within, prefix_trans, prefix_self, within_prefix, Grows, Leaves, view_kept, nth_set, set_here, set_away, link_kept, durable_kept, past_kept, copied_kept}
-
 use Rattle.clover_rule.proofs.Commit.{can as commit_can, grows as commit_grows, rule' as commit_rule, owned as commit_owned, slot_bound as commit_bound, tail_durable as commit_durable}
 use Rattle.clover_rule.proofs.Decide.{version, tail_durable, map_at, copied_word, decide_rule, decided_view}
 use Rattle.clover_rule.proofs.ClientSteps.{each_snoc, client_whole, link_help, link_serves}
@@ -54,11 +47,11 @@ module _ (l : Pool) (m0 : Map) (used : List ℕ) (m : Mem) (vs : List View) (st 
       let key = (commit_bound m0 used m vs st h r id v at n s k u t y call reply rest p nm cm does found).0 in
       let g = commit_grows m0 used m vs st h r id v at n s k u t y call reply rest p nm cm does found in
       client_whole l m0 used m vs st h w id v (link_view v h n s u t call reply rest) at n p.client refl (linked_mem m u t) (linked_story st s (record { tag = t; value = y })) (h ++ link_entry v n call reply ∷ [])
-        (commit_rule m0 used m vs st h r id v at n s k u t y call reply rest p nm cm does found)
-        (link_help l m st r.core w.help s u i id (record { tag = t; value = y }) c k key fits h (h ++ link_entry v n call reply ∷ []) g)
-        (link_serves l m st r.core w.help s u i id (record { tag = t; value = y }) c k key fits h (h ++ link_entry v n call reply ∷ []) g)
-        (subst (Each (λ (x : ℕ). (age x < l.wear) × (age x ≤ gen (m.fnext (home x))))) (sym (used_snoc used h (link_entry v n call reply) ∙ ap (grown (used_by used h)) cm)) ((let a = o.1 in let b = rg.1 in omega arith, let a = o.1 in let b = ap gen lo.1 in omega arith), w.safe))
-        (λ cs a b. each_snoc (λ (e : Entry). Within e.client cs) h (link_entry v n call reply) b a)
+      (commit_rule m0 used m vs st h r id v at n s k u t y call reply rest p nm cm does found)
+      (link_help l m st r.core w.help s u i id (record { tag = t; value = y }) c k key fits h (h ++ link_entry v n call reply ∷ []) g)
+      (link_serves l m st r.core w.help s u i id (record { tag = t; value = y }) c k key fits h (h ++ link_entry v n call reply ∷ []) g)
+      (subst (Each (λ (x : ℕ). (age x < l.wear) × (age x ≤ gen (m.fnext (home x))))) (sym (used_snoc used h (link_entry v n call reply) ∙ ap (grown (used_by used h)) cm)) ((let a = o.1 in let b = rg.1 in omega arith, let a = o.1 in let b = ap gen lo.1 in omega arith), w.safe))
+      (λ cs a b. each_snoc (λ (e : Entry). Within e.client cs) h (link_entry v n call reply) b a)
 
   -- what the tail's meta word says of the map
   live_map : (s : ℕ) (k : List ℕ) (u : ℕ) (tail : Within (s, u) v.pass.durable) (name : Within (s, k) v.pass.names) (found : m.next (home u) ≡ word (age u) None) → SawValue v s u → tag_in (leads m0 h k) ≡ Some u
@@ -98,8 +91,8 @@ module _ (l : Pool) (m0 : Map) (used : List ℕ) (m : Mem) (vs : List View) (st 
         let y = version m0 used m vs st h r id v at s k u tail name found in
         let fits = w.help.ranged.fits s (tail_durable m0 used m vs st h r id v at s k u tail name found).0 y.0 y.1 in
         let is : y.0.value ≡ Some x = read_content l y.0.value x fits q.flags_fit q.size_fits
-            (λ z e. copied_word m0 used m vs st h r id v at s k u tail name found 0 (value_meta x) z q.meta e)
-            (λ j b. let a = q.words j b in (a.0, (λ z e. copied_word m0 used m vs st h r id v at s k u tail name found (suc j) a.0 z a.1 e), a.2)) in
+        (λ z e. copied_word m0 used m vs st h r id v at s k u tail name found 0 (value_meta x) z q.meta e)
+        (λ j b. let a = q.words j b in (a.0, (λ z e. copied_word m0 used m vs st h r id v at s k u tail name found (suc j) a.0 z a.1 e), a.2)) in
         map_at m0 used m vs st h r id v at s k u tail name found ∙ ap (paired y.0.tag) is ∙ ap (λ (t : ℕ). Some (held t x)) y.2
 
     -- Absent at a tombstone, for get, delete and swap, and Differs

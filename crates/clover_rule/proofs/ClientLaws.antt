@@ -1,15 +1,13 @@
 -- The put's exchange, the raise and the quiet steps of a client over the whole rule.
-use Rattle.std.proofs.Common.{◌≡◌, ℕ, zero, suc, ◌+◌, ◌<◌, ◌≤◌, ◌≢◌, ◌⊎◌, List, [], ◌∷◌, ◌++◌, length, length-append, set, append_assoc, append-nil, Bool, true, false, cond, eqb, ltb, leb, refl, sym, ap, ◌∙◌, inl, inr, ⊎_elim, arith, subst, eq-eqb, ne_eqb, eqb-true, true≢false}
-use native.Mathlib.Decide.{ℕ_discrete, dec_le}
+use Rattle.std.proofs.Common.{◌≡◌, ℕ, ◌≤◌, List, refl, sym, ap, ◌∙◌, arith}
+use native.Mathlib.Decide.{ℕ_discrete}
 use mathlib.Core.Logic.{dite}
-use Rattle.std.specs.Prelude.{Option, Some, None}
-use Rattle.std.proofs.lemmas.Bool.Decides.{nat_tests}
-use Rattle.clover_map.specs.declared.bytes.Value.{Value}
+use Rattle.std.specs.Prelude.{Some}
 use Rattle.clover_map.specs.declared.call.Entry.{Entry}
-use Rattle.clover_rule.specs.History.{Map, own, used_by}
+use Rattle.clover_rule.specs.History.{Map, used_by}
 use Rattle.clover_rule.specs.Lists.{nth, upd, Within}
-use Rattle.clover_rule.specs.Server.{unnamed, AtStage, Whole}
-use Rattle.clover_rule.specs.State.{home, age, word, gen, link, Mem, Story, Core, Durable, greater, raised_mem, raised_story}
+use Rattle.clover_rule.specs.Server.{AtStage, Whole}
+use Rattle.clover_rule.specs.State.{home, age, word, gen, Mem, Story, Durable, greater, raised_mem, raised_story}
 use Rattle.clover_rule.specs.Views.{ViewOk, Basis, renewed, raise_view}
 use Rattle.clover_rule.specs.declared.view.Link.{Link}
 use Rattle.clover_rule.specs.declared.view.Role.TheVariants.{Client}
@@ -17,13 +15,10 @@ use Rattle.clover_rule.specs.declared.view.Task.{Task}
 use Rattle.clover_rule.specs.declared.view.Task.TheVariants.{Idle, Storing, Rooted, Waiting, Loaded, Raised, Led, Both, Exchanged}
 use Rattle.clover_rule.specs.declared.view.View.{View}
 use Rattle.clover_words.specs.declared.pool.Pool.{Pool}
-use Rattle.clover_rule.proofs.Tools.{upd_same, upd_else, nth_within, nth_snoc, nth_front, nth_last, nth_past, nth_none}
-use Rattle.clover_rule.proofs.Standings.{tag_there, tag_within, tag_past, same_tag, one_buffer}
-use Rattle.clover_rule.proofs.Steps.{each_map, each_within, prefix_trans, prefix_self, within_prefix, Grows, Leaves, view_kept, nth_set, set_here, set_away, link_kept, durable_kept, past_kept, copied_kept}
-
-use Rattle.clover_rule.proofs.ClientSteps.{each_snoc, client_whole, link_help, link_serves, raise_help, raise_serves}
+use Rattle.clover_rule.proofs.Tools.{upd_same, upd_else}
+use Rattle.clover_rule.proofs.Steps.{each_map, each_within}
+use Rattle.clover_rule.proofs.ClientSteps.{client_whole, raise_help, raise_serves}
 use Rattle.clover_rule.proofs.RaiseLaw.{known, grows as raise_grows, rule' as raise_rule}
-use Rattle.clover_rule.proofs.Snocs.{used_snoc}
 use Rattle.clover_rule.proofs.Stages.{gen_least}
 use Rattle.clover_rule.proofs.Quiet.{quiet}
 
@@ -36,13 +31,15 @@ module _ (l : Pool) (m0 : Map) (used : List ℕ) (m : Mem) (vs : List View) (st 
       → (st' : Story) × Whole l m0 used (raised_mem m q.from q.to) (renewed vs id (raise_view v q)) st' h
   raise_whole n role q p =
       let a = known m0 used m vs st h r id v at q p in
-      let g = raise_grows m0 used m vs st h r id v at q p in
-      (raised_story st q.slot a.0, client_whole l m0 used m vs st h w id v (raise_view v q) at n role refl (raised_mem m q.from q.to) (raised_story st q.slot a.0) h
-        (raise_rule m0 used m vs st h r id v at q p)
-        (raise_help l m st r.core w.help q.slot a.0 q.from q.to record { from = a.1; to = a.2 } h g)
-        (raise_serves l m st r.core w.help q.slot a.0 q.from q.to record { from = a.1; to = a.2 } h g)
-        (each_map (λ t d. (d.0, go t (ℕ_discrete (home t) (home q.from)) d.1)) (used_by used h) w.safe)
-        (λ cs x y. y))
+      let g = raise_grows m0 used m vs st h r id v at q p in (
+        raised_story st q.slot a.0,
+        client_whole l m0 used m vs st h w id v (raise_view v q) at n role refl (raised_mem m q.from q.to) (raised_story st q.slot a.0) h
+            (raise_rule m0 used m vs st h r id v at q p)
+            (raise_help l m st r.core w.help q.slot a.0 q.from q.to record { from = a.1; to = a.2 } h g)
+            (raise_serves l m st r.core w.help q.slot a.0 q.from q.to record { from = a.1; to = a.2 } h g)
+            (each_map (λ t d. (d.0, go t (ℕ_discrete (home t) (home q.from)) d.1)) (used_by used h) w.safe)
+            (λ cs x y. y),
+      )
     where
       go : (t : ℕ) → Dec (home t ≡ home q.from) → age t ≤ gen (m.fnext (home t)) → age t ≤ gen ((raised_mem m q.from q.to).fnext (home t))
       go t (yes d) i = let e : gen (m.fnext (home t)) ≤ gen ((raised_mem m q.from q.to).fnext (home t)) = rw d (rw (upd_same m.fnext (home q.from) (greater (m.fnext (home q.from)) (word (age q.from) (Some q.to)))) (gen_least (m.fnext (home q.from)) (word (age q.from) (Some q.to)))) in omega arith
@@ -62,11 +59,12 @@ module _ (l : Pool) (m0 : Map) (used : List ℕ) (m : Mem) (vs : List View) (st 
         naming = let a = p.naming in record { counted = a.counted; found = a.found; listed = a.listed; waiting = a.waiting };
         stage = record { settled = p.stage.settled; holds = p.stage.holds; names = p.stage.names; here = here st.task p.stage.here };
         short = λ s1 y q. dite (ℕ_discrete s1 s) (λ z. let f : t ≡ y = let f1 : Some t ≡ Some y = sym (ap (upd m.short s (Some t)) z ∙ upd_same m.short s (Some t)) ∙ q in cc in
-              rw (z, ← f) (each_within (λ (a : ℕ × ℕ). Durable st a.0 a.1) (s, t) v.pass.durable (r.views id v at).durable d)) (λ z. p.short s1 y (sym (upd_else m.short s s1 (Some t) z) ∙ q))
+            rw (z, ← f) (each_within (λ (a : ℕ × ℕ). Durable st a.0 a.1) (s, t) v.pass.durable (r.views id v at).durable d)) (λ z. p.short s1 y (sym (upd_else m.short s s1 (Some t) z) ∙ q));
       } (λ sv e. record { task_is = e.task_is; directory = e.directory; roots = e.roots; books = e.books }) w.safe (λ cs x y. y)
     where
       abbrev_here : Unit {0}
       abbrev_here = tt
+
       here : (T : Task) → AtStage l m st T → AtStage l (record m { short = upd m.short s (Some t) }) st T
       here Idle a = tt
       here (Storing s1 k1 t1 n1) a = record { place = a.place; now = a.now; safe = a.safe; range = a.range; slot = a.slot; bare = a.bare; unnamed = a.unnamed; absent = a.absent; valid = a.valid; body = a.body; fbody = a.fbody; key = a.key; fkey = a.fkey }

@@ -1,16 +1,15 @@
 -- A client's steps keep the helping facts and what the server's view says.
-use Rattle.std.proofs.Common.{◌≡◌, ℕ, zero, suc, ◌+◌, ◌<◌, ◌≤◌, ◌≢◌, ◌⊎◌, List, [], ◌∷◌, ◌++◌, length, length-append, set, append_assoc, append-nil, Bool, true, false, cond, eqb, ltb, leb, refl, sym, ap, ◌∙◌, inl, inr, ⊎_elim, arith, subst, eq-eqb, ne_eqb, eqb-true, true≢false}
+use Rattle.std.proofs.Common.{◌≡◌, ℕ, suc, ◌<◌, ◌≤◌, ◌≢◌, ◌⊎◌, List, [], ◌∷◌, ◌++◌, length, Bool, true, false, cond, eqb, ltb, refl, sym, ap, ◌∙◌, inl, inr, ⊎_elim, arith, subst, ne_eqb, true≢false}
 use native.Mathlib.Decide.{ℕ_discrete, dec_le}
 use mathlib.Core.Logic.{dite}
 use Rattle.std.specs.Prelude.{Option, Some, None}
 use Rattle.std.proofs.lemmas.Bool.Decides.{nat_tests}
-use Rattle.clover_map.specs.declared.bytes.Value.{Value}
 use Rattle.clover_map.specs.declared.call.Entry.{Entry}
 use Rattle.clover_rule.specs.Content.{InRange, Fits}
-use Rattle.clover_rule.specs.History.{Version, Map, own, used_by}
+use Rattle.clover_rule.specs.History.{Version, Map, used_by}
 use Rattle.clover_rule.specs.Lists.{Each, nth, Within}
-use Rattle.clover_rule.specs.Server.{Ready, unnamed, IsWaiting, IsRecycling, AtStage, Help, root_in, is_home, book_of, Serves, Whole}
-use Rattle.clover_rule.specs.State.{home, age, Next, word, gen, link, Mem, Place, Chained, Taken, Story, tag_at, Core, linked_mem, linked_story, greater, order, raised_mem, raised_story}
+use Rattle.clover_rule.specs.Server.{Ready, IsWaiting, IsRecycling, AtStage, Help, root_in, is_home, book_of, Serves, Whole}
+use Rattle.clover_rule.specs.State.{home, age, Next, word, gen, Mem, Place, Chained, Taken, Story, tag_at, Core, linked_mem, linked_story, greater, order, raised_mem, raised_story}
 use Rattle.clover_rule.specs.Views.{book, Basis, renewed}
 use Rattle.clover_rule.specs.declared.view.BufferState.TheVariants.{Bound as IsBound, Out as IsOut}
 use Rattle.clover_rule.specs.declared.view.Role.TheVariants.{Client, Serving}
@@ -19,14 +18,13 @@ use Rattle.clover_rule.specs.declared.view.Task.{Task}
 use Rattle.clover_rule.specs.declared.view.Task.TheVariants.{Idle, Storing, Rooted, Waiting, Loaded, Raised, Led, Both, Exchanged}
 use Rattle.clover_rule.specs.declared.view.View.{View}
 use Rattle.clover_words.specs.declared.pool.Pool.{Pool}
-use Rattle.clover_rule.proofs.Tools.{upd_same, upd_else, nth_within, nth_snoc, nth_front, nth_last, nth_past, nth_none}
-use Rattle.clover_rule.proofs.Standings.{tag_there, tag_within, tag_past, same_tag, one_buffer}
-use Rattle.clover_rule.proofs.Steps.{each_map, each_within, prefix_trans, prefix_self, within_prefix, Grows, Leaves, view_kept, nth_set, set_here, set_away, link_kept, durable_kept, past_kept, copied_kept}
-
-use Rattle.clover_rule.proofs.Linking.{CanLink, link_core, own_new, u_last, u_sure, apart, gens, u_stands, tag_else, tag_new, Pushed, before, new, pushed, length_linked}
+use Rattle.clover_rule.proofs.Tools.{upd_same, upd_else, nth_snoc}
+use Rattle.clover_rule.proofs.Standings.{tag_within}
+use Rattle.clover_rule.proofs.Steps.{Grows, nth_set, durable_kept}
+use Rattle.clover_rule.proofs.Linking.{CanLink, gens, u_stands, tag_else, Pushed, before, new, pushed, length_linked}
 use Rattle.clover_rule.proofs.ServerTools.{book_same}
-use Rattle.clover_rule.proofs.Stages.{gen_most, gen_least}
-use Rattle.clover_rule.proofs.Raising.{CanRaise, raise_core}
+use Rattle.clover_rule.proofs.Stages.{gen_most}
+use Rattle.clover_rule.proofs.Raising.{CanRaise}
 
 pub each_snoc : {A : Type 0} (P : A → Type 0) (xs : List A) (x : A) → Each P xs → P x → Each P (xs ++ x ∷ [])
 each_snoc P [] x e p = (p, tt)
@@ -34,10 +32,10 @@ each_snoc P (y ∷ ys) x e p = (e.0, each_snoc P ys x e.1 p)
 
 -- any step of a client, from the rule after it and what it keeps
 module _ (l : Pool) (m0 : Map) (used : List ℕ) (m : Mem) (vs : List View) (st : Story) (h : List Entry) (w : Whole l m0 used m vs st h)
-         (id : ℕ) (v v' : View) (at : nth vs id ≡ Some v) (n : ℕ) (role : v.pass.role ≡ Client n) (same : v'.pass.role ≡ v.pass.role) (m' : Mem) (st' : Story) (h' : List Entry)
-         (rule : Basis m0 used m' (renewed vs id v') st' h') (help : Help l m' st') (serves : (sv : Server) → Serves l m st st.task sv → Serves l m' st' st'.task sv)
-         (safe : Each (λ (t : ℕ). (age t < l.wear) × (age t ≤ gen (m'.fnext (home t)))) (used_by used h'))
-         (entries : (cs : List ℕ) → Within n cs → Each (λ (e : Entry). Within e.client cs) h → Each (λ (e : Entry). Within e.client cs) h') where
+    (id : ℕ) (v v' : View) (at : nth vs id ≡ Some v) (n : ℕ) (role : v.pass.role ≡ Client n) (same : v'.pass.role ≡ v.pass.role) (m' : Mem) (st' : Story) (h' : List Entry)
+    (rule : Basis m0 used m' (renewed vs id v') st' h') (help : Help l m' st') (serves : (sv : Server) → Serves l m st st.task sv → Serves l m' st' st'.task sv)
+    (safe : Each (λ (t : ℕ). (age t < l.wear) × (age t ≤ gen (m'.fnext (home t)))) (used_by used h'))
+    (entries : (cs : List ℕ) → Within n cs → Each (λ (e : Entry). Within e.client cs) h → Each (λ (e : Entry). Within e.client cs) h') where
   was : (i1 : ℕ) (x : View) → nth (renewed vs id v') i1 ≡ Some x → ((i1 ≡ id) × (x.pass.role ≡ Client n)) ⊎ (nth vs i1 ≡ Some x)
   was i1 x q = ⊎_elim (λ d. inl (d.0, ap (λ (z : View). z.pass.role) (sym d.1) ∙ same ∙ role)) (λ d. inr d.1) (nth_set vs id i1 v' x q)
 
@@ -46,13 +44,14 @@ module _ (l : Pool) (m0 : Map) (used : List ℕ) (m : Mem) (vs : List View) (st 
 
   pub client_whole : Whole l m0 used m' (renewed vs id v') st' h'
   client_whole = record {
-      basis = rule; help = help;
-      serves = λ i1 x q e. serves x.server (w.serves i1 x (server_was i1 x q e) e);
-      one = λ i1 j1 x y qx qy rx ry. w.one i1 j1 x y (server_was i1 x qx rx) (server_was j1 y qy ry) rx ry;
-      safe = safe;
-      made = λ i1 j1 k x y qx qy rx ry. ⊎_elim (λ d. w.made i1 id k x v (server_was i1 x qx rx) at rx (role ∙ sym d.1 ∙ ry)) (λ d. w.made i1 j1 k x y (server_was i1 x qx rx) d rx ry) (was j1 y qy);
-      entered = λ i1 x q e. let z = server_was i1 x q e in entries x.server.clients (w.made i1 id n x v z at e role) (w.entered i1 x z e)
-    }
+    basis = rule;
+    help = help;
+    serves = λ i1 x q e. serves x.server (w.serves i1 x (server_was i1 x q e) e);
+    one = λ i1 j1 x y qx qy rx ry. w.one i1 j1 x y (server_was i1 x qx rx) (server_was j1 y qy ry) rx ry;
+    safe = safe;
+    made = λ i1 j1 k x y qx qy rx ry. ⊎_elim (λ d. w.made i1 id k x v (server_was i1 x qx rx) at rx (role ∙ sym d.1 ∙ ry)) (λ d. w.made i1 j1 k x y (server_was i1 x qx rx) d rx ry) (was j1 y qy);
+    entered = λ i1 x q e. let z = server_was i1 x q e in entries x.server.clients (w.made i1 id n x v z at e role) (w.entered i1 x z e);
+  }
 
 -- the helping facts after a link
 module _ (l : Pool) (m : Mem) (st : Story) (c : Core m st) (p : Help l m st) (s u i k : ℕ) (x : Version) (can : CanLink m st s u i k x) (kn : List ℕ) (key : st.keys s ≡ Some kn) (fits : Fits l x.value) (h h' : List Entry) (g : Grows m st h (linked_mem m u x.tag) (linked_story st s x) h') where
@@ -105,33 +104,51 @@ module _ (l : Pool) (m : Mem) (st : Story) (c : Core m st) (p : Help l m st) (s 
   here_kept (Raised s1 r1 t1) a = (recycling_kept s1 r1 t1 a.0, a.1)
   here_kept (Led s1 r1 t1) a = (recycling_kept s1 r1 t1 a.0, a.1, a.2, a.3)
   here_kept (Both s1 r1 t1) a = (recycling_kept s1 r1 t1 a.0, a.1, a.2, a.3)
-  here_kept (Exchanged s1 r1 t1) a = record { place = held_place (home r1) a.place; now = held_next (home r1) a.place ∙ a.now; safe = a.safe;
-      root = tag_else st s x s1 (st.gone s1) (λ d q. let a1 = tag_within st s1 (st.gone s1) t1 a.root in let a2 = ap (λ (z : ℕ). length (st.log z)) d in absurd (omega arith)) ∙ a.root;
-      old = (a.old.0, a.old.1, tag_else st s x s1 a.old.0 (λ d q. let a1 = tag_within st s1 a.old.0 r1 a.old.2 in let a2 = ap (λ (z : ℕ). length (st.log z)) d in absurd (omega arith)) ∙ a.old.2); inside = a.inside; young = a.young }
+  here_kept (Exchanged s1 r1 t1) a = record {
+    place = held_place (home r1) a.place;
+    now = held_next (home r1) a.place ∙ a.now;
+    safe = a.safe;
+    root = tag_else st s x s1 (st.gone s1) (λ d q. let a1 = tag_within st s1 (st.gone s1) t1 a.root in let a2 = ap (λ (z : ℕ). length (st.log z)) d in absurd (omega arith)) ∙ a.root;
+    old = (a.old.0, a.old.1, tag_else st s x s1 a.old.0 (λ d q. let a1 = tag_within st s1 a.old.0 r1 a.old.2 in let a2 = ap (λ (z : ℕ). length (st.log z)) d in absurd (omega arith)) ∙ a.old.2);
+    inside = a.inside;
+    young = a.young;
+  }
 
   pub link_help : Help l m' st'
   link_help = record {
-      ranged = let a = p.ranged in record {
-        tags = λ s1 i1 y e. go s1 i1 y (pushed st s x s1 i1 y e);
-        own = λ b. let z = gens' b in let z1 = a.own b in omega arith;
-        below = λ b. let z = gens' b in let z1 = a.below b in omega arith;
-        ready = λ b f. dite (ℕ_discrete b (home t)) (λ d. absurd (subst Ready (ap st'.place d ∙ upd_same st.place (home t) (Chained s)) f)) (λ d. let z = a.ready b (subst Ready (place_else b d) f) in (z.0, let z1 = z.1 in let z2 = gens' b in omega arith));
-        worn = λ b j f. dite (ℕ_discrete b (home t)) (λ d. absurd (cc (ap st'.place d, upd_same st.place (home t) (Chained s), f))) (λ d. gens' b ∙ a.worn b j (sym (place_else b d) ∙ f));
-        fits = λ s1 i1 y e. dite (ℕ_discrete s1 s)
+    ranged = let a = p.ranged in record {
+      tags = λ s1 i1 y e. go s1 i1 y (pushed st s x s1 i1 y e);
+      own = λ b. let z = gens' b in let z1 = a.own b in omega arith;
+      below = λ b. let z = gens' b in let z1 = a.below b in omega arith;
+      ready = λ b f. dite (ℕ_discrete b (home t)) (λ d. absurd (subst Ready (ap st'.place d ∙ upd_same st.place (home t) (Chained s)) f)) (λ d. let z = a.ready b (subst Ready (place_else b d) f) in (z.0, let z1 = z.1 in let z2 = gens' b in omega arith));
+      worn = λ b j f. dite (ℕ_discrete b (home t)) (λ d. absurd (cc (ap st'.place d, upd_same st.place (home t) (Chained s), f))) (λ d. gens' b ∙ a.worn b j (sym (place_else b d) ∙ f));
+      fits = λ s1 i1 y e. dite (ℕ_discrete s1 s)
           (λ d. ⊎_elim (λ q. a.fits s i1 y q) (λ q. subst (λ (z : Version). Fits l z.value) q.1 fits) (nth_snoc (st.log s) x y i1 (sym (ap (λ (ws : List Version). nth ws i1) (ap st'.log d ∙ upd_same st.log s (st.log s ++ x ∷ []))) ∙ e)))
-          (λ d. a.fits s1 i1 y (sym (ap (λ (ws : List Version). nth ws i1) (log_else s1 d)) ∙ e)) };
-      keyed = let a = p.keyed in record { valid = a.valid; current = a.current; flushed = a.flushed; nameless = a.nameless; slots = a.slots;
-        bare = λ s1 q. ap length (log_else s1 (λ d. absurd (cc (ap st.keys d, key, q)))) ∙ a.bare s1 q;
-        filled = λ s1 k1 q. let z = a.filled s1 k1 q in ⊎_elim (λ d. let y = d.1 in omega arith) (λ d. let y = d.1 in omega arith) (length_linked st s x s1) };
-      naming = let a = p.naming in record { counted = a.counted; found = a.found; listed = a.listed;
-        waiting = λ s1 k1 q f i1 y e. a.waiting s1 k1 q f i1 y (sym (ap (λ (ws : List Version). nth ws i1) (log_else s1 (unnamed_else s1 f))) ∙ e) };
-      stage = record {
-        settled = p.stage.settled;
-        holds = λ b f. dite (ℕ_discrete b (home t)) (λ d. absurd (cc (ap st'.place d, upd_same st.place (home t) (Chained s), f))) (λ d. p.stage.holds b (sym (place_else b d) ∙ f));
-        names = p.stage.names;
-        here = here_kept st.task p.stage.here };
-      short = λ s1 y q. durable_kept m st h m' st' h' g s1 y (p.short s1 y q)
-    }
+          (λ d. a.fits s1 i1 y (sym (ap (λ (ws : List Version). nth ws i1) (log_else s1 d)) ∙ e));
+    };
+    keyed = let a = p.keyed in record {
+      valid = a.valid;
+      current = a.current;
+      flushed = a.flushed;
+      nameless = a.nameless;
+      slots = a.slots;
+      bare = λ s1 q. ap length (log_else s1 (λ d. absurd (cc (ap st.keys d, key, q)))) ∙ a.bare s1 q;
+      filled = λ s1 k1 q. let z = a.filled s1 k1 q in ⊎_elim (λ d. let y = d.1 in omega arith) (λ d. let y = d.1 in omega arith) (length_linked st s x s1);
+    };
+    naming = let a = p.naming in record {
+      counted = a.counted;
+      found = a.found;
+      listed = a.listed;
+      waiting = λ s1 k1 q f i1 y e. a.waiting s1 k1 q f i1 y (sym (ap (λ (ws : List Version). nth ws i1) (log_else s1 (unnamed_else s1 f))) ∙ e);
+    };
+    stage = record {
+      settled = p.stage.settled;
+      holds = λ b f. dite (ℕ_discrete b (home t)) (λ d. absurd (cc (ap st'.place d, upd_same st.place (home t) (Chained s), f))) (λ d. p.stage.holds b (sym (place_else b d) ∙ f));
+      names = p.stage.names;
+      here = here_kept st.task p.stage.here;
+    };
+    short = λ s1 y q. durable_kept m st h m' st' h' g s1 y (p.short s1 y q);
+  }
     where
       go : (s1 i1 y : ℕ) → Pushed st s x s1 i1 y → InRange l y
       go s1 i1 y (before b n) = p.ranged.tags s1 i1 y b
@@ -142,6 +159,7 @@ module _ (l : Pool) (m : Mem) (st : Story) (c : Core m st) (p : Help l m st) (s 
     where
       gone_kept : tag_at st' s1 (st.gone s1) ≡ tag_at st s1 (st.gone s1)
       gone_kept = tag_else st s x s1 (st.gone s1) (λ d q. let a1 = tag_within st s i u can.tail in let a2 = u_stands m st s u i k x c can in let a3 = ap st.gone d in absurd (omega arith))
+
       by : (T : Task) → root_in T st' s1 ≡ root_in T st s1
       by Idle = gone_kept
       by (Storing s2 k2 t2 n2) = gone_kept
@@ -159,11 +177,14 @@ module _ (l : Pool) (m : Mem) (st : Story) (c : Core m st) (p : Help l m st) (s 
     where
       away : (y : ℕ) → tag_at st s (st.gone s) ≡ Some y → eqb (home y) (home t) ≡ false
       away y e = ne_eqb (home y) (home t) (λ q. absurd (cc (ap st.place q, (c.standing s (st.gone s) y e (omega arith)).placed, can.stocked)))
+
       root_away : (o : Option ℕ) → tag_at st s (st.gone s) ≡ o → is_home o (home t) ≡ false
       root_away None e = refl
       root_away (Some y) e = away y e
+
       still : is_home (tag_at st s (st.gone s)) (home t) ≡ false
       still = root_away (tag_at st s (st.gone s)) refl
+
       by : (T : Task) → AtStage l m st T → is_home (root_in T st s) (home t) ≡ false
       by Idle a = still
       by (Storing s2 k2 t2 n2) a = still
@@ -181,12 +202,14 @@ module _ (l : Pool) (m : Mem) (st : Story) (c : Core m st) (p : Help l m st) (s 
 
   pub link_serves : (sv : Server) → Serves l m st st.task sv → Serves l m' st' st.task sv
   link_serves sv e = record {
-      task_is = e.task_is; directory = e.directory; roots = λ s1. e.roots s1 ∙ sym (roots_kept st.task s1);
-      books = λ b j. dite (ℕ_discrete b (home t))
+    task_is = e.task_is;
+    directory = e.directory;
+    roots = λ s1. e.roots s1 ∙ sym (roots_kept st.task s1);
+    books = λ b j. dite (ℕ_discrete b (home t))
         (λ d. e.books b j ∙ ap (λ (q : Place). book_of st.task st q (gen (m.next b)) b) (ap st.place d ∙ can.stocked) ∙ ap (λ (y : ℕ). book y IsOut) (sym (gens' b))
-            ∙ sym (ap (λ (q : Place). book_of st.task st' q (gen (m'.next b)) b) (ap st'.place d ∙ upd_same st.place (home t) (Chained s)) ∙ ap (λ (y : Bool). book (gen (m'.next b)) (cond y IsBound IsOut)) (ap (λ (y : Option ℕ). is_home y b) (roots_kept st.task s) ∙ ap (is_home (root_in st.task st s)) d ∙ not_root st.task p.stage.here)))
-        (λ d. e.books b j ∙ ap (λ (y : ℕ). book_of st.task st (st.place b) y b) (sym (gens' b)) ∙ sym (held_same st.task b (gen (m'.next b)) (st.place b)) ∙ sym (ap (λ (q : Place). book_of st.task st' q (gen (m'.next b)) b) (place_else b d)))
-    }
+        ∙ sym (ap (λ (q : Place). book_of st.task st' q (gen (m'.next b)) b) (ap st'.place d ∙ upd_same st.place (home t) (Chained s)) ∙ ap (λ (y : Bool). book (gen (m'.next b)) (cond y IsBound IsOut)) (ap (λ (y : Option ℕ). is_home y b) (roots_kept st.task s) ∙ ap (is_home (root_in st.task st s)) d ∙ not_root st.task p.stage.here)))
+        (λ d. e.books b j ∙ ap (λ (y : ℕ). book_of st.task st (st.place b) y b) (sym (gens' b)) ∙ sym (held_same st.task b (gen (m'.next b)) (st.place b)) ∙ sym (ap (λ (q : Place). book_of st.task st' q (gen (m'.next b)) b) (place_else b d)));
+  }
     where
       held_same : (T : Task) (b y : ℕ) (q : Place) → book_of T st' q y b ≡ book_of T st q y b
       held_same T b y q = book_same T T st st' q y b (λ s1 z. ap (λ (o : Option ℕ). is_home o b) (roots_kept T s1)) (λ z. same_held T)
@@ -249,18 +272,28 @@ module _ (l : Pool) (m : Mem) (st : Story) (c : Core m st) (p : Help l m st) (s 
 
   pub raise_help : Help l mr sr
   raise_help = record {
-      ranged = let a = p.ranged in record { tags = a.tags; own = a.own; ready = a.ready; worn = a.worn; fits = a.fits;
-        below = λ b. dite (ℕ_discrete b (home u)) (λ d. rw d (rw (upd_same m.fnext (home u) (greater (m.fnext (home u)) (word (age u) (Some t)))) (gen_most (m.fnext (home u)) (word (age u) (Some t)) (gen (m.next (home u))) (a.below (home u)) u_old)))
-            (λ d. let z = ap gen (upd_else m.fnext (home u) b (greater (m.fnext (home u)) (word (age u) (Some t))) d) in let z1 = a.below b in omega arith) };
-      keyed = let a = p.keyed in record { valid = a.valid; current = a.current; flushed = a.flushed; bare = a.bare; nameless = a.nameless; filled = a.filled; slots = a.slots };
-      naming = let a = p.naming in record { counted = a.counted; found = a.found; listed = a.listed; waiting = a.waiting };
-      stage = record { settled = p.stage.settled; holds = p.stage.holds; names = p.stage.names; here = raised_here st.task p.stage.here };
-      short = λ s1 y q. durable_kept m st h mr sr h g s1 y (p.short s1 y q)
-    }
+    ranged = let a = p.ranged in record {
+      tags = a.tags;
+      own = a.own;
+      ready = a.ready;
+      worn = a.worn;
+      fits = a.fits;
+      below = λ b. dite (ℕ_discrete b (home u)) (λ d. rw d (rw (upd_same m.fnext (home u) (greater (m.fnext (home u)) (word (age u) (Some t)))) (gen_most (m.fnext (home u)) (word (age u) (Some t)) (gen (m.next (home u))) (a.below (home u)) u_old)))
+          (λ d. let z = ap gen (upd_else m.fnext (home u) b (greater (m.fnext (home u)) (word (age u) (Some t))) d) in let z1 = a.below b in omega arith);
+    };
+    keyed = let a = p.keyed in record { valid = a.valid; current = a.current; flushed = a.flushed; bare = a.bare; nameless = a.nameless; filled = a.filled; slots = a.slots };
+    naming = let a = p.naming in record { counted = a.counted; found = a.found; listed = a.listed; waiting = a.waiting };
+    stage = record { settled = p.stage.settled; holds = p.stage.holds; names = p.stage.names; here = raised_here st.task p.stage.here };
+    short = λ s1 y q. durable_kept m st h mr sr h g s1 y (p.short s1 y q);
+  }
 
   pub raise_serves : (sv : Server) → Serves l m st st.task sv → Serves l mr sr st.task sv
-  raise_serves sv e = record { task_is = e.task_is; directory = e.directory; roots = λ s1. e.roots s1 ∙ roots_same st.task s1;
-      books = λ b j. e.books b j ∙ book_same st.task st.task sr st (st.place b) (gen (m.next b)) b (λ s1 q. ap (λ (o : Option ℕ). is_home o b) (roots_same st.task s1)) (λ q. held_same st.task (gen (m.next b)) b) }
+  raise_serves sv e = record {
+    task_is = e.task_is;
+    directory = e.directory;
+    roots = λ s1. e.roots s1 ∙ roots_same st.task s1;
+    books = λ b j. e.books b j ∙ book_same st.task st.task sr st (st.place b) (gen (m.next b)) b (λ s1 q. ap (λ (o : Option ℕ). is_home o b) (roots_same st.task s1)) (λ q. held_same st.task (gen (m.next b)) b);
+  }
     where
       roots_same : (T : Task) (s1 : ℕ) → root_in T st s1 ≡ root_in T sr s1
       roots_same Idle s1 = refl
@@ -272,6 +305,7 @@ module _ (l : Pool) (m : Mem) (st : Story) (c : Core m st) (p : Help l m st) (s 
       roots_same (Led s2 k2 t2) s1 = refl
       roots_same (Both s2 k2 t2) s1 = refl
       roots_same (Exchanged s2 r2 t2) s1 = refl
+
       held_same : (T : Task) (y b : ℕ) → book_of T st Taken y b ≡ book_of T sr Taken y b
       held_same Idle y b = refl
       held_same (Storing s2 k2 t2 n2) y b = refl

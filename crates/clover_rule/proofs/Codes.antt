@@ -1,10 +1,10 @@
 -- The raise on numbers is the raise on next words, where one generation has one link.
-use Rattle.std.proofs.Common.{◌≡◌, ℕ, zero, suc, ◌+◌, ◌*◌, ◌<◌, ◌≤◌, ◌≢◌, ◌⊎◌, Bool, true, false, cond, eqb, ltb, max, refl, sym, ap, ◌∙◌, inl, inr, ⊎_elim, arith, subst}
+use Rattle.std.proofs.Common.{◌≡◌, ℕ, suc, ◌<◌, ◌≤◌, Bool, true, false, cond, ltb, max, sym, ap, ◌∙◌, arith}
 use native.Mathlib.Decide.{ℕ_discrete, dec_le}
 use mathlib.Core.Logic.{dite}
-use Rattle.std.specs.Prelude.{Option, Some, None}
+use Rattle.std.specs.Prelude.{Some, None}
 use Rattle.std.proofs.lemmas.Bool.Decides.{nat_tests}
-use Rattle.clover_rule.specs.State.{Next, word, gen, link, order, greater}
+use Rattle.clover_rule.specs.State.{Next, word, gen, order, greater}
 use Rattle.clover_rule.specs.Words.{next_code}
 
 abbrev pub Small : Next → Type 0
@@ -38,10 +38,13 @@ pick n o f g = dite (dec_le (suc (next_code o)) (next_code n))
   where
     yes_test : (a b : ℕ) → a < b → ltb a b ≡ true
     yes_test a b h = grind (arith, nat_tests)
+
     no_test : (a b : ℕ) → b ≤ a → ltb a b ≡ false
     no_test a b h = grind (arith, nat_tests)
+
     max_right : (a b : ℕ) → a < b → max a b ≡ b
     max_right a b h = omega arith
+
     max_left : (a b : ℕ) → b ≤ a → max a b ≡ a
     max_left a b h = omega arith
 

@@ -1,31 +1,28 @@
 -- The law of any deciding exchange (put, delete, swap), over words, views and history.
-use Rattle.std.proofs.Common.{◌≡◌, ℕ, zero, suc, ◌+◌, ◌<◌, ◌≤◌, ◌≢◌, ◌⊎◌, List, [], ◌∷◌, ◌++◌, length, set, append_assoc, append-nil, Bool, true, false, cond, eqb, ltb, leb, refl, sym, ap, ◌∙◌, inl, inr, ⊎_elim, arith, subst, eq-eqb, ne_eqb, eqb-true, true≢false}
-use native.Mathlib.Decide.{ℕ_discrete, dec_le}
-use mathlib.Core.Logic.{dite}
+use Rattle.std.proofs.Common.{◌≡◌, ℕ, suc, ◌≤◌, ◌≢◌, ◌⊎◌, List, [], ◌∷◌, ◌++◌, length, append_assoc, append-nil, Bool, true, false, cond, eqb, leb, refl, sym, ap, ◌∙◌, inl, inr, ⊎_elim, arith, subst, eq-eqb, ne_eqb, true≢false}
+use native.Mathlib.Decide.{ℕ_discrete}
 use Rattle.std.specs.Prelude.{Option, Some, None}
 use Rattle.std.proofs.lemmas.Bool.Decides.{nat_tests}
 use Rattle.clover_map.specs.declared.bytes.Value.{Value}
 use Rattle.clover_map.specs.declared.call.Call.{Call}
 use Rattle.clover_map.specs.declared.call.Reply.{Reply}
 use Rattle.clover_map.specs.declared.call.Entry.{Entry}
-use Rattle.clover_map.specs.declared.call.Call.TheVariants.{Put}
-use Rattle.clover_map.specs.declared.call.Reply.TheVariants.{Stored}
 use Rattle.clover_rule.specs.History.{Version, Map, own, used_by, commits, joined, key_of, commit_of, lost_in, Fresh, grown, Does, named, committed, leads, same_key}
 use Rattle.clover_rule.specs.Lists.{Each, nth, Within}
 use Rattle.clover_rule.specs.Server.{MayLink, link_entry, link_view}
-use Rattle.clover_rule.specs.State.{home, age, word, gen, link, Mem, Chained, Stocked, Story, tag_in_version, tag_at, Core, Tale, Durable, unsure, linked_mem, linked_story}
+use Rattle.clover_rule.specs.State.{home, age, word, gen, Mem, Chained, Stocked, Story, tag_in_version, tag_at, Core, Tale, Durable, unsure, linked_mem, linked_story}
 use Rattle.clover_rule.specs.Views.{Holds, Stands, IsLink, Past, Owned, Apart, OwnCalls, ViewOk, Spent, Basis, renewed, without, Numbered}
 use Rattle.clover_rule.specs.declared.view.Content.{Content}
 use Rattle.clover_rule.specs.declared.view.Role.{Role}
 use Rattle.clover_rule.specs.declared.view.Role.TheVariants.{Client}
 use Rattle.clover_rule.specs.declared.view.View.{View}
-use Rattle.clover_rule.proofs.Tools.{upd_same, upd_else, nth_within, nth_snoc, nth_front, nth_last}
-use Rattle.clover_rule.proofs.Standings.{tag_there, tag_within, tag_past, same_tag}
-use Rattle.clover_rule.proofs.Keys.{eq_key, ne_key, key_discrete}
-use Rattle.clover_rule.proofs.Histories.{legal_snoc, leads_commits, commits_snoc}
-use Rattle.clover_rule.proofs.Linking.{CanLink, link_core, own_new, u_last, u_sure, apart, gens, u_stands, tag_else, tag_new}
-use Rattle.clover_rule.proofs.Snocs.{unread_snoc, used_more, fresh_commit, within_nth, within_commits, within_back, used_snoc, own_snoc}
-use Rattle.clover_rule.proofs.Steps.{each_map, each_within, prefix_trans, prefix_self, within_prefix, Grows, Leaves, view_kept, nth_set, set_here, link_kept, durable_kept, past_kept, copied_kept}
+use Rattle.clover_rule.proofs.Tools.{upd_same, upd_else, nth_within, nth_snoc, nth_front}
+use Rattle.clover_rule.proofs.Standings.{same_tag}
+use Rattle.clover_rule.proofs.Keys.{eq_key, ne_key}
+use Rattle.clover_rule.proofs.Histories.{legal_snoc, commits_snoc}
+use Rattle.clover_rule.proofs.Linking.{CanLink, link_core, u_last, u_sure, gens, u_stands, tag_else, tag_new}
+use Rattle.clover_rule.proofs.Snocs.{unread_snoc, fresh_commit, within_nth, within_commits, within_back, used_snoc, own_snoc}
+use Rattle.clover_rule.proofs.Steps.{each_map, each_within, prefix_self, within_prefix, Grows, Leaves, view_kept, nth_set, set_here, link_kept, durable_kept, past_kept, copied_kept}
 
 version_kept : (st : Story) (s : ℕ) (w : Version) (s' i : ℕ) (x : Version) → nth (st.log s') i ≡ Some x → nth ((linked_story st s w).log s') i ≡ Some x
 version_kept st s w s' i x e = go (ℕ_discrete s' s)
@@ -35,7 +32,7 @@ version_kept st s w s' i x e = go (ℕ_discrete s' s)
     go (no n) = ap (λ (ws : List Version). nth ws i) (upd_else st.log s s' (st.log s ++ w ∷ []) n) ∙ e
 
 module _ (m0 : Map) (used : List ℕ) (m : Mem) (vs : List View) (st : Story) (h : List Entry) (r : Basis m0 used m vs st h)
-         (id : ℕ) (v : View) (at : nth vs id ≡ Some v) (n s : ℕ) (k : List ℕ) (u t : ℕ) (y : Option Value) (call : Call) (reply : Reply) (rest : List ℕ) (p : MayLink v n s k u t y rest) (nm : named call ≡ k) (cm : committed call reply ≡ Some (record { tag = t; value = y })) (does : Fresh t (used_by used h) → Does (leads m0 h k) (used_by used h) call reply) (found : m.next (home u) ≡ word (age u) None) where
+    (id : ℕ) (v : View) (at : nth vs id ≡ Some v) (n s : ℕ) (k : List ℕ) (u t : ℕ) (y : Option Value) (call : Call) (reply : Reply) (rest : List ℕ) (p : MayLink v n s k u t y rest) (nm : named call ≡ k) (cm : committed call reply ≡ Some (record { tag = t; value = y })) (does : Fresh t (used_by used h) → Does (leads m0 h k) (used_by used h) call reply) (found : m.next (home u) ≡ word (age u) None) where
   abbrev w : Version
   w = record { tag = t; value = y }
 
@@ -86,22 +83,22 @@ module _ (m0 : Map) (used : List ℕ) (m : Mem) (vs : List View) (st : Story) (h
 
   pub grows : Grows m st h m' st' h'
   grows = record {
-      versions = version_kept st s w;
-      sure = λ j. omega arith;
-      gone = λ j. omega arith;
-      gens = λ b. let q = gens m st s u place_of id w r.core can b in omega arith;
-      names = prefix_self st.bindings;
-      count = omega arith;
-      history = (e ∷ [], refl)
-    }
+    versions = version_kept st s w;
+    sure = λ j. omega arith;
+    gone = λ j. omega arith;
+    gens = λ b. let q = gens m st s u place_of id w r.core can b in omega arith;
+    names = prefix_self st.bindings;
+    count = omega arith;
+    history = (e ∷ [], refl);
+  }
 
   leaves : (j b : ℕ) → (b ≢ home t) → st.place b ≡ Stocked j → Leaves m st m' st' j b
   leaves j b d q = record {
-      place = upd_else st.place (home t) b (Chained s) d ∙ q;
-      next = upd_else m.next (home u) b (word (age u) (Some t)) (λ z. let c = (r.core.standing s place_of u tail_durable.1 (u_stands m st s u place_of id w r.core can)).placed in absurd (cc (ap st.place z, c, q)));
-      body = λ k. refl;
-      fbody = λ k. refl
-    }
+    place = upd_else st.place (home t) b (Chained s) d ∙ q;
+    next = upd_else m.next (home u) b (word (age u) (Some t)) (λ z. let c = (r.core.standing s place_of u tail_durable.1 (u_stands m st s u place_of id w r.core can)).placed in absurd (cc (ap st.place z, c, q)));
+    body = λ k. refl;
+    fbody = λ k. refl;
+  }
 
   new_tag : tag_at st' s (suc place_of) ≡ Some t
   new_tag = ap (tag_at st' s) (sym last) ∙ tag_new st s w
@@ -126,9 +123,10 @@ module _ (m0 : Map) (used : List ℕ) (m : Mem) (vs : List View) (st : Story) (h
     where
       go : (o : Option Version) → commit_of x1 ≡ o → lost_in (unsure st') o ≡ true → (lost_in (unsure st) o ≡ true) × (k ≢ key_of x1)
       go None c q = absurd (true≢false (sym q))
-      go (Some y) c q = let d : y.tag ≢ t = fresh_commit used h t fresh x1 y in_h c in
-          (sym (ap (λ (a : ℕ). leb (st.sure a) (st'.rank y.tag)) (upd_else st.slot_of t y.tag s d) ∙ ap (λ (a : ℕ). leb (st.sure (st.slot_of y.tag)) a) (upd_else st.rank t y.tag (length (st.log s)) d)) ∙ q
-          , λ f. true≢false (sym q ∙ committed_at x1 y in_h c (sym f)))
+      go (Some y) c q = let d : y.tag ≢ t = fresh_commit used h t fresh x1 y in_h c in (
+        sym (ap (λ (a : ℕ). leb (st.sure a) (st'.rank y.tag)) (upd_else st.slot_of t y.tag s d) ∙ ap (λ (a : ℕ). leb (st.sure (st.slot_of y.tag)) a) (upd_else st.rank t y.tag (length (st.log s)) d)) ∙ q,
+        λ f. true≢false (sym q ∙ committed_at x1 y in_h c (sym f)),
+      )
 
   own_commit : commits k (e ∷ []) ≡ w ∷ []
   own_commit = ap (λ (j : List ℕ). cond (same_key j k) (joined (committed call reply) []) []) nm ∙ ap (λ (o : Option Version). cond (same_key k k) (joined o []) []) cm ∙ ap (λ (b : Bool). cond b (w ∷ []) []) (eq_key k k refl)
@@ -148,18 +146,19 @@ module _ (m0 : Map) (used : List ℕ) (m : Mem) (vs : List View) (st : Story) (h
 
   tale' : Tale st' m0 used h'
   tale' = record {
-      legal = legal_snoc m0 used h e r.tale.legal (subst (λ (j : List ℕ). Does (leads m0 h j) (used_by used h) call reply) (sym nm) (does fresh));
-      told = told';
-      began = r.tale.began;
-      unread = unread_snoc (unsure st) (unsure st') h e r.tale.unread (λ x1 a b. let z = unread_after x1 a b in (z.0, λ q. z.1 (sym nm ∙ q)));
-      settled = r.tale.settled;
-      unbound = λ k1 f. let z = r.tale.unbound k1 f in (z.0, commits_snoc k1 h e ∙ ap (λ (ws : List Version). commits k1 h ++ ws) (else_commit k1 (λ q. f s (slot_bound.0 ∙ ap Some q))) ∙ append-nil (commits k1 h) ∙ z.1)
-    }
+    legal = legal_snoc m0 used h e r.tale.legal (subst (λ (j : List ℕ). Does (leads m0 h j) (used_by used h) call reply) (sym nm) (does fresh));
+    told = told';
+    began = r.tale.began;
+    unread = unread_snoc (unsure st) (unsure st') h e r.tale.unread (λ x1 a b. let z = unread_after x1 a b in (z.0, λ q. z.1 (sym nm ∙ q)));
+    settled = r.tale.settled;
+    unbound = λ k1 f. let z = r.tale.unbound k1 f in (z.0, commits_snoc k1 h e ∙ ap (λ (ws : List Version). commits k1 h ++ ws) (else_commit k1 (λ q. f s (slot_bound.0 ∙ ap Some q))) ∙ append-nil (commits k1 h) ∙ z.1);
+  }
 
   holds_new : Holds m' w
-  holds_new j y1 q = let a = p.stored j y1 q in
-      ((each_within (λ (c : Content). Owned m st id c.tag × (m.body (home c.tag) c.place ≡ c.word)) (record { tag = t; place = j; word = y1 }) v.pass.written ok.written a.0).1
-      , (each_within (λ (c : Content). Owned m st id c.tag × (m.fbody (home c.tag) c.place ≡ c.word)) (record { tag = t; place = j; word = y1 }) v.pass.flushed ok.flushed a.1).1)
+  holds_new j y1 q = let a = p.stored j y1 q in (
+    (each_within (λ (c : Content). Owned m st id c.tag × (m.body (home c.tag) c.place ≡ c.word)) (record { tag = t; place = j; word = y1 }) v.pass.written ok.written a.0).1,
+    (each_within (λ (c : Content). Owned m st id c.tag × (m.fbody (home c.tag) c.place ≡ c.word)) (record { tag = t; place = j; word = y1 }) v.pass.flushed ok.flushed a.1).1,
+  )
 
   bodies' : (s1 i1 : ℕ) (w1 : Version) → Stands st' s1 i1 w1 → st.gone s1 ≤ i1 → Holds m' w1
   bodies' s1 i1 w1 q g = go (ℕ_discrete s1 s)
@@ -222,20 +221,20 @@ module _ (m0 : Map) (used : List ℕ) (m : Mem) (vs : List View) (st : Story) (h
 
   new_ok : ViewOk m' st' h' id v'
   new_ok = record {
-      stocked = owned_rest rest parts_apart.0 (subst (Each (Owned m st id)) p.stock ok.stocked).1;
-      apart = parts_apart.1;
-      durable = each_map (λ q d. durable_kept m st h m' st' h' grows q.0 q.1 d) v.pass.durable ok.durable;
-      links = (link_now, each_map (link_kept m st h m' st' h' grows) v.pass.links ok.links);
-      words = (word_now, each_map (λ q d. past_kept m st h m' st' h' grows q.buffer (word q.own q.link) d) v.pass.words ok.words);
-      written = written' v.pass.written ok.written;
-      flushed = flushed' v.pass.flushed ok.flushed;
-      copied = each_map (copied_kept m st h m' st' h' grows) v.pass.copied ok.copied;
-      names = ok.names;
-      added = ok.added;
-      most = ok.most;
-      history = prefix_self h';
-      calls = own_new_calls ok.calls
-    }
+    stocked = owned_rest rest parts_apart.0 (subst (Each (Owned m st id)) p.stock ok.stocked).1;
+    apart = parts_apart.1;
+    durable = each_map (λ q d. durable_kept m st h m' st' h' grows q.0 q.1 d) v.pass.durable ok.durable;
+    links = (link_now, each_map (link_kept m st h m' st' h' grows) v.pass.links ok.links);
+    words = (word_now, each_map (λ q d. past_kept m st h m' st' h' grows q.buffer (word q.own q.link) d) v.pass.words ok.words);
+    written = written' v.pass.written ok.written;
+    flushed = flushed' v.pass.flushed ok.flushed;
+    copied = each_map (copied_kept m st h m' st' h' grows) v.pass.copied ok.copied;
+    names = ok.names;
+    added = ok.added;
+    most = ok.most;
+    history = prefix_self h';
+    calls = own_new_calls ok.calls;
+  }
 
   views' : (i : ℕ) (v1 : View) → nth (renewed vs id v') i ≡ Some v1 → ViewOk m' st' h' i v1
   views' i v1 q = go (nth_set vs id i v' v1 q)
@@ -253,14 +252,13 @@ module _ (m0 : Map) (used : List ℕ) (m : Mem) (vs : List View) (st : Story) (h
 
   pub rule' : Basis m0 used m' (renewed vs id v') st' h'
   rule' = record {
-      core = core';
-      tale = tale';
-      bodies = bodies';
-      spent = spent';
-      bound = r.bound;
-      keyed = r.keyed;
-      views = views';
-      numbered = numbered';
-      longest = (id, v', set_here vs id v' v at, refl)
-    }
-
+    core = core';
+    tale = tale';
+    bodies = bodies';
+    spent = spent';
+    bound = r.bound;
+    keyed = r.keyed;
+    views = views';
+    numbered = numbered';
+    longest = (id, v', set_here vs id v' v at, refl);
+  }

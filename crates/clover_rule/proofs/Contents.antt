@@ -1,15 +1,13 @@
 -- The stores of a binding before its root.
-use Rattle.std.proofs.Common.{◌≡◌, ℕ, zero, suc, ◌+◌, ◌<◌, ◌≤◌, ◌≢◌, ◌⊎◌, List, [], ◌∷◌, ◌++◌, length, length-append, set, append_assoc, append-nil, Bool, true, false, cond, eqb, ltb, leb, refl, sym, ap, ◌∙◌, inl, inr, ⊎_elim, arith, subst, eq-eqb, ne_eqb, eqb-true, true≢false}
-use native.Mathlib.Decide.{ℕ_discrete, dec_le}
+use Rattle.std.proofs.Common.{◌≡◌, ℕ, ◌≤◌, ◌≢◌, List, [], ◌++◌, refl, sym, ap, ◌∙◌, inl, inr, ⊎_elim, arith, subst}
+use native.Mathlib.Decide.{ℕ_discrete}
 use mathlib.Core.Logic.{dite}
 use Rattle.std.specs.Prelude.{Option, Some, None}
-use Rattle.std.proofs.lemmas.Bool.Decides.{nat_tests}
-use Rattle.clover_map.specs.declared.bytes.Value.{Value}
 use Rattle.clover_map.specs.declared.call.Entry.{Entry}
-use Rattle.clover_rule.specs.History.{Version, Map, own}
+use Rattle.clover_rule.specs.History.{Version, Map}
 use Rattle.clover_rule.specs.Lists.{upd}
 use Rattle.clover_rule.specs.Server.{Ready, moving, unnamed, holding, IsStoring, Stage, root_in, is_home, book_of, waiting_name, Serves, Whole}
-use Rattle.clover_rule.specs.State.{home, gen, link, Mem, Place, Chained, Stocked, Taken, Story, tag_in_version, tag_at, Core}
+use Rattle.clover_rule.specs.State.{home, gen, link, Mem, Place, Chained, Stocked, Taken, Story, tag_in_version, tag_at}
 use Rattle.clover_rule.specs.Views.{find_book, book_at, book, Holds, Stands, Spent, Basis}
 use Rattle.clover_rule.specs.declared.view.BookLine.{BookLine}
 use Rattle.clover_rule.specs.declared.view.BufferState.TheVariants.{Out as IsOut}
@@ -18,16 +16,14 @@ use Rattle.clover_rule.specs.declared.view.Task.{Task}
 use Rattle.clover_rule.specs.declared.view.Task.TheVariants.{Storing}
 use Rattle.clover_rule.specs.declared.view.View.{View}
 use Rattle.clover_words.specs.declared.pool.Pool.{Pool}
-use Rattle.clover_rule.proofs.Tools.{upd_same, upd_else, nth_within, nth_snoc, nth_front, nth_last, nth_past, nth_none}
-use Rattle.clover_rule.proofs.Standings.{tag_there, tag_within, tag_past, same_tag, one_buffer}
-use Rattle.clover_rule.proofs.Steps.{each_map, each_within, prefix_trans, prefix_self, within_prefix, Grows, Leaves, view_kept, nth_set, set_here, set_away, link_kept, durable_kept, past_kept, copied_kept}
-
-use Rattle.clover_rule.proofs.ServerTools.{core_copy, Moves, whole, book_same, free_place, hold_core, tale_copy}
+use Rattle.clover_rule.proofs.Tools.{upd_same, upd_else}
+use Rattle.clover_rule.proofs.Steps.{prefix_self}
+use Rattle.clover_rule.proofs.ServerTools.{core_copy, Moves, book_same, hold_core, tale_copy}
 
 module _ (l : Pool) (m0 : Map) (used : List ℕ) (m : Mem) (vs : List View) (st : Story) (h : List Entry) (w : Whole l m0 used m vs st h)
-         (b0 : ℕ) (lone : link (m.next b0) ≡ None) (loose : (s : ℕ) → st.place b0 ≢ Chained s) (unstocked : (j : ℕ) → st.place b0 ≢ Stocked j)
-         (B FB K FK : ℕ → ℕ → ℕ) (T' : Task) (body_else : (b : ℕ) → b ≢ b0 → B b ≡ m.body b) (fbody_else : (b : ℕ) → b ≢ b0 → FB b ≡ m.fbody b)
-         (key_else : (s : ℕ) (k : List ℕ) → st.keys s ≡ Some k → K s ≡ m.key s) (fkey_else : (s : ℕ) (k : List ℕ) → st.keys s ≡ Some k → FK s ≡ m.fkey s) where
+    (b0 : ℕ) (lone : link (m.next b0) ≡ None) (loose : (s : ℕ) → st.place b0 ≢ Chained s) (unstocked : (j : ℕ) → st.place b0 ≢ Stocked j)
+    (B FB K FK : ℕ → ℕ → ℕ) (T' : Task) (body_else : (b : ℕ) → b ≢ b0 → B b ≡ m.body b) (fbody_else : (b : ℕ) → b ≢ b0 → FB b ≡ m.fbody b)
+    (key_else : (s : ℕ) (k : List ℕ) → st.keys s ≡ Some k → K s ≡ m.key s) (fkey_else : (s : ℕ) (k : List ℕ) → st.keys s ≡ Some k → FK s ≡ m.fkey s) where
   abbrev pub content_mem : Mem
   content_mem = record m { body = B; fbody = FB; key = K; fkey = FK }
 
@@ -53,27 +49,38 @@ module _ (l : Pool) (m0 : Map) (used : List ℕ) (m : Mem) (vs : List View) (st 
   module _ (stage : Stage l content_mem content_story T') where
     pub content_moves : Moves l m0 used m st h content_mem content_story
     content_moves = let p = w.help in record {
-        core = core_copy m (record st { place = upd st.place b0 Taken }) (hold_core m st b0 r.core lone loose) B FB K FK m.short m.count st.keys st.first st.bindings T' st.slot_named;
-        tale = tale_copy st m0 used h r.tale (upd st.place b0 Taken) st.gone st.lead st.flead st.named st.bindings T' st.slot_named;
-        bodies = holds_kept;
-        spent = spent_kept;
-        bound = r.bound;
-        keyed = r.keyed;
-        grows = record { versions = λ s1 i1 w1 q. q; sure = λ j. omega arith; gone = λ j. omega arith; gens = λ b. omega arith; names = prefix_self st.bindings; count = omega arith; history = prefix_self h };
-        leaves = λ j b e. let n : b ≢ b0 = λ q. unstocked j (ap st.place (sym q) ∙ e) in record { place = place_else b n ∙ e; next = refl; body = λ y. ap (λ (f : ℕ → ℕ). f y) (body_else b n); fbody = λ y. ap (λ (f : ℕ → ℕ). f y) (fbody_else b n) };
-        help = record {
-            ranged = let a = p.ranged in record { tags = a.tags; own = a.own; below = a.below; fits = a.fits;
-                ready = λ b f. dite (ℕ_discrete b b0) (λ d. absurd (subst Ready (ap content_story.place d ∙ upd_same st.place b0 Taken) f)) (λ n. a.ready b (subst Ready (place_else b n) f));
-                worn = λ b i f. dite (ℕ_discrete b b0) (λ d. absurd (cc (ap content_story.place d, upd_same st.place b0 Taken, f))) (λ n. a.worn b i (sym (place_else b n) ∙ f)) };
-            keyed = let a = p.keyed in record { valid = a.valid; bare = a.bare; nameless = a.nameless; filled = a.filled; slots = a.slots;
-                current = λ s k e j x q. ap (λ (f : ℕ → ℕ). f j) (key_else s k e) ∙ a.current s k e j x q;
-                flushed = λ s k e j x q. ap (λ (f : ℕ → ℕ). f j) (fkey_else s k e) ∙ a.flushed s k e j x q };
-            naming = let a = p.naming in record { counted = a.counted; found = a.found; listed = a.listed; waiting = a.waiting };
-            stage = stage;
-            short = p.short
-          };
-        fgens = λ b. omega arith
-      }
+      core = core_copy m (record st { place = upd st.place b0 Taken }) (hold_core m st b0 r.core lone loose) B FB K FK m.short m.count st.keys st.first st.bindings T' st.slot_named;
+      tale = tale_copy st m0 used h r.tale (upd st.place b0 Taken) st.gone st.lead st.flead st.named st.bindings T' st.slot_named;
+      bodies = holds_kept;
+      spent = spent_kept;
+      bound = r.bound;
+      keyed = r.keyed;
+      grows = record { versions = λ s1 i1 w1 q. q; sure = λ j. omega arith; gone = λ j. omega arith; gens = λ b. omega arith; names = prefix_self st.bindings; count = omega arith; history = prefix_self h };
+      leaves = λ j b e. let n : b ≢ b0 = λ q. unstocked j (ap st.place (sym q) ∙ e) in record { place = place_else b n ∙ e; next = refl; body = λ y. ap (λ (f : ℕ → ℕ). f y) (body_else b n); fbody = λ y. ap (λ (f : ℕ → ℕ). f y) (fbody_else b n) };
+      help = record {
+        ranged = let a = p.ranged in record {
+          tags = a.tags;
+          own = a.own;
+          below = a.below;
+          fits = a.fits;
+          ready = λ b f. dite (ℕ_discrete b b0) (λ d. absurd (subst Ready (ap content_story.place d ∙ upd_same st.place b0 Taken) f)) (λ n. a.ready b (subst Ready (place_else b n) f));
+          worn = λ b i f. dite (ℕ_discrete b b0) (λ d. absurd (cc (ap content_story.place d, upd_same st.place b0 Taken, f))) (λ n. a.worn b i (sym (place_else b n) ∙ f));
+        };
+        keyed = let a = p.keyed in record {
+          valid = a.valid;
+          bare = a.bare;
+          nameless = a.nameless;
+          filled = a.filled;
+          slots = a.slots;
+          current = λ s k e j x q. ap (λ (f : ℕ → ℕ). f j) (key_else s k e) ∙ a.current s k e j x q;
+          flushed = λ s k e j x q. ap (λ (f : ℕ → ℕ). f j) (fkey_else s k e) ∙ a.flushed s k e j x q;
+        };
+        naming = let a = p.naming in record { counted = a.counted; found = a.found; listed = a.listed; waiting = a.waiting };
+        stage = stage;
+        short = p.short;
+      };
+      fgens = λ b. omega arith;
+    }
 
 abbrev storing_story : Story → ℕ → List ℕ → ℕ → ℕ → Story
 storing_story st s k t n = record st { place = upd st.place (home t) Taken; task = Storing s k t n }
@@ -82,21 +89,21 @@ storing_story st s k t n = record st { place = upd st.place (home t) Taken; task
 pub storing_stage : (l : Pool) (m m' : Mem) (st : Story) (T : Task) (s : ℕ) (k : List ℕ) (t n : ℕ) → Stage l m st T → ((s1 : ℕ) → moving T ≢ Some s1) → unnamed T ≡ None → ((b : ℕ) → holding T ≡ Some b → b ≡ home t)
     → IsStoring l m' (record st { place = upd st.place (home t) Taken; task = Storing s k t n }) s k t n → Stage l m' (record st { place = upd st.place (home t) Taken; task = Storing s k t n }) (Storing s k t n)
 storing_stage l m m' st T s k t n g mv un ho is = record {
-    settled = λ s1 q. g.settled s1 (mv s1);
-    holds = λ b e. dite (ℕ_discrete b (home t)) (λ d. ap Some (sym d)) (λ d. absurd (d (ho b (g.holds b (sym (upd_else st.place (home t) b Taken d) ∙ e)))));
-    names = λ s1 k1 e. ⊎_elim inl (λ q. absurd (cc (un, q))) (g.names s1 k1 e);
-    here = is
-  }
+  settled = λ s1 q. g.settled s1 (mv s1);
+  holds = λ b e. dite (ℕ_discrete b (home t)) (λ d. ap Some (sym d)) (λ d. absurd (d (ho b (g.holds b (sym (upd_else st.place (home t) b Taken d) ∙ e)))));
+  names = λ s1 k1 e. ⊎_elim inl (λ q. absurd (cc (un, q))) (g.names s1 k1 e);
+  here = is;
+}
 
 -- the books under a task that holds one buffer
 pub storing_serves : (l : Pool) (m m' : Mem) (st : Story) (T : Task) (s : ℕ) (k : List ℕ) (t n : ℕ) (sv : Server) → Serves l m st T sv → ((s1 : ℕ) → root_in T st s1 ≡ tag_at st s1 (st.gone s1)) → waiting_name T ≡ [] → ((b : ℕ) → st.place b ≡ Taken → b ≡ home t)
     → ((b : ℕ) → m'.next b ≡ m.next b) → (books : List BookLine) → ((b : ℕ) → b ≢ home t → find_book books b ≡ book_at sv b) → (find_book books (home t) ≡ book (gen (m.next (home t))) IsOut)
     → Serves l m' (record st { place = upd st.place (home t) Taken; task = Storing s k t n }) (Storing s k t n) (record sv { task = Storing s k t n; books = books })
 storing_serves l m m' st T s k t n sv e ro wa he nx books el now = record {
-    task_is = refl;
-    directory = e.directory ∙ ap (λ (x : List (ℕ × List ℕ)). st.bindings ++ x) wa;
-    roots = λ s1. e.roots s1 ∙ ro s1;
-    books = λ b i. dite (ℕ_discrete b (home t))
+  task_is = refl;
+  directory = e.directory ∙ ap (λ (x : List (ℕ × List ℕ)). st.bindings ++ x) wa;
+  roots = λ s1. e.roots s1 ∙ ro s1;
+  books = λ b i. dite (ℕ_discrete b (home t))
       (λ d. ap (find_book books) d ∙ now ∙ ap (λ (x : ℕ). book x IsOut) (sym (ap gen (ap m'.next d ∙ nx (home t)))) ∙ sym (ap (λ (p : Place). book_of (Storing s k t n) (storing_story st s k t n) p (gen (m'.next b)) b) (ap (storing_story st s k t n).place d ∙ upd_same st.place (home t) Taken)))
-      (λ d. el b d ∙ e.books b i ∙ sym (ap (λ (g : ℕ). book_of T st (st.place b) g b) (ap gen (nx b))) ∙ sym (book_same T (Storing s k t n) st (storing_story st s k t n) (st.place b) (gen (m'.next b)) b (λ s1 q. ap (λ (x : Option ℕ). is_home x b) (sym (ro s1))) (λ q. absurd (d (he b q)))) ∙ sym (ap (λ (p : Place). book_of (Storing s k t n) (storing_story st s k t n) p (gen (m'.next b)) b) (upd_else st.place (home t) b Taken d)))
-  }
+      (λ d. el b d ∙ e.books b i ∙ sym (ap (λ (g : ℕ). book_of T st (st.place b) g b) (ap gen (nx b))) ∙ sym (book_same T (Storing s k t n) st (storing_story st s k t n) (st.place b) (gen (m'.next b)) b (λ s1 q. ap (λ (x : Option ℕ). is_home x b) (sym (ro s1))) (λ q. absurd (d (he b q)))) ∙ sym (ap (λ (p : Place). book_of (Storing s k t n) (storing_story st s k t n) p (gen (m'.next b)) b) (upd_else st.place (home t) b Taken d)));
+}

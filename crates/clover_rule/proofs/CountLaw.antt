@@ -1,20 +1,15 @@
 -- A load of the count that equals the length of a copy without the key decides that the key is absent.
-use Rattle.std.proofs.Common.{◌≡◌, ℕ, zero, suc, ◌+◌, ◌<◌, ◌≤◌, ◌≢◌, ◌⊎◌, List, [], ◌∷◌, ◌++◌, length, set, append_assoc, append-nil, Bool, true, false, cond, eqb, ltb, leb, refl, sym, ap, ◌∙◌, inl, inr, ⊎_elim, arith, subst, eq-eqb, ne_eqb, eqb-true, true≢false}
-use native.Mathlib.Decide.{ℕ_discrete, dec_le}
+use Rattle.std.proofs.Common.{◌≡◌, ℕ, ◌<◌, ◌≤◌, ◌≢◌, ◌⊎◌, List, [], ◌∷◌, ◌++◌, length, append-nil, Bool, true, false, cond, leb, refl, sym, ap, ◌∙◌, inl, inr, ⊎_elim, arith, subst, eq-eqb, ne_eqb, true≢false}
 use mathlib.Core.Logic.{dite}
 use Rattle.std.specs.Prelude.{Option, Some, None}
 use Rattle.std.proofs.lemmas.Bool.Decides.{nat_tests}
-use Rattle.clover_map.specs.declared.bytes.Value.{Value}
 use Rattle.clover_map.specs.declared.call.Call.{Call}
 use Rattle.clover_map.specs.declared.call.Reply.{Reply}
 use Rattle.clover_map.specs.declared.call.Entry.{Entry}
-use Rattle.clover_map.specs.declared.call.Call.TheVariants.{Get}
-use Rattle.clover_map.specs.declared.call.Reply.TheVariants.{Found}
-use Rattle.clover_map.specs.declared.bytes.Held.{Held}
 use Rattle.clover_rule.specs.History.{Version, Map, own, used_by, commits, joined, key_of, commit_of, lost_in, grown, Does, named, committed, leads, same_key}
 use Rattle.clover_rule.specs.Lists.{Each, nth, Within}
 use Rattle.clover_rule.specs.Server.{link_entry, Whole, Stage, unnamed}
-use Rattle.clover_rule.specs.State.{home, age, gen, Mem, Story, tag_in_version, Core, Tale, unsure, greatest}
+use Rattle.clover_rule.specs.State.{home, age, gen, Mem, Story, tag_in_version, Tale, unsure, greatest}
 use Rattle.clover_rule.specs.Views.{OwnCalls, ViewOk, Spent, Basis, renewed}
 use Rattle.clover_rule.specs.declared.view.Role.{Role}
 use Rattle.clover_rule.specs.declared.view.Role.TheVariants.{Client}
@@ -22,16 +17,11 @@ use Rattle.clover_rule.specs.declared.view.Task.{Task}
 use Rattle.clover_rule.specs.declared.view.Task.TheVariants.{Idle, Storing, Rooted, Waiting, Loaded, Raised, Led, Both, Exchanged}
 use Rattle.clover_rule.specs.declared.view.View.{View}
 use Rattle.clover_words.specs.declared.pool.Pool.{Pool}
-use Rattle.clover_rule.proofs.Keys.{eq_key, ne_key, key_discrete}
-use Rattle.clover_rule.proofs.Histories.{ends_more, ends_last}
-use Rattle.clover_rule.proofs.Tools.{upd_same, upd_else, nth_within, nth_snoc, nth_front, nth_last}
-use Rattle.clover_rule.proofs.Standings.{tag_there, tag_within, tag_past, same_tag}
-use Rattle.clover_rule.proofs.Histories.{legal_snoc, leads_commits, commits_snoc}
-use Rattle.clover_rule.proofs.Linking.{CanLink, link_core, own_new, u_last, u_sure, apart, gens, u_stands, tag_else, tag_new}
-use Rattle.clover_rule.proofs.Snocs.{unread_snoc, used_more, fresh_commit, within_nth, within_commits, within_back, used_snoc, own_snoc}
-use Rattle.clover_rule.proofs.Steps.{each_map, each_within, prefix_trans, prefix_self, within_prefix, Grows, Leaves, view_kept, nth_set, set_here, link_kept, durable_kept, past_kept, copied_kept}
-
-
+use Rattle.clover_rule.proofs.Keys.{key_discrete}
+use Rattle.clover_rule.proofs.Tools.{nth_within}
+use Rattle.clover_rule.proofs.Histories.{legal_snoc, commits_snoc}
+use Rattle.clover_rule.proofs.Snocs.{unread_snoc, within_nth, within_commits, within_back, used_snoc, own_snoc}
+use Rattle.clover_rule.proofs.Steps.{prefix_self, Grows, view_kept, nth_set, set_here}
 use Rattle.clover_rule.proofs.AbsentLaw.{absent_map, whole_prefix}
 use Rattle.clover_rule.proofs.ClientSteps.{each_snoc, client_whole}
 
@@ -39,7 +29,7 @@ most_ok : (a b : ℕ) → a ≤ b → greatest a b ≤ b
 most_ok a b q = grind (arith, nat_tests)
 
 module _ (l : Pool) (m0 : Map) (used : List ℕ) (m : Mem) (vs : List View) (st : Story) (h : List Entry) (w : Whole l m0 used m vs st h)
-         (id : ℕ) (v : View) (at : nth vs id ≡ Some v) (k : List ℕ) (missing : (s : ℕ) → Within (s, k) v.pass.names → ⊥) (found : m.count ≡ length v.pass.names) where
+    (id : ℕ) (v : View) (at : nth vs id ≡ Some v) (k : List ℕ) (missing : (s : ℕ) → Within (s, k) v.pass.names → ⊥) (found : m.count ≡ length v.pass.names) where
   abbrev r : Basis m0 used m vs st h
   r = w.basis
 
@@ -78,16 +68,17 @@ module _ (l : Pool) (m0 : Map) (used : List ℕ) (m : Mem) (vs : List View) (st 
         where
           a : Within y (commits k h)
           a = subst (λ (j : List ℕ). Within y (commits j h)) f (within_commits h x1 y in_h c)
+
           bound : Dec (st.keys (st.slot_named k) ≡ Some k) → ⊥
           bound (no d) = subst (Within y) (r.tale.unbound k (λ s z. d (ap st.keys (w.help.naming.found s k z) ∙ z))).1 a
           bound (yes z) = ⊎_elim (λ e. missing (st.slot_named k) (subst (Within (st.slot_named k, k)) all_named (w.help.naming.listed (st.slot_named k) k z e)))
-             (λ e. let b : Within y (st.log (st.slot_named k)) = subst (Within y) (sym (r.tale.told (st.slot_named k) k z)) (within_back y (st.first (st.slot_named k)) (commits k h) a) in
-                let d = within_nth y (st.log (st.slot_named k)) b in
-                let g = r.core.spotted (st.slot_named k) d.0 y.tag (ap tag_in_version d.1) in
-                let n1 = nth_within (st.log (st.slot_named k)) d.0 y d.1 in let n2 = alone st.task w.help.stage (st.slot_named k) e in let n3 = r.core.rooted (st.slot_named k) (omega arith) in
-                let test : leb (st.sure (st.slot_named k)) d.0 ≡ false = grind (arith, nat_tests) in
-                true≢false (sym q ∙ ap (λ (j : ℕ). leb (st.sure j) (st.rank y.tag)) g.0 ∙ ap (leb (st.sure (st.slot_named k))) g.1 ∙ test))
-             (w.help.stage.names (st.slot_named k) k z)
+              (λ e. let b : Within y (st.log (st.slot_named k)) = subst (Within y) (sym (r.tale.told (st.slot_named k) k z)) (within_back y (st.first (st.slot_named k)) (commits k h) a) in
+              let d = within_nth y (st.log (st.slot_named k)) b in
+              let g = r.core.spotted (st.slot_named k) d.0 y.tag (ap tag_in_version d.1) in
+              let n1 = nth_within (st.log (st.slot_named k)) d.0 y d.1 in let n2 = alone st.task w.help.stage (st.slot_named k) e in let n3 = r.core.rooted (st.slot_named k) (omega arith) in
+              let test : leb (st.sure (st.slot_named k)) d.0 ≡ false = grind (arith, nat_tests) in
+              true≢false (sym q ∙ ap (λ (j : ℕ). leb (st.sure j) (st.rank y.tag)) g.0 ∙ ap (leb (st.sure (st.slot_named k))) g.1 ∙ test))
+              (w.help.stage.names (st.slot_named k) k z)
 
   module _ (n : ℕ) (role : v.pass.role ≡ Client n) (call : Call) (reply : Reply) (nm : named call ≡ k) (cm : committed call reply ≡ None) (does : Does (leads m0 h k) (used_by used h) call reply) where
     abbrev pub e : Entry
@@ -97,7 +88,7 @@ module _ (l : Pool) (m0 : Map) (used : List ℕ) (m : Mem) (vs : List View) (st 
     h' = h ++ e ∷ []
 
     abbrev pub decided_view : View
-    decided_view = record v { pass = record v.pass { calls = v.pass.calls ++ e ∷ []; history = h' ; most = greatest v.pass.most m.count } }
+    decided_view = record v { pass = record v.pass { calls = v.pass.calls ++ e ∷ []; history = h'; most = greatest v.pass.most m.count } }
 
     abbrev v' : View
     v' = decided_view
@@ -114,24 +105,33 @@ module _ (l : Pool) (m0 : Map) (used : List ℕ) (m : Mem) (vs : List View) (st 
 
     tale' : Tale st m0 used h'
     tale' = record {
-        legal = legal_snoc m0 used h e r.tale.legal (subst (λ (j : List ℕ). Does (leads m0 h j) (used_by used h) call reply) (sym nm) does);
-        told = told';
-        began = r.tale.began;
-        unread = unread_snoc (unsure st) (unsure st) h e r.tale.unread (λ x1 a b. let z = unread_after x1 a b in (z.0, λ q. z.1 (sym nm ∙ q)));
-        settled = r.tale.settled;
-        unbound = λ k1 f. let z = r.tale.unbound k1 f in (z.0, commits_snoc k1 h e ∙ ap (λ (ws : List Version). commits k1 h ++ ws) (none_more k1) ∙ append-nil (commits k1 h) ∙ z.1)
-      }
+      legal = legal_snoc m0 used h e r.tale.legal (subst (λ (j : List ℕ). Does (leads m0 h j) (used_by used h) call reply) (sym nm) does);
+      told = told';
+      began = r.tale.began;
+      unread = unread_snoc (unsure st) (unsure st) h e r.tale.unread (λ x1 a b. let z = unread_after x1 a b in (z.0, λ q. z.1 (sym nm ∙ q)));
+      settled = r.tale.settled;
+      unbound = λ k1 f. let z = r.tale.unbound k1 f in (z.0, commits_snoc k1 h e ∙ ap (λ (ws : List Version). commits k1 h ++ ws) (none_more k1) ∙ append-nil (commits k1 h) ∙ z.1);
+    }
 
     grows : Grows m st h m st h'
     grows = record { versions = λ s1 i1 w1 q. q; sure = λ j. omega arith; gone = λ j. omega arith; gens = λ b. omega arith; names = prefix_self st.bindings; count = omega arith; history = (e ∷ [], refl) }
 
     new_ok : ViewOk m st h' id v'
     new_ok = record {
-        stocked = ok.stocked; apart = ok.apart; durable = ok.durable; links = ok.links; written = ok.written; flushed = ok.flushed; copied = ok.copied; names = ok.names; added = ok.added; most = most_ok v.pass.most m.count ok.most;
-        words = ok.words;
-        history = prefix_self h';
-        calls = subst (λ (o : Role). OwnCalls o v.pass.calls h → OwnCalls o (v.pass.calls ++ e ∷ []) h') (sym role) (λ q. ap (λ (xs : List Entry). xs ++ e ∷ []) q ∙ sym (own_snoc n h e ∙ ap (λ (b : Bool). own n h ++ cond b (e ∷ []) []) (eq-eqb n n refl))) ok.calls
-      }
+      stocked = ok.stocked;
+      apart = ok.apart;
+      durable = ok.durable;
+      links = ok.links;
+      written = ok.written;
+      flushed = ok.flushed;
+      copied = ok.copied;
+      names = ok.names;
+      added = ok.added;
+      most = most_ok v.pass.most m.count ok.most;
+      words = ok.words;
+      history = prefix_self h';
+      calls = subst (λ (o : Role). OwnCalls o v.pass.calls h → OwnCalls o (v.pass.calls ++ e ∷ []) h') (sym role) (λ q. ap (λ (xs : List Entry). xs ++ e ∷ []) q ∙ sym (own_snoc n h e ∙ ap (λ (b : Bool). own n h ++ cond b (e ∷ []) []) (eq-eqb n n refl))) ok.calls;
+    }
 
     views' : (i1 : ℕ) (v1 : View) → nth (renewed vs id v') i1 ≡ Some v1 → ViewOk m st h' i1 v1
     views' i1 v1 q = go (nth_set vs id i1 v' v1 q)
@@ -146,16 +146,16 @@ module _ (l : Pool) (m0 : Map) (used : List ℕ) (m : Mem) (vs : List View) (st 
 
     pub decide_rule : Basis m0 used m (renewed vs id v') st h'
     decide_rule = record {
-        core = r.core;
-        tale = tale';
-        bodies = r.bodies;
-        spent = subst (Each (Spent m st)) (sym (used_snoc used h e ∙ ap (grown (used_by used h)) cm)) r.spent;
-        bound = r.bound;
-        keyed = r.keyed;
-        views = views';
-        numbered = λ i1 j1 c a b qa qb ra rb. let x1 = was i1 a qa in let y1 = was j1 b qb in r.numbered i1 j1 c x1.0 y1.0 x1.1 y1.1 (x1.2 ∙ ra) (y1.2 ∙ rb);
-        longest = (id, v', set_here vs id v' v at, refl)
-      }
+      core = r.core;
+      tale = tale';
+      bodies = r.bodies;
+      spent = subst (Each (Spent m st)) (sym (used_snoc used h e ∙ ap (grown (used_by used h)) cm)) r.spent;
+      bound = r.bound;
+      keyed = r.keyed;
+      views = views';
+      numbered = λ i1 j1 c a b qa qb ra rb. let x1 = was i1 a qa in let y1 = was j1 b qb in r.numbered i1 j1 c x1.0 y1.0 x1.1 y1.1 (x1.2 ∙ ra) (y1.2 ∙ rb);
+      longest = (id, v', set_here vs id v' v at, refl);
+    }
 
     pub count_whole : Whole l m0 used m (renewed vs id v') st h'
     count_whole = client_whole l m0 used m vs st h w id v v' at n role refl m st h' decide_rule w.help (λ sv e. e)

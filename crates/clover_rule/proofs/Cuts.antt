@@ -1,20 +1,18 @@
 -- The law of cuts.
-use Rattle.std.proofs.Common.{◌≡◌, ℕ, zero, suc, ◌+◌, ◌<◌, ◌≤◌, ◌≢◌, ◌⊎◌, List, [], ◌∷◌, ◌++◌, length, map, drop, Bool, true, false, cond, eqb, ltb, leb, ◌&&◌, refl, sym, ap, ◌∙◌, inl, inr, ⊎_elim, arith, subst, eq-eqb, ne_eqb, eqb-true, true≢false}
+use Rattle.std.proofs.Common.{◌≡◌, ℕ, zero, suc, ◌+◌, ◌<◌, ◌≤◌, List, [], ◌∷◌, ◌++◌, length, drop, Bool, true, false, cond, ltb, leb, ◌&&◌, refl, sym, ap, ◌∙◌, ⊎_elim, arith, subst, true≢false}
 use native.Mathlib.Decide.{ℕ_discrete, dec_le}
 use mathlib.Core.Logic.{dite}
 use Rattle.std.specs.Prelude.{Option, Some, None}
 use Rattle.std.proofs.lemmas.Bool.Decides.{nat_tests}
-use Rattle.clover_map.specs.declared.bytes.Value.{Value}
 use Rattle.clover_map.specs.declared.call.Entry.{Entry}
 use Rattle.clover_map.specs.declared.bytes.Held.{Held}
-use Rattle.clover_rule.proofs.Keys.{eq_key, ne_key}
 use Rattle.clover_rule.specs.History.{same_key, Version, Map, pair_of, ends, kept, commits, Unread, Survives, key_of, commit_of, lost_in, joined, leads}
 use Rattle.clover_rule.specs.Image.{Image, IsImage, Chain, is_none, leads_to, missing, sift, tags, Reads, ReadsMap}
 use Rattle.clover_rule.specs.Lists.{Each, nth}
-use Rattle.clover_rule.specs.State.{home, age, word, gen, link, Mem, Story, tag_in_version, tag_at, only, Core, Tale, unsure, Durable}
-use Rattle.clover_rule.proofs.Tools.{nth_within, nth_none, nth_past}
+use Rattle.clover_rule.specs.State.{home, age, gen, link, Mem, Story, tag_in_version, tag_at, only, Core, Tale, unsure, Durable}
+use Rattle.clover_rule.proofs.Tools.{nth_within, nth_none}
 use Rattle.clover_rule.proofs.Histories.{kept_legal, unread_last, leads_commits}
-use Rattle.clover_rule.proofs.Standings.{tag_there, tag_within, tag_past, only_none}
+use Rattle.clover_rule.proofs.Standings.{tag_there, only_none}
 
 -- sifting a history sifts the commits of each key
 sift_step : (lost : ℕ → Bool) (c : Option Version) (b : Bool) (xs : List Version) → sift lost (cond b (joined c xs) xs) ≡ cond (lost_in lost c) (sift lost xs) (cond b (joined c (sift lost xs)) (sift lost xs))
@@ -172,11 +170,11 @@ module _ (m : Mem) (st : Story) (c : Core m st) (im : Image) (is : IsImage m im)
 
   shown_all : (s : ℕ) → st.sure s ≡ length (st.log s) → Shown s (length (st.log s))
   shown_all s e = record {
-      enough = omega arith;
-      most = omega arith;
-      sifted = λ i. ap (λ (ws : List Version). nth ws i) (sift_all lost (st.log s) (λ j w p. kept_before s j w p (let q = nth_within (st.log s) j w p in omega arith))) ∙ whole s i;
-      leads_on = λ i t p g h. dite (dec_le (suc (suc i)) (st.sure s)) (λ d. sure_link s i t p g d ∙ ap tag_in_version (whole s (suc i))) (λ n. let q = end_none s (suc i) (omega arith) in no_link s i t p g q ∙ sym q ∙ ap tag_in_version (whole s (suc i)))
-    }
+    enough = omega arith;
+    most = omega arith;
+    sifted = λ i. ap (λ (ws : List Version). nth ws i) (sift_all lost (st.log s) (λ j w p. kept_before s j w p (let q = nth_within (st.log s) j w p in omega arith))) ∙ whole s i;
+    leads_on = λ i t p g h. dite (dec_le (suc (suc i)) (st.sure s)) (λ d. sure_link s i t p g d ∙ ap tag_in_version (whole s (suc i))) (λ n. let q = end_none s (suc i) (omega arith) in no_link s i t p g q ∙ sym q ∙ ap tag_in_version (whole s (suc i)));
+  }
 
   link_of : (s i t : ℕ) → tag_at st s i ≡ Some t → leads_to st im s (suc i) ≡ link (im.next (home t))
   link_of s i t e = rw e refl
@@ -187,25 +185,25 @@ module _ (m : Mem) (st : Story) (c : Core m st) (im : Image) (is : IsImage m im)
 
   shown_lost : (s : ℕ) → length (st.log s) ≡ suc (st.sure s) → is_none (leads_to st im s (st.sure s)) ≡ true → Shown s (st.sure s)
   shown_lost s e b = record {
-      enough = omega arith;
-      most = omega arith;
-      sifted = sift_at lost (st.sure s) (st.log s) (λ j w p l. kept_before s j w p l) (λ j w p l. let q = nth_within (st.log s) j w p in let f : j ≡ st.sure s = omega arith in tail_lost s j w p l ∙ ap (λ (x : ℕ). is_none (leads_to st im s x)) f ∙ b);
-      leads_on = λ i t p g h. dite (dec_le (suc (suc i)) (st.sure s))
-          (λ d. sure_link s i t p g d ∙ ap tag_in_version (up_to (suc i) (st.sure s) (nth (st.log s) (suc i)) d))
-          (λ n. let f : suc i ≡ st.sure s = omega arith in sym (link_of s i t p) ∙ ap (leads_to st im s) f ∙ is_none_true (leads_to st im s (st.sure s)) b ∙ ap tag_in_version (from_on (suc i) (st.sure s) (nth (st.log s) (suc i)) (omega arith)))
-    }
+    enough = omega arith;
+    most = omega arith;
+    sifted = sift_at lost (st.sure s) (st.log s) (λ j w p l. kept_before s j w p l) (λ j w p l. let q = nth_within (st.log s) j w p in let f : j ≡ st.sure s = omega arith in tail_lost s j w p l ∙ ap (λ (x : ℕ). is_none (leads_to st im s x)) f ∙ b);
+    leads_on = λ i t p g h. dite (dec_le (suc (suc i)) (st.sure s))
+        (λ d. sure_link s i t p g d ∙ ap tag_in_version (up_to (suc i) (st.sure s) (nth (st.log s) (suc i)) d))
+        (λ n. let f : suc i ≡ st.sure s = omega arith in sym (link_of s i t p) ∙ ap (leads_to st im s) f ∙ is_none_true (leads_to st im s (st.sure s)) b ∙ ap tag_in_version (from_on (suc i) (st.sure s) (nth (st.log s) (suc i)) (omega arith)));
+  }
 
   shown_kept : (s : ℕ) → length (st.log s) ≡ suc (st.sure s) → is_none (leads_to st im s (st.sure s)) ≡ false → Shown s (length (st.log s))
   shown_kept s e b = record {
-      enough = omega arith;
-      most = omega arith;
-      sifted = λ i. ap (λ (ws : List Version). nth ws i) (sift_all lost (st.log s) (λ j w p. dite (dec_le (suc j) (st.sure s)) (λ d. kept_before s j w p d) (λ n. let q = nth_within (st.log s) j w p in let f : j ≡ st.sure s = omega arith in tail_lost s j w p (omega arith) ∙ ap (λ (x : ℕ). is_none (leads_to st im s x)) f ∙ b))) ∙ whole s i;
-      leads_on = λ i t p g h. dite (dec_le (suc (suc i)) (st.sure s))
-          (λ d. sure_link s i t p g d ∙ ap tag_in_version (whole s (suc i)))
-          (λ n. dite (ℕ_discrete (suc i) (st.sure s))
-              (λ f. ⊎_elim (λ a. ap link (a ∙ (c.standing s i t p g).now) ∙ ap tag_in_version (whole s (suc i))) (λ a. absurd (true≢false (sym (ap is_none (ap link (a ∙ (c.standing s i t p g).safe) ∙ ap (λ (b : Bool). only b (tag_at st s (suc i))) (not_below (suc i) (st.sure s) (omega arith)))) ∙ ap is_none (sym (link_of s i t p)) ∙ ap (λ (x : ℕ). is_none (leads_to st im s x)) f ∙ b))) (is.next (home t)))
-              (λ f. let q = end_none s (suc i) (omega arith) in no_link s i t p g q ∙ sym q ∙ ap tag_in_version (whole s (suc i))))
-    }
+    enough = omega arith;
+    most = omega arith;
+    sifted = λ i. ap (λ (ws : List Version). nth ws i) (sift_all lost (st.log s) (λ j w p. dite (dec_le (suc j) (st.sure s)) (λ d. kept_before s j w p d) (λ n. let q = nth_within (st.log s) j w p in let f : j ≡ st.sure s = omega arith in tail_lost s j w p (omega arith) ∙ ap (λ (x : ℕ). is_none (leads_to st im s x)) f ∙ b))) ∙ whole s i;
+    leads_on = λ i t p g h. dite (dec_le (suc (suc i)) (st.sure s))
+        (λ d. sure_link s i t p g d ∙ ap tag_in_version (whole s (suc i)))
+        (λ n. dite (ℕ_discrete (suc i) (st.sure s))
+        (λ f. ⊎_elim (λ a. ap link (a ∙ (c.standing s i t p g).now) ∙ ap tag_in_version (whole s (suc i))) (λ a. absurd (true≢false (sym (ap is_none (ap link (a ∙ (c.standing s i t p g).safe) ∙ ap (λ (b : Bool). only b (tag_at st s (suc i))) (not_below (suc i) (st.sure s) (omega arith)))) ∙ ap is_none (sym (link_of s i t p)) ∙ ap (λ (x : ℕ). is_none (leads_to st im s x)) f ∙ b))) (is.next (home t)))
+        (λ f. let q = end_none s (suc i) (omega arith) in no_link s i t p g q ∙ sym q ∙ ap tag_in_version (whole s (suc i))));
+  }
 
   pub shown : (s : ℕ) → (n : ℕ) × Shown s n
   shown s = go (ℕ_discrete (st.sure s) (length (st.log s))) (is_none (leads_to st im s (st.sure s))) refl
@@ -251,12 +249,12 @@ module _ (m : Mem) (st : Story) (c : Core m st) (im : Image) (is : IsImage m im)
 
     pub cut_survives : Survives m0 used (λ (x : ℕ). (s : ℕ) × Durable st s x) h (kept lost h)
     cut_survives = record {
-        lost = lost;
-        is = refl;
-        last = unread_last lost h unread;
-        untold = untold;
-        legal = kept_legal lost h m0 m0 used used t.legal unread (agree_self m0 h) (λ x f. f)
-      }
+      lost = lost;
+      is = refl;
+      last = unread_last lost h unread;
+      untold = untold;
+      legal = kept_legal lost h m0 m0 used used t.legal unread (agree_self m0 h) (λ x f. f);
+    }
 
     log_left : (s : ℕ) (k : List ℕ) → st.keys s ≡ Some k → sift lost (st.log s) ≡ st.first s ++ commits k (kept lost h)
     log_left s k e =
@@ -281,10 +279,10 @@ module _ (m : Mem) (st : Story) (c : Core m st) (im : Image) (is : IsImage m im)
 
     read_at : (s : ℕ) (k : List ℕ) (p : ℕ) → st.keys s ≡ Some k → st.gone s ≤ p → p < st.sure s → im.root s ≡ tag_at st s p → Reads im s (leads m0 (kept lost h) k)
     read_at s k p e g q r = record {
-        versions = drop p (sift lost (st.log s));
-        chain = subst (λ (x : Option ℕ). Chain im x (tags (drop p (sift lost (st.log s))))) (sym r) (cut_chain s p g q);
-        last = ends_drop None None p (sift lost (st.log s)) (longer s p q) ∙ map_left s k e
-      }
+      versions = drop p (sift lost (st.log s));
+      chain = subst (λ (x : Option ℕ). Chain im x (tags (drop p (sift lost (st.log s))))) (sym r) (cut_chain s p g q);
+      last = ends_drop None None p (sift lost (st.log s)) (longer s p q) ∙ map_left s k e;
+    }
 
     empty_log : (ws : List Version) → length ws ≡ 0 → ws ≡ []
     empty_log [] e = refl
@@ -298,10 +296,9 @@ module _ (m : Mem) (st : Story) (c : Core m st) (im : Image) (is : IsImage m im)
 
     pub cut_stands : ReadsMap st im (leads m0 (kept lost h))
     cut_stands = record {
-        bound = λ s k e. let d = c.led s in
-            ⊎_elim (λ r. read_root s k (st.lead s) e (omega arith) (omega arith) (r ∙ c.root s))
-              (λ r. ⊎_elim (λ f. read_root s k (st.flead s) e (omega arith) (omega arith) (r ∙ f)) (λ f. read_none s k e (r ∙ f.empty) (sift_dead lost (st.log s) f.dead)) (c.froot s))
-              (is.root s);
-        unbound = λ k f. let u = t.unbound k f in leads_commits m0 (kept lost h) k ∙ ap (ends (m0 k)) (commits_kept lost k h ∙ ap (sift lost) u.1) ∙ u.0
-      }
-
+      bound = λ s k e. let d = c.led s in
+          ⊎_elim (λ r. read_root s k (st.lead s) e (omega arith) (omega arith) (r ∙ c.root s))
+          (λ r. ⊎_elim (λ f. read_root s k (st.flead s) e (omega arith) (omega arith) (r ∙ f)) (λ f. read_none s k e (r ∙ f.empty) (sift_dead lost (st.log s) f.dead)) (c.froot s))
+          (is.root s);
+      unbound = λ k f. let u = t.unbound k f in leads_commits m0 (kept lost h) k ∙ ap (ends (m0 k)) (commits_kept lost k h ∙ ap (sift lost) u.1) ∙ u.0;
+    }

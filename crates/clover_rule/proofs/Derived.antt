@@ -1,7 +1,6 @@
 -- Parts of the rule follow from the core facts.
-use Rattle.std.proofs.Common.{◌≡◌, ℕ, zero, suc, ◌+◌, ◌-◌, ◌*◌, ◌<◌, ◌≤◌, ◌≢◌, ◌⊎◌, List, [], ◌∷◌, ◌++◌, length, map, drop, Bool, true, false, cond, eqb, ltb, refl, sym, ap, ◌∙◌, inl, inr, ⊎_elim, arith, subst, eq-eqb, ne_eqb}
+use Rattle.std.proofs.Common.{◌≡◌, ℕ, zero, suc, ◌+◌, ◌-◌, ◌*◌, ◌<◌, ◌≤◌, ◌≢◌, ◌⊎◌, List, [], ◌∷◌, length, drop, Bool, true, cond, eqb, ltb, refl, sym, ap, ◌∙◌, inl, inr, ⊎_elim, arith, subst, eq-eqb, ne_eqb}
 use native.Mathlib.Decide.{ℕ_discrete, dec_le}
-use mathlib.Core.Logic.{dite}
 use Rattle.std.specs.Prelude.{Option, Some, None}
 use Rattle.std.proofs.lemmas.Bool.Decides.{nat_tests}
 use Rattle.clover_rule.specs.History.{Version}
@@ -11,8 +10,8 @@ use Rattle.clover_rule.specs.Parts.{Walk, ChainsStand, AllButLast, Falls, IsKnow
 use Rattle.clover_rule.specs.State.{home, age, Next, word, gen, link, Mem, Place, Chained, Stocked, Free, Worn, Taken, Loose, Story, tag_in_version, tag_at, only, Core, Durable}
 use Rattle.clover_rule.specs.Views.{IsLink, Past}
 use Rattle.clover_rule.specs.declared.view.Link.{Link}
-use Rattle.clover_rule.proofs.Tools.{nth_within, nth_none, nth_past}
-use Rattle.clover_rule.proofs.Standings.{same_tag, tag_there, tag_within, one_buffer}
+use Rattle.clover_rule.proofs.Tools.{nth_none, nth_past}
+use Rattle.clover_rule.proofs.Standings.{tag_there, tag_within, one_buffer}
 
 drop_all : (n : ℕ) (ws : List Version) → length ws ≤ n → drop n ws ≡ []
 drop_all zero [] h = refl
@@ -72,6 +71,7 @@ module _ (m : Mem) (st : Story) (c : Core m st) where
           before : (o : Option Version) → nth (st.log s) i ≡ o → suc i < length (st.log s) → (u : ℕ) × (tag_in_version (nth (st.log s) i) ≡ Some u)
           before None q z = absurd (let y = nth_past (st.log s) i q in omega arith)
           before (Some v) q z = (v.tag, ap tag_in_version q)
+
       go : Dec (st.gone s ≤ d.0) → Dec (st.lead s ≤ d.0) → Dec (st.lead s ≡ d.0) → IsKnown m chain held s t
       go (no a) x y = IsKnown.passed (c.passed s d.0 t d.1 (omega arith)).later
       go (yes a) (no x) y = IsKnown.recycles (is_held s d.0 t d.1 a (omega arith))
@@ -99,15 +99,18 @@ module _ (m : Mem) (st : Story) (c : Core m st) where
         where
           test : (i n : ℕ) → i < n → ltb i n ≡ true
           test i n h = grind (arith, nat_tests)
+
           drop_length : (p : ℕ) (ws : List Version) → length (drop p ws) ≤ length ws - p
           drop_length zero ws = omega arith
           drop_length (suc p) [] = omega arith
           drop_length (suc p) (w ∷ ws) = let h = drop_length p ws in omega arith
+
           head_at : (p : ℕ) (ws : List Version) (a : Version) (vs : List Version) → drop p ws ≡ a ∷ vs → nth ws p ≡ Some a
           head_at zero [] a vs e = absurd cc
           head_at zero (w ∷ ws) a vs e = let q : w ≡ a = cc in ap Some q
           head_at (suc p) [] a vs e = absurd cc
           head_at (suc p) (w ∷ ws) a vs e = head_at p ws a vs e
+
       from : (s n p : ℕ) → st.gone s ≤ p → length (st.log s) ≤ p + n → AllButLast m (tags (drop p (st.log s)))
       from s zero p g h = rw (drop_all p (st.log s) (omega arith)) tt
       from s (suc n) p g h = at (drop p (st.log s)) (drop (suc p) (st.log s)) refl refl (from s n (suc p) (omega arith) (omega arith))
@@ -117,6 +120,7 @@ module _ (m : Mem) (st : Story) (c : Core m st) where
           tail_of zero (w ∷ ws) a vs e = let q : ws ≡ vs = cc in q
           tail_of (suc p) [] a vs e = absurd cc
           tail_of (suc p) (w ∷ ws) a vs e = tail_of p ws a vs e
+
           at : (xs ys : List Version) → drop p (st.log s) ≡ xs → drop (suc p) (st.log s) ≡ ys → AllButLast m (tags ys) → AllButLast m (tags xs)
           at [] ys e f k = tt
           at (a ∷ []) ys e f k = tt
@@ -125,10 +129,10 @@ module _ (m : Mem) (st : Story) (c : Core m st) where
 
   pub chains : ChainsStand m chain
   chains = record {
-      walk = λ s. subst (λ (x : Option ℕ). Walk m x (chain s)) (sym (c.root s)) (from s (length (st.log s)) (st.lead s) (let d = c.led s in omega arith) (omega arith));
-      apart = λ s s' t t' a b h. let x = drop_within (st.lead s) (st.log s) t a in let y = drop_within (st.lead s') (st.log s') t' b in
-          let o = one_buffer m st c s x.0 t s' y.0 t' x.2 (let d = c.led s in let q = x.1 in omega arith) y.2 (let d = c.led s' in let q = y.1 in omega arith) h in (o.0, o.2)
-    }
+    walk = λ s. subst (λ (x : Option ℕ). Walk m x (chain s)) (sym (c.root s)) (from s (length (st.log s)) (st.lead s) (let d = c.led s in omega arith) (omega arith));
+    apart = λ s s' t t' a b h. let x = drop_within (st.lead s) (st.log s) t a in let y = drop_within (st.lead s') (st.log s') t' b in
+        let o = one_buffer m st c s x.0 t s' y.0 t' x.2 (let d = c.led s in let q = x.1 in omega arith) y.2 (let d = c.led s' in let q = y.1 in omega arith) h in (o.0, o.2);
+  }
     where
       from : (s n p : ℕ) → st.gone s ≤ p → length (st.log s) ≤ p + n → Walk m (tag_at st s p) (tags (drop p (st.log s)))
       from s zero p g h = rw (drop_all p (st.log s) (omega arith)) (ap tag_in_version (nth_none (st.log s) p (omega arith)))
@@ -208,16 +212,17 @@ past_there m st c b (word a (Some t)) p = subst (λ (k : ℕ). Within (word a (S
             ∙ ap (λ (b : Bool). cond b (tag_at st (st.slot_of l.from) (suc (st.rank l.from))) None) (eq-eqb l.from l.from refl)
             ∙ ap (λ (a : ℕ). tag_at st a (suc (st.rank l.from))) s.0 ∙ ap (λ (a : ℕ). tag_at st l.slot (suc a)) s.1 ∙ d.2
 
-
 -- the current value of each next word is one that it has or had
 pub current_past : (m : Mem) (st : Story) → Core m st → (b : ℕ) → Past m st b (m.next b)
 current_past m st c b = (omega arith, by_place (st.place b) refl)
   where
     unlinked : link (m.next b) ≡ None → (link (m.next b) ≡ None) ⊎ ((l : Link) × IsLink st l × (home l.from ≡ b) × (age l.from ≡ gen (m.next b)) × (link (m.next b) ≡ Some l.to))
     unlinked e = inl e
+
     on_chain_at : (s i t : ℕ) → tag_at st s i ≡ Some t → st.gone s ≤ i → home t ≡ b → (o : Option ℕ) → tag_at st s (suc i) ≡ o → (link (m.next b) ≡ None) ⊎ ((l : Link) × IsLink st l × (home l.from ≡ b) × (age l.from ≡ gen (m.next b)) × (link (m.next b) ≡ Some l.to))
     on_chain_at s i t e g h None q = inl (ap (λ (x : ℕ). link (m.next x)) (sym h) ∙ ap link (c.standing s i t e g).now ∙ q)
     on_chain_at s i t e g h (Some u) q = inr (record { slot = s; from = t; to = u }, (i, e, q), h, sym (ap (λ (x : ℕ). gen (m.next x)) (sym h) ∙ ap gen (c.standing s i t e g).now), ap (λ (x : ℕ). link (m.next x)) (sym h) ∙ ap link (c.standing s i t e g).now ∙ q)
+
     by_place : (p : Place) → st.place b ≡ p → (link (m.next b) ≡ None) ⊎ ((l : Link) × IsLink st l × (home l.from ≡ b) × (age l.from ≡ gen (m.next b)) × (link (m.next b) ≡ Some l.to))
     by_place (Chained s) e = let x = c.chained b s e in on_chain_at s x.0 x.1 x.2 x.3 x.4 (tag_at st s (suc x.0)) refl
     by_place (Stocked j) e = inl (c.loose b (subst Loose (sym e) tt)).0

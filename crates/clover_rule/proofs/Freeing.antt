@@ -1,32 +1,29 @@
 -- The laws of a recycling's exchange and of its last raise, and all laws of the server together.
-use Rattle.std.proofs.Common.{◌≡◌, ℕ, zero, suc, ◌+◌, ◌<◌, ◌≤◌, ◌≢◌, ◌⊎◌, List, [], ◌∷◌, ◌++◌, length, length-append, set, append_assoc, append-nil, Bool, true, false, cond, eqb, ltb, leb, refl, sym, ap, ◌∙◌, inl, inr, ⊎_elim, arith, subst, eq-eqb, ne_eqb, eqb-true, true≢false}
-use native.Mathlib.Decide.{ℕ_discrete, dec_le}
+use Rattle.std.proofs.Common.{◌≡◌, ℕ, suc, ◌<◌, ◌≢◌, List, Bool, true, false, cond, eqb, ltb, refl, sym, ap, ◌∙◌, inl, inr, ⊎_elim, arith, subst, eq-eqb, ne_eqb, eqb-true, true≢false}
+use native.Mathlib.Decide.{ℕ_discrete}
 use mathlib.Core.Logic.{dite}
 use Rattle.std.specs.Prelude.{Option, Some, None}
 use Rattle.std.proofs.lemmas.Bool.Decides.{nat_tests}
-use Rattle.clover_map.specs.declared.bytes.Value.{Value}
 use Rattle.clover_map.specs.declared.call.Entry.{Entry}
 use Rattle.clover_rule.specs.Content.{InRange, inside}
-use Rattle.clover_rule.specs.History.{Map, own}
+use Rattle.clover_rule.specs.History.{Map}
 use Rattle.clover_rule.specs.Lists.{nth, upd}
 use Rattle.clover_rule.specs.Server.{Ready, Stage, Help, root_in, is_home, book_of, Serves, Whole, IsWhole, ServerStep, LoadRoot, FlushLink, StoreRoot, StoreFlushedRoot, ExchangeRoot, FreeOld, Begin, FlushMeta, StoreKey, FlushKey, BindRoot, BindFlushedRoot, StoreCount, freed, served_view, ServerLaw}
-use Rattle.clover_rule.specs.State.{home, age, Next, word, gen, link, Mem, Place, Chained, Free, Worn, Taken, Story, tag_at, Core, Standing, greater, order, recycled_mem, recycled_story, only}
+use Rattle.clover_rule.specs.State.{home, age, Next, word, gen, Mem, Place, Chained, Free, Worn, Taken, Story, tag_at, Core, Standing, greater, order, recycled_mem, recycled_story, only}
 use Rattle.clover_rule.specs.Views.{Book, book, Basis, renewed, book_at, root_at}
 use Rattle.clover_rule.specs.declared.view.BufferState.TheVariants.{Free as IsFree, Worn as IsWorn, Bound as IsBound, Out as IsOut}
 use Rattle.clover_rule.specs.declared.view.Role.TheVariants.{Serving}
 use Rattle.clover_rule.specs.declared.view.Task.TheVariants.{Idle, Both, Exchanged}
 use Rattle.clover_rule.specs.declared.view.View.{View}
 use Rattle.clover_words.specs.declared.pool.Pool.{Pool}
-use Rattle.clover_rule.proofs.Tools.{upd_same, upd_else, nth_within, nth_snoc, nth_front, nth_last, nth_past, nth_none}
-use Rattle.clover_rule.proofs.Standings.{tag_there, tag_within, tag_past, same_tag, one_buffer}
-use Rattle.clover_rule.proofs.Steps.{each_map, each_within, prefix_trans, prefix_self, within_prefix, Grows, Leaves, view_kept, nth_set, set_here, set_away, link_kept, durable_kept, past_kept, copied_kept}
-
-use Rattle.clover_rule.proofs.ServerTools.{core_copy, Moves, whole, book_same, free_place, hold_core, tale_copy}
+use Rattle.clover_rule.proofs.Tools.{upd_same, upd_else}
+use Rattle.clover_rule.proofs.Steps.{prefix_self}
+use Rattle.clover_rule.proofs.ServerTools.{core_copy, whole, book_same, tale_copy}
 use Rattle.clover_rule.proofs.ServerLaws.{stage_at, serves_at, begin_law, flush_meta_law, store_key_law, flush_key_law}
 use Rattle.clover_rule.proofs.BindLaws.{bind_root_law}
 use Rattle.clover_rule.proofs.Stages.{load_root_whole, flush_link_whole, store_root_whole, store_flushed_whole, bind_flushed_whole, store_count_whole}
-use Rattle.clover_rule.proofs.Roots.{freed_core, freed_story, freed_mem}
-use Rattle.clover_rule.proofs.Recycling.{CanRecycle, recycle_core, stands, is, else_same, gone_cases, behind}
+use Rattle.clover_rule.proofs.Roots.{freed_core, freed_mem}
+use Rattle.clover_rule.proofs.Recycling.{CanRecycle, recycle_core, stands, is, else_same, behind}
 use Rattle.clover_rule.proofs.RecycleLaw.{gens', grows, leaves, spent_kept}
 
 passes : (a b : ℕ) → a < b → ltb a b ≡ true
@@ -85,44 +82,60 @@ module _ (l : Pool) (m0 : Map) (used : List ℕ) (m : Mem) (vs : List View) (id 
 
     help1 : Help l m1 st1
     help1 = let p = w.help in record {
-        ranged = let a = p.ranged in record { tags = a.tags; fits = a.fits;
-          own = λ b. dite (ℕ_discrete b (home r)) (λ d. let z = ap gen (ap m1.next d ∙ next_now) in let z1 = range.1 in omega arith) (λ d. let z = ap gen (next_else b d) in let z1 = a.own b in omega arith);
-          below = λ b. let z = gens' m0 used m vs st h ru id v v at s r can b in let z1 = a.below b in omega arith;
-          ready = λ b f. dite (ℕ_discrete b (home r)) (λ d. absurd (subst Ready (ap st1.place d ∙ place_now) f)) (λ d. let z = a.ready b (subst Ready (place_else b d) f) in (z.0, let z1 = z.1 in let z2 = ap gen (next_else b d) in omega arith));
-          worn = λ b i f. dite (ℕ_discrete b (home r)) (λ d. absurd (cc (ap st1.place d, place_now, f))) (λ d. ap gen (next_else b d) ∙ a.worn b i (sym (place_else b d) ∙ f)) };
-        keyed = let a = p.keyed in record { valid = a.valid; current = a.current; flushed = a.flushed; bare = a.bare; nameless = a.nameless; filled = a.filled; slots = a.slots };
-        naming = let a = p.naming in record { counted = a.counted; found = a.found; listed = a.listed; waiting = a.waiting };
-        stage = record {
-          settled = λ s1 q. dite (ℕ_discrete s1 s) (λ d. (ap st.lead d ∙ g.here.2 ∙ sym (ap st1.gone d ∙ gone_now), ap st.flead d ∙ g.here.3 ∙ sym (ap st1.gone d ∙ gone_now))) (λ d. let a = g.settled s1 (λ z. d (let y : Some s ≡ Some s1 = z in cc)) in (a.0 ∙ sym (gone_else s1 d), a.1 ∙ sym (gone_else s1 d)));
-          holds = λ b f. dite (ℕ_discrete b (home r)) (λ d. ap Some (sym d)) (λ d. absurd (let z : ◌≡◌ {A = Option ℕ} None (Some b) = g.holds b (sym (place_else b d) ∙ f) in cc));
-          names = g.names;
-          here = record { place = place_now; now = next_now; safe = stand.safe ∙ ap (λ (b : Bool). word (age r) (only b (tag_at st s (suc (st.gone s))))) (passes (suc (st.gone s)) (st.sure s) g.here.1) ∙ ap (word (age r)) g.here.0.next;
-            root = ap (tag_at st s) gone_now ∙ g.here.0.next; old = (st.gone s, sym gone_now, g.here.0.root); inside = range.0; young = range.1 } };
-        short = p.short
-      }
+      ranged = let a = p.ranged in record {
+        tags = a.tags;
+        fits = a.fits;
+        own = λ b. dite (ℕ_discrete b (home r)) (λ d. let z = ap gen (ap m1.next d ∙ next_now) in let z1 = range.1 in omega arith) (λ d. let z = ap gen (next_else b d) in let z1 = a.own b in omega arith);
+        below = λ b. let z = gens' m0 used m vs st h ru id v v at s r can b in let z1 = a.below b in omega arith;
+        ready = λ b f. dite (ℕ_discrete b (home r)) (λ d. absurd (subst Ready (ap st1.place d ∙ place_now) f)) (λ d. let z = a.ready b (subst Ready (place_else b d) f) in (z.0, let z1 = z.1 in let z2 = ap gen (next_else b d) in omega arith));
+        worn = λ b i f. dite (ℕ_discrete b (home r)) (λ d. absurd (cc (ap st1.place d, place_now, f))) (λ d. ap gen (next_else b d) ∙ a.worn b i (sym (place_else b d) ∙ f));
+      };
+      keyed = let a = p.keyed in record { valid = a.valid; current = a.current; flushed = a.flushed; bare = a.bare; nameless = a.nameless; filled = a.filled; slots = a.slots };
+      naming = let a = p.naming in record { counted = a.counted; found = a.found; listed = a.listed; waiting = a.waiting };
+      stage = record {
+        settled = λ s1 q. dite (ℕ_discrete s1 s) (λ d. (ap st.lead d ∙ g.here.2 ∙ sym (ap st1.gone d ∙ gone_now), ap st.flead d ∙ g.here.3 ∙ sym (ap st1.gone d ∙ gone_now))) (λ d. let a = g.settled s1 (λ z. d (let y : Some s ≡ Some s1 = z in cc)) in (a.0 ∙ sym (gone_else s1 d), a.1 ∙ sym (gone_else s1 d)));
+        holds = λ b f. dite (ℕ_discrete b (home r)) (λ d. ap Some (sym d)) (λ d. absurd (let z : ◌≡◌ {A = Option ℕ} None (Some b) = g.holds b (sym (place_else b d) ∙ f) in cc));
+        names = g.names;
+        here = record {
+          place = place_now;
+          now = next_now;
+          safe = stand.safe ∙ ap (λ (b : Bool). word (age r) (only b (tag_at st s (suc (st.gone s))))) (passes (suc (st.gone s)) (st.sure s) g.here.1) ∙ ap (word (age r)) g.here.0.next;
+          root = ap (tag_at st s) gone_now ∙ g.here.0.next;
+          old = (st.gone s, sym gone_now, g.here.0.root);
+          inside = range.0;
+          young = range.1;
+        };
+      };
+      short = p.short;
+    }
 
     books1 : (b : ℕ) → inside l b ≡ true → (book_at v.server) b ≡ book_of (Exchanged s r t) st1 (st1.place b) (gen (m1.next b)) b
     books1 b i = dite (ℕ_discrete b (home r))
-      (λ d. sv.books b i ∙ ap (λ (x : ℕ). book_of (Both s r t) st (st.place x) (gen (m.next x)) x) d ∙ ap (λ (p : Place). book_of (Both s r t) st p (gen (m.next (home r))) (home r)) stand.placed
-          ∙ ap (λ (x : Option ℕ). book (gen (m.next (home r))) (cond (is_home x (home r)) IsBound IsOut)) g.here.0.root ∙ ap (λ (x : Bool). book (gen (m.next (home r))) (cond x IsBound IsOut)) (eq-eqb (home r) (home r) refl) ∙ ap (λ (x : ℕ). book x IsBound) (ap gen exchange_finds)
-          ∙ sym (ap (λ (p : Place). book_of (Exchanged s r t) st1 p (gen (m1.next b)) b) (ap st1.place d ∙ place_now)))
-      (λ d. sv.books b i ∙ sym (book_same (Both s r t) (Exchanged s r t) st st1 (st.place b) (gen (m.next b)) b (λ s1 q. ap (λ (x : Option ℕ). is_home x b) (roots_kept s1)) (λ q. absurd (let z : ◌≡◌ {A = Option ℕ} None (Some b) = g.holds b q in cc)))
-          ∙ sym (ap (λ (p : Place). book_of (Exchanged s r t) st1 p (gen (m1.next b)) b) (place_else b d) ∙ ap (λ (x : ℕ). book_of (Exchanged s r t) st1 (st.place b) x b) (ap gen (next_else b d))))
+        (λ d. sv.books b i ∙ ap (λ (x : ℕ). book_of (Both s r t) st (st.place x) (gen (m.next x)) x) d ∙ ap (λ (p : Place). book_of (Both s r t) st p (gen (m.next (home r))) (home r)) stand.placed
+        ∙ ap (λ (x : Option ℕ). book (gen (m.next (home r))) (cond (is_home x (home r)) IsBound IsOut)) g.here.0.root ∙ ap (λ (x : Bool). book (gen (m.next (home r))) (cond x IsBound IsOut)) (eq-eqb (home r) (home r) refl) ∙ ap (λ (x : ℕ). book x IsBound) (ap gen exchange_finds)
+        ∙ sym (ap (λ (p : Place). book_of (Exchanged s r t) st1 p (gen (m1.next b)) b) (ap st1.place d ∙ place_now)))
+        (λ d. sv.books b i ∙ sym (book_same (Both s r t) (Exchanged s r t) st st1 (st.place b) (gen (m.next b)) b (λ s1 q. ap (λ (x : Option ℕ). is_home x b) (roots_kept s1)) (λ q. absurd (let z : ◌≡◌ {A = Option ℕ} None (Some b) = g.holds b q in cc)))
+        ∙ sym (ap (λ (p : Place). book_of (Exchanged s r t) st1 p (gen (m1.next b)) b) (place_else b d) ∙ ap (λ (x : ℕ). book_of (Exchanged s r t) st1 (st.place b) x b) (ap gen (next_else b d))))
 
     pub exchange_whole : IsWhole l m0 used m1 (renewed vs id (served_view l (ExchangeRoot s r t) v))
-    exchange_whole = (st1, h, whole l m0 used m vs st h w id v at role (ExchangeRoot s r t) m1 st1
-        record {
-          core = core_copy m1 (recycled_story st s r) (recycle_core m st s r ru.core can) m.body m.fbody m.key m.fkey m.short m.count st.keys st.first st.bindings (Exchanged s r t) st.slot_named;
-          tale = tale_copy st m0 used h ru.tale (upd st.place (home r) Taken) (upd st.gone s (suc (st.gone s))) st.lead st.flead st.named st.bindings (Exchanged s r t) st.slot_named;
-          bodies = λ s1 i1 w1 q f. ru.bodies s1 i1 w1 q (behind m st s r ru.core can s1 i1 f);
-          spent = λ y q. spent_kept m0 used m vs st h ru id v v at s r can y q;
-          bound = ru.bound; keyed = ru.keyed;
-          grows = let a = grows m0 used m vs st h ru id v v at s r can in record { versions = a.versions; sure = a.sure; gone = a.gone; gens = a.gens; names = a.names; count = a.count; history = a.history };
-          leaves = λ j b f. let a = leaves m0 used m vs st h ru id v v at s r can j b f in record { place = a.place; next = a.next; body = a.body; fbody = a.fbody };
-          help = help1;
-          fgens = λ b. omega arith
-        }
-        record { task_is = refl; directory = sv.directory; roots = λ s1. sv.roots s1 ∙ sym (roots_kept s1); books = books1 })
+    exchange_whole = (
+      st1,
+      h,
+      whole l m0 used m vs st h w id v at role (ExchangeRoot s r t) m1 st1
+          record {
+            core = core_copy m1 (recycled_story st s r) (recycle_core m st s r ru.core can) m.body m.fbody m.key m.fkey m.short m.count st.keys st.first st.bindings (Exchanged s r t) st.slot_named;
+            tale = tale_copy st m0 used h ru.tale (upd st.place (home r) Taken) (upd st.gone s (suc (st.gone s))) st.lead st.flead st.named st.bindings (Exchanged s r t) st.slot_named;
+            bodies = λ s1 i1 w1 q f. ru.bodies s1 i1 w1 q (behind m st s r ru.core can s1 i1 f);
+            spent = λ y q. spent_kept m0 used m vs st h ru id v v at s r can y q;
+            bound = ru.bound;
+            keyed = ru.keyed;
+            grows = let a = grows m0 used m vs st h ru id v v at s r can in record { versions = a.versions; sure = a.sure; gone = a.gone; gens = a.gens; names = a.names; count = a.count; history = a.history };
+            leaves = λ j b f. let a = leaves m0 used m vs st h ru id v v at s r can j b f in record { place = a.place; next = a.next; body = a.body; fbody = a.fbody };
+            help = help1;
+            fgens = λ b. omega arith;
+          }
+          record { task_is = refl; directory = sv.directory; roots = λ s1. sv.roots s1 ∙ sym (roots_kept s1); books = books1 },
+    )
 
   module _ (s r t : ℕ) (e : v.server.task ≡ Exchanged s r t) where
     ge : Stage l m st (Exchanged s r t)
@@ -200,23 +213,28 @@ module _ (l : Pool) (m0 : Map) (used : List ℕ) (m : Mem) (vs : List View) (id 
 
     help2 : Help l m2 st2
     help2 = let p = w.help in record {
-        ranged = let a = p.ranged in record { tags = a.tags; fits = a.fits; own = a.own;
-          below = λ b. dite (ℕ_discrete b b0) (λ d. let z = ap gen (ap m2.fnext d ∙ f_now) in let z1 = ap gen (ap m.next d ∙ ge.here.now) in omega arith) (λ d. let z = ap gen (f_else b d) in let z1 = a.below b in omega arith);
-          ready = λ b f. dite (ℕ_discrete b b0) (λ d. (ap (inside l) d ∙ ge.here.inside, let z = ready_q (eqb (suc (age r)) l.wear) refl (subst Ready (ap st2.place d ∙ place2) f) in let z1 = ap gen (ap m.next d ∙ ge.here.now) in omega arith)) (λ d. a.ready b (subst Ready (place2_else b d) f));
-          worn = λ b i f. dite (ℕ_discrete b b0) (λ d. ap gen (ap m.next d ∙ ge.here.now) ∙ worn_q (eqb (suc (age r)) l.wear) refl (sym place2 ∙ ap st2.place (sym d) ∙ f)) (λ d. a.worn b i (sym (place2_else b d) ∙ f)) };
-        keyed = let a = p.keyed in record { valid = a.valid; current = a.current; flushed = a.flushed; bare = a.bare; nameless = a.nameless; filled = a.filled; slots = a.slots };
-        naming = let a = p.naming in record { counted = a.counted; found = a.found; listed = a.listed; waiting = a.waiting };
-        stage = record {
-          settled = λ s1 q. ge.settled s1 (λ z. absurd cc);
-          holds = λ b f. dite (ℕ_discrete b b0) (λ d. absurd (unheld (sym place2 ∙ ap st2.place (sym d) ∙ f))) (λ d. absurd (d (let z : Some b0 ≡ Some b = ge.holds b (sym (place2_else b d) ∙ f) in cc)));
-          names = λ s1 k1 q. ⊎_elim inl (λ z. absurd cc) (ge.names s1 k1 q);
-          here = tt };
-        short = p.short
-      }
+      ranged = let a = p.ranged in record {
+        tags = a.tags;
+        fits = a.fits;
+        own = a.own;
+        below = λ b. dite (ℕ_discrete b b0) (λ d. let z = ap gen (ap m2.fnext d ∙ f_now) in let z1 = ap gen (ap m.next d ∙ ge.here.now) in omega arith) (λ d. let z = ap gen (f_else b d) in let z1 = a.below b in omega arith);
+        ready = λ b f. dite (ℕ_discrete b b0) (λ d. (ap (inside l) d ∙ ge.here.inside, let z = ready_q (eqb (suc (age r)) l.wear) refl (subst Ready (ap st2.place d ∙ place2) f) in let z1 = ap gen (ap m.next d ∙ ge.here.now) in omega arith)) (λ d. a.ready b (subst Ready (place2_else b d) f));
+        worn = λ b i f. dite (ℕ_discrete b b0) (λ d. ap gen (ap m.next d ∙ ge.here.now) ∙ worn_q (eqb (suc (age r)) l.wear) refl (sym place2 ∙ ap st2.place (sym d) ∙ f)) (λ d. a.worn b i (sym (place2_else b d) ∙ f));
+      };
+      keyed = let a = p.keyed in record { valid = a.valid; current = a.current; flushed = a.flushed; bare = a.bare; nameless = a.nameless; filled = a.filled; slots = a.slots };
+      naming = let a = p.naming in record { counted = a.counted; found = a.found; listed = a.listed; waiting = a.waiting };
+      stage = record {
+        settled = λ s1 q. ge.settled s1 (λ z. absurd cc);
+        holds = λ b f. dite (ℕ_discrete b b0) (λ d. absurd (unheld (sym place2 ∙ ap st2.place (sym d) ∙ f))) (λ d. absurd (d (let z : Some b0 ≡ Some b = ge.holds b (sym (place2_else b d) ∙ f) in cc)));
+        names = λ s1 k1 q. ⊎_elim inl (λ z. absurd cc) (ge.names s1 k1 q);
+        here = tt;
+      };
+      short = p.short;
+    }
 
     roots2 : (s1 : ℕ) → upd (root_at v.server) s (Some t) s1 ≡ tag_at st s1 (st.gone s1)
     roots2 s1 = dite (ℕ_discrete s1 s) (λ d. ap (upd (root_at v.server) s (Some t)) d ∙ upd_same (root_at v.server) s (Some t) ∙ sym (ap (λ (x : ℕ). tag_at st x (st.gone x)) d ∙ ge.here.root))
-      (λ d. upd_else (root_at v.server) s s1 (Some t) d ∙ se.roots s1 ∙ ap (λ (b : Bool). cond b (Some r) (tag_at st s1 (st.gone s1))) (ne_eqb s s1 (λ z. d (sym z))))
+        (λ d. upd_else (root_at v.server) s s1 (Some t) d ∙ se.roots s1 ∙ ap (λ (b : Bool). cond b (Some r) (tag_at st s1 (st.gone s1))) (ne_eqb s s1 (λ z. d (sym z))))
 
     book_q : (b : Bool) → book_of Idle st2 (place_of b) (suc (age r)) b0 ≡ book (suc (age r)) (cond b IsWorn IsFree)
     book_q true = refl
@@ -225,36 +243,41 @@ module _ (l : Pool) (m0 : Map) (used : List ℕ) (m : Mem) (vs : List View) (id 
     -- the books of a buffer that is neither the old root's nor the new one's
     same_home : (b : ℕ) → b ≢ b0 → b ≢ home t → (s1 : ℕ) → is_home (root_in Idle st2 s1) b ≡ is_home (root_in (Exchanged s r t) st s1) b
     same_home b d f s1 = dite (ℕ_discrete s1 s)
-      (λ z. rw z (ap (λ (x : Option ℕ). is_home x b) ge.here.root ∙ ne_eqb (home t) b (λ y. f (sym y)) ∙ sym (ne_eqb (home r) b (λ y. d (sym y))) ∙ sym (ap (λ (x : Bool). is_home (cond x (Some r) (tag_at st s (st.gone s))) b) (eq-eqb s s refl))))
-      (λ z. sym (ap (λ (x : Bool). is_home (cond x (Some r) (tag_at st s1 (st.gone s1))) b) (ne_eqb s s1 (λ y. z (sym y)))))
+        (λ z. rw z (ap (λ (x : Option ℕ). is_home x b) ge.here.root ∙ ne_eqb (home t) b (λ y. f (sym y)) ∙ sym (ne_eqb (home r) b (λ y. d (sym y))) ∙ sym (ap (λ (x : Bool). is_home (cond x (Some r) (tag_at st s (st.gone s))) b) (eq-eqb s s refl))))
+        (λ z. sym (ap (λ (x : Bool). is_home (cond x (Some r) (tag_at st s1 (st.gone s1))) b) (ne_eqb s s1 (λ y. z (sym y)))))
 
     abbrev books2 : ℕ → Book
     books2 = upd (upd (book_at v.server) (home t) (book (age t) IsBound)) b0 (book (suc (age r)) (freed (suc (age r)) l.wear))
 
     serves2 : (b : ℕ) → inside l b ≡ true → books2 b ≡ book_of Idle st2 (st2.place b) (gen (m.next b)) b
     serves2 b i = dite (ℕ_discrete b b0)
-      (λ d. ap books2 d ∙ upd_same (upd (book_at v.server) (home t) (book (age t) IsBound)) b0 (book (suc (age r)) (freed (suc (age r)) l.wear)) ∙ sym (book_q (eqb (suc (age r)) l.wear))
-          ∙ sym (ap (λ (x : ℕ). book_of Idle st2 (st2.place x) (gen (m.next x)) x) d ∙ ap (λ (p : Place). book_of Idle st2 p (gen (m.next b0)) b0) place2 ∙ ap (λ (x : ℕ). book_of Idle st2 q0 x b0) (ap gen ge.here.now)))
-      (λ d. upd_else (upd (book_at v.server) (home t) (book (age t) IsBound)) b0 b (book (suc (age r)) (freed (suc (age r)) l.wear)) d ∙ dite (ℕ_discrete b (home t))
-          (λ f. ap (upd (book_at v.server) (home t) (book (age t) IsBound)) f ∙ upd_same (book_at v.server) (home t) (book (age t) IsBound)
-              ∙ sym (ap (λ (p : Place). book_of Idle st2 p (gen (m.next b)) b) (place2_else b d ∙ ap st.place f ∙ t_stands.placed) ∙ ap (λ (x : Option ℕ). book (gen (m.next b)) (cond (is_home x b) IsBound IsOut)) ge.here.root ∙ ap (λ (x : Bool). book (gen (m.next b)) (cond x IsBound IsOut)) (eq-eqb (home t) b (sym f)) ∙ ap (λ (x : ℕ). book x IsBound) (ap gen (ap m.next f ∙ t_stands.now))))
-          (λ f. upd_else (book_at v.server) (home t) b (book (age t) IsBound) f ∙ se.books b i ∙ sym (book_same (Exchanged s r t) Idle st st2 (st.place b) (gen (m.next b)) b (λ s1 q. same_home b d f s1) (λ q. absurd (d (let z : Some b0 ≡ Some b = ge.holds b q in cc))))
-              ∙ sym (ap (λ (p : Place). book_of Idle st2 p (gen (m.next b)) b) (place2_else b d))))
+        (λ d. ap books2 d ∙ upd_same (upd (book_at v.server) (home t) (book (age t) IsBound)) b0 (book (suc (age r)) (freed (suc (age r)) l.wear)) ∙ sym (book_q (eqb (suc (age r)) l.wear))
+        ∙ sym (ap (λ (x : ℕ). book_of Idle st2 (st2.place x) (gen (m.next x)) x) d ∙ ap (λ (p : Place). book_of Idle st2 p (gen (m.next b0)) b0) place2 ∙ ap (λ (x : ℕ). book_of Idle st2 q0 x b0) (ap gen ge.here.now)))
+        (λ d. upd_else (upd (book_at v.server) (home t) (book (age t) IsBound)) b0 b (book (suc (age r)) (freed (suc (age r)) l.wear)) d ∙ dite (ℕ_discrete b (home t))
+        (λ f. ap (upd (book_at v.server) (home t) (book (age t) IsBound)) f ∙ upd_same (book_at v.server) (home t) (book (age t) IsBound)
+        ∙ sym (ap (λ (p : Place). book_of Idle st2 p (gen (m.next b)) b) (place2_else b d ∙ ap st.place f ∙ t_stands.placed) ∙ ap (λ (x : Option ℕ). book (gen (m.next b)) (cond (is_home x b) IsBound IsOut)) ge.here.root ∙ ap (λ (x : Bool). book (gen (m.next b)) (cond x IsBound IsOut)) (eq-eqb (home t) b (sym f)) ∙ ap (λ (x : ℕ). book x IsBound) (ap gen (ap m.next f ∙ t_stands.now))))
+        (λ f. upd_else (book_at v.server) (home t) b (book (age t) IsBound) f ∙ se.books b i ∙ sym (book_same (Exchanged s r t) Idle st st2 (st.place b) (gen (m.next b)) b (λ s1 q. same_home b d f s1) (λ q. absurd (d (let z : Some b0 ≡ Some b = ge.holds b q in cc))))
+        ∙ sym (ap (λ (p : Place). book_of Idle st2 p (gen (m.next b)) b) (place2_else b d))))
 
     pub free_old_whole : IsWhole l m0 used m2 (renewed vs id (served_view l (FreeOld s r t) v))
-    free_old_whole = (st2, h, whole l m0 used m vs st h w id v at role (FreeOld s r t) m2 st2
-        record {
-          core = core_copy m2 (record st { place = upd st.place b0 q0 }) core2 m.body m.fbody m.key m.fkey m.short m.count st.keys st.first st.bindings Idle st.slot_named;
-          tale = tale_copy st m0 used h ru.tale (upd st.place b0 q0) st.gone st.lead st.flead st.named st.bindings Idle st.slot_named;
-          bodies = ru.bodies;
-          spent = λ y q. ⊎_elim inl (λ a. inr (a.0, place2_else (home y) (λ d. absurd (cc (ap st.place d, a.1, ge.here.place))) ∙ a.1, a.2)) q;
-          bound = ru.bound; keyed = ru.keyed;
-          grows = record { versions = λ s1 i1 w1 q. q; sure = λ j. omega arith; gone = λ j. omega arith; gens = λ b. omega arith; names = prefix_self st.bindings; count = omega arith; history = prefix_self h };
-          leaves = λ j b f. record { place = place2_else b (λ d. absurd (cc (ap st.place d, f, ge.here.place))) ∙ f; next = refl; body = λ y. refl; fbody = λ y. refl };
-          help = help2;
-          fgens = λ b. dite (ℕ_discrete b b0) (λ d. let z = ap gen (ap m2.fnext d ∙ f_now) in let z1 = ap gen (ap m.fnext d ∙ ge.here.safe) in omega arith) (λ d. let z = ap gen (f_else b d) in omega arith)
-        }
-        record { task_is = refl; directory = se.directory; roots = roots2; books = serves2 })
+    free_old_whole = (
+      st2,
+      h,
+      whole l m0 used m vs st h w id v at role (FreeOld s r t) m2 st2
+          record {
+            core = core_copy m2 (record st { place = upd st.place b0 q0 }) core2 m.body m.fbody m.key m.fkey m.short m.count st.keys st.first st.bindings Idle st.slot_named;
+            tale = tale_copy st m0 used h ru.tale (upd st.place b0 q0) st.gone st.lead st.flead st.named st.bindings Idle st.slot_named;
+            bodies = ru.bodies;
+            spent = λ y q. ⊎_elim inl (λ a. inr (a.0, place2_else (home y) (λ d. absurd (cc (ap st.place d, a.1, ge.here.place))) ∙ a.1, a.2)) q;
+            bound = ru.bound;
+            keyed = ru.keyed;
+            grows = record { versions = λ s1 i1 w1 q. q; sure = λ j. omega arith; gone = λ j. omega arith; gens = λ b. omega arith; names = prefix_self st.bindings; count = omega arith; history = prefix_self h };
+            leaves = λ j b f. record { place = place2_else b (λ d. absurd (cc (ap st.place d, f, ge.here.place))) ∙ f; next = refl; body = λ y. refl; fbody = λ y. refl };
+            help = help2;
+            fgens = λ b. dite (ℕ_discrete b b0) (λ d. let z = ap gen (ap m2.fnext d ∙ f_now) in let z1 = ap gen (ap m.fnext d ∙ ge.here.safe) in omega arith) (λ d. let z = ap gen (f_else b d) in omega arith);
+          }
+          record { task_is = refl; directory = se.directory; roots = roots2; books = serves2 },
+    )
 
 -- the laws of all acts of the server
 pub server_law : (l : Pool) (a : ServerStep) → ServerLaw l a

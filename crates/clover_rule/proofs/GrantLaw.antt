@@ -1,26 +1,12 @@
 -- The law of the split of a grant.
-use Rattle.std.proofs.Common.{◌≡◌, ℕ, zero, suc, ◌+◌, ◌<◌, ◌≤◌, ◌≢◌, ◌⊎◌, List, [], ◌∷◌, ◌++◌, length, set, append_assoc, append-nil, Bool, true, false, cond, eqb, ltb, leb, refl, sym, ap, ◌∙◌, inl, inr, ⊎_elim, arith, subst, eq-eqb, ne_eqb, eqb-true, true≢false}
-use native.Mathlib.Decide.{ℕ_discrete, dec_le}
+use Rattle.std.proofs.Common.{◌≡◌, ℕ, ◌≢◌, List, [], ◌∷◌, refl, sym, ap, ◌∙◌, subst}
+use native.Mathlib.Decide.{ℕ_discrete}
 use mathlib.Core.Logic.{dite}
-use Rattle.std.specs.Prelude.{Option, Some, None}
-use Rattle.std.proofs.lemmas.Bool.Decides.{nat_tests}
-use Rattle.clover_map.specs.declared.bytes.Value.{Value}
-use Rattle.clover_map.specs.declared.call.Call.{Call}
-use Rattle.clover_map.specs.declared.call.Reply.{Reply}
-use Rattle.clover_map.specs.declared.call.Entry.{Entry}
-use Rattle.clover_map.specs.declared.call.Call.TheVariants.{Put}
-use Rattle.clover_map.specs.declared.call.Reply.TheVariants.{Stored}
 use Rattle.clover_rule.specs.Lists.{Each, upd}
 use Rattle.clover_rule.specs.State.{home, Mem, Place, Chained, Loose, Story, Core}
 use Rattle.clover_rule.specs.Views.{handed}
-use Rattle.clover_rule.proofs.Tools.{upd_same, upd_else, nth_within, nth_snoc, nth_front, nth_last}
-use Rattle.clover_rule.proofs.Standings.{tag_there, tag_within, tag_past, same_tag}
-use Rattle.clover_rule.proofs.Histories.{legal_snoc, leads_commits, commits_snoc}
-use Rattle.clover_rule.proofs.Linking.{CanLink, link_core, own_new, u_last, u_sure, apart, gens, u_stands, tag_else, tag_new}
-use Rattle.clover_rule.proofs.Snocs.{unread_snoc, used_more, fresh_commit, within_nth, within_commits, within_back, used_snoc, own_snoc}
-use Rattle.clover_rule.proofs.Steps.{each_map, each_within, prefix_trans, prefix_self, within_prefix, Grows, Leaves, view_kept, nth_set, set_here, set_away, link_kept, durable_kept, past_kept, copied_kept}
-
-
+use Rattle.clover_rule.proofs.Tools.{upd_same, upd_else}
+use Rattle.clover_rule.proofs.Steps.{each_map}
 use Rattle.clover_rule.proofs.Roots.{handed_core}
 
 pub away : (f : ℕ → Place) (ts : List ℕ) (q : Place) (b : ℕ) → Each (λ (t : ℕ). home t ≢ b) ts → handed f ts q b ≡ f b

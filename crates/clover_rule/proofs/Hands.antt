@@ -1,14 +1,12 @@
 -- Batches change hands: what is kept, and the laws of the splits and the joins.
-use Rattle.std.proofs.Common.{◌≡◌, ℕ, zero, suc, ◌+◌, ◌<◌, ◌≤◌, ◌≢◌, ◌⊎◌, List, [], ◌∷◌, ◌++◌, length, length-append, set, append_assoc, append-nil, Bool, true, false, cond, eqb, ltb, leb, refl, sym, ap, ◌∙◌, inl, inr, ⊎_elim, arith, subst, eq-eqb, ne_eqb, eqb-true, true≢false}
-use native.Mathlib.Decide.{ℕ_discrete, dec_le}
+use Rattle.std.proofs.Common.{◌≡◌, ℕ, zero, suc, ◌≢◌, ◌⊎◌, List, [], ◌∷◌, ◌++◌, length, set, refl, sym, ap, ◌∙◌, inl, inr, ⊎_elim, arith, subst, ne_eqb}
+use native.Mathlib.Decide.{ℕ_discrete}
 use mathlib.Core.Logic.{dite}
-use Rattle.std.specs.Prelude.{Option, Some, None}
-use Rattle.std.proofs.lemmas.Bool.Decides.{nat_tests}
-use Rattle.clover_map.specs.declared.bytes.Value.{Value}
+use Rattle.std.specs.Prelude.{Some}
 use Rattle.clover_map.specs.declared.call.Entry.{Entry}
 use Rattle.clover_rule.specs.History.{Map, own, used_by}
 use Rattle.clover_rule.specs.Lists.{Each, nth, upd, Within}
-use Rattle.clover_rule.specs.Server.{Ready, unnamed, AtStage, Help, root_in, book_of, Serves, Whole}
+use Rattle.clover_rule.specs.Server.{Ready, AtStage, Help, root_in, book_of, Serves, Whole}
 use Rattle.clover_rule.specs.State.{home, age, gen, Mem, Place, Chained, Stocked, Free, Worn, Taken, Loose, Story, Core}
 use Rattle.clover_rule.specs.Views.{alone, empty_pass, Owned, ViewOk, Spent, Numbered, handed}
 use Rattle.clover_rule.specs.declared.view.Role.TheVariants.{Client, Serving}
@@ -16,12 +14,10 @@ use Rattle.clover_rule.specs.declared.view.Task.{Task}
 use Rattle.clover_rule.specs.declared.view.Task.TheVariants.{Idle, Storing, Rooted, Waiting, Loaded, Raised, Led, Both, Exchanged}
 use Rattle.clover_rule.specs.declared.view.View.{View}
 use Rattle.clover_words.specs.declared.pool.Pool.{Pool}
-use Rattle.clover_rule.proofs.Tools.{upd_same, upd_else, nth_within, nth_snoc, nth_front, nth_last, nth_past, nth_none}
-use Rattle.clover_rule.proofs.Standings.{tag_there, tag_within, tag_past, same_tag, one_buffer}
-use Rattle.clover_rule.proofs.Steps.{each_map, each_within, prefix_trans, prefix_self, within_prefix, Grows, Leaves, view_kept, nth_set, set_here, set_away, link_kept, durable_kept, past_kept, copied_kept}
-
-use Rattle.clover_rule.proofs.GrantLaw.{away, there, all_there, core_handed}
-use Rattle.clover_rule.proofs.ServerTools.{core_copy, Moves, book_same, free_place, tale_copy}
+use Rattle.clover_rule.proofs.Tools.{upd_same, upd_else, nth_within, nth_snoc, nth_front}
+use Rattle.clover_rule.proofs.Steps.{each_map, prefix_self, Grows, view_kept, nth_set, set_here, set_away}
+use Rattle.clover_rule.proofs.GrantLaw.{away, all_there, core_handed}
+use Rattle.clover_rule.proofs.ServerTools.{tale_copy}
 
 pub each_both : {A : Type 0} (P : A → Type 0) (xs ys : List A) → Each P xs → Each P ys → Each P (xs ++ ys)
 each_both P [] ys a b = b
@@ -93,14 +89,19 @@ module _ (l : Pool) (m0 : Map) (used : List ℕ) (m : Mem) (vs : List View) (st 
 
   pub hand_help : Help l m st'
   hand_help = let p = w.help in record {
-      ranged = let a = p.ranged in record { tags = a.tags; own = a.own; below = a.below; fits = a.fits;
-        ready = λ b f. ⊎_elim (λ d. a.ready b (subst Ready (sym d.1) ready)) (λ d. a.ready b (subst Ready d f)) (hand_case b);
-        worn = λ b i f. ⊎_elim (λ d. absurd (cc (d.0, f))) (λ d. a.worn b i (sym d ∙ f)) (hand_case b) };
-      keyed = let a = p.keyed in record { valid = a.valid; current = a.current; flushed = a.flushed; bare = a.bare; nameless = a.nameless; filled = a.filled; slots = a.slots };
-      naming = let a = p.naming in record { counted = a.counted; found = a.found; listed = a.listed; waiting = a.waiting };
-      stage = record { settled = p.stage.settled; holds = λ b f. ⊎_elim (λ d. absurd (cc (d.0, f))) (λ d. p.stage.holds b (sym d ∙ f)) (hand_case b); names = p.stage.names; here = here st.task p.stage.here };
-      short = p.short
-    }
+    ranged = let a = p.ranged in record {
+      tags = a.tags;
+      own = a.own;
+      below = a.below;
+      fits = a.fits;
+      ready = λ b f. ⊎_elim (λ d. a.ready b (subst Ready (sym d.1) ready)) (λ d. a.ready b (subst Ready d f)) (hand_case b);
+      worn = λ b i f. ⊎_elim (λ d. absurd (cc (d.0, f))) (λ d. a.worn b i (sym d ∙ f)) (hand_case b);
+    };
+    keyed = let a = p.keyed in record { valid = a.valid; current = a.current; flushed = a.flushed; bare = a.bare; nameless = a.nameless; filled = a.filled; slots = a.slots };
+    naming = let a = p.naming in record { counted = a.counted; found = a.found; listed = a.listed; waiting = a.waiting };
+    stage = record { settled = p.stage.settled; holds = λ b f. ⊎_elim (λ d. absurd (cc (d.0, f))) (λ d. p.stage.holds b (sym d ∙ f)) (hand_case b); names = p.stage.names; here = here st.task p.stage.here };
+    short = p.short;
+  }
     where
       here : (T : Task) → AtStage l m st T → AtStage l m st' T
       here Idle a = tt
@@ -130,15 +131,29 @@ module _ (l : Pool) (m0 : Map) (used : List ℕ) (m : Mem) (vs : List View) (st 
 
   -- one law for all splits and joins: the views after are given, each with its facts
   module _ (vs' : List View) (views : (i : ℕ) (y : View) → nth vs' i ≡ Some y → ViewOk m st' h i y) (numbered : Numbered vs') (longest : (i : ℕ) × (y : View) × (nth vs' i ≡ Some y) × (y.pass.history ≡ h))
-           (serves : (i : ℕ) (y : View) → nth vs' i ≡ Some y → y.pass.role ≡ Serving → Serves l m st' st.task y.server) (one : (i j : ℕ) (y z : View) → nth vs' i ≡ Some y → nth vs' j ≡ Some z → y.pass.role ≡ Serving → z.pass.role ≡ Serving → i ≡ j)
-           (made : (i j n : ℕ) (y z : View) → nth vs' i ≡ Some y → nth vs' j ≡ Some z → y.pass.role ≡ Serving → z.pass.role ≡ Client n → Within n y.server.clients)
-           (entered : (i : ℕ) (y : View) → nth vs' i ≡ Some y → y.pass.role ≡ Serving → Each (λ (e : Entry). Within e.client y.server.clients) h) where
+      (serves : (i : ℕ) (y : View) → nth vs' i ≡ Some y → y.pass.role ≡ Serving → Serves l m st' st.task y.server) (one : (i j : ℕ) (y z : View) → nth vs' i ≡ Some y → nth vs' j ≡ Some z → y.pass.role ≡ Serving → z.pass.role ≡ Serving → i ≡ j)
+      (made : (i j n : ℕ) (y z : View) → nth vs' i ≡ Some y → nth vs' j ≡ Some z → y.pass.role ≡ Serving → z.pass.role ≡ Client n → Within n y.server.clients)
+      (entered : (i : ℕ) (y : View) → nth vs' i ≡ Some y → y.pass.role ≡ Serving → Each (λ (e : Entry). Within e.client y.server.clients) h) where
     pub hand_whole : Whole l m0 used m vs' st' h
     hand_whole = let r = w.basis in record {
-        basis = record { core = hand_core; tale = tale_copy st m0 used h r.tale (handed st.place batch q) st.gone st.lead st.flead st.named st.bindings st.task st.slot_named;
-          bodies = r.bodies; spent = each_map hand_spent (used_by used h) r.spent; bound = r.bound; keyed = r.keyed; views = views; numbered = numbered; longest = longest };
-        help = hand_help; serves = serves; one = one; safe = w.safe; made = made; entered = entered
-      }
+      basis = record {
+        core = hand_core;
+        tale = tale_copy st m0 used h r.tale (handed st.place batch q) st.gone st.lead st.flead st.named st.bindings st.task st.slot_named;
+        bodies = r.bodies;
+        spent = each_map hand_spent (used_by used h) r.spent;
+        bound = r.bound;
+        keyed = r.keyed;
+        views = views;
+        numbered = numbered;
+        longest = longest;
+      };
+      help = hand_help;
+      serves = serves;
+      one = one;
+      safe = w.safe;
+      made = made;
+      entered = entered;
+    }
 
 -- the server splits off a new client's pass: the batch is empty
 module _ (l : Pool) (m0 : Map) (used : List ℕ) (m : Mem) (vs : List View) (st : Story) (h : List Entry) (w : Whole l m0 used m vs st h) (id : ℕ) (v : View) (at : nth vs id ≡ Some v) (role : v.pass.role ≡ Serving) (n : ℕ) (fresh : Within n v.server.clients → ⊥) where
@@ -167,9 +182,9 @@ module _ (l : Pool) (m0 : Map) (used : List ℕ) (m : Mem) (vs : List View) (st 
   pub split_client : Whole l m0 used m views_then st h
   split_client = let p = w.basis in hand_whole l m0 used m vs st h w [] Free (length vs) tt tt views_then
       (λ i y e. ⊎_elim (λ a. rw (← a.1) (record { stocked = tt; apart = tt; durable = tt; links = tt; words = tt; written = tt; flushed = tt; copied = tt; names = (st.bindings, refl); added = inl refl; most = omega arith; history = (h, refl); calls = sym (none_own v.server.clients h fresh (w.entered id v at role)) }))
-          (λ a. ⊎_elim (λ b. rw (b.0, ← b.1) (let k = p.views id v at in record { stocked = k.stocked; apart = k.apart; durable = k.durable; links = k.links; words = k.words; written = k.written; flushed = k.flushed; copied = k.copied; names = k.names; added = k.added; most = k.most; history = k.history; calls = k.calls })) (λ b. p.views i y b.1) a) (made_case i y e))
+      (λ a. ⊎_elim (λ b. rw (b.0, ← b.1) (let k = p.views id v at in record { stocked = k.stocked; apart = k.apart; durable = k.durable; links = k.links; words = k.words; written = k.written; flushed = k.flushed; copied = k.copied; names = k.names; added = k.added; most = k.most; history = k.history; calls = k.calls })) (λ b. p.views i y b.1) a) (made_case i y e))
       (λ i j c y z e f s t. ⊎_elim (λ a. ⊎_elim (λ b. a.0 ∙ sym b.0) (λ b. absurd (fresh (subst (λ (x : ℕ). Within x v.server.clients) a.1 (w.made id j c v z at b role t)))) (client_at j c z f t))
-          (λ a. ⊎_elim (λ b. absurd (fresh (subst (λ (x : ℕ). Within x v.server.clients) b.1 (w.made id i c v y at a role s)))) (λ b. p.numbered i j c y z a b s t) (client_at j c z f t)) (client_at i c y e s))
+      (λ a. ⊎_elim (λ b. absurd (fresh (subst (λ (x : ℕ). Within x v.server.clients) b.1 (w.made id i c v y at a role s)))) (λ b. p.numbered i j c y z a b s t) (client_at j c z f t)) (client_at i c y e s))
       (let o = p.longest in longest_of o.0 o.1 o.2 o.3 (ℕ_discrete o.0 id))
       (λ i y e s. rw (← (server_at i y e s).1) (let a = w.serves id v at role in record { task_is = a.task_is; directory = a.directory; roots = a.roots; books = a.books }))
       (λ i j y z e f s t. (server_at i y e s).0 ∙ sym (server_at j z f t).0)

@@ -1,14 +1,13 @@
 -- Laws on histories.
-use Rattle.std.proofs.Common.{◌≡◌, ℕ, zero, suc, ◌≢◌, ◌⊎◌, List, [], ◌∷◌, ◌++◌, length, Bool, true, false, cond, eqb, refl, sym, ap, ◌∙◌, inl, inr, ⊎_elim, arith, subst, eq-eqb, ne_eqb, eqb-true, true≢false}
+use Rattle.std.proofs.Common.{◌≡◌, ℕ, zero, suc, ◌≢◌, List, [], ◌∷◌, ◌++◌, length, Bool, true, false, cond, refl, sym, ap, ◌∙◌, arith}
 use Rattle.std.specs.Prelude.{Option, Some, None}
-use Rattle.std.proofs.lemmas.Bool.Decides.{nat_tests}
 use Rattle.clover_map.specs.declared.call.Call.{Call}
 use Rattle.clover_map.specs.declared.call.Reply.{Reply}
 use Rattle.clover_map.specs.declared.call.Entry.{Entry}
 use Rattle.clover_map.specs.declared.call.Call.TheVariants.{Get, Put, Delete, Swap}
 use Rattle.clover_map.specs.declared.call.Reply.TheVariants.{Stored, Found, Absent, Deleted, Differs}
 use Rattle.clover_map.specs.declared.bytes.Held.{Held}
-use Rattle.clover_rule.proofs.Keys.{eq_key, ne_key}
+use Rattle.clover_rule.proofs.Keys.{ne_key}
 use Rattle.clover_rule.specs.History.{Version, Map, key_of, commit_of, changed, Does, Fresh, Legal, after, grown, pair_of, same_key, commits, ends, kept, lost_in, Silent, Unread, Last, joined, used_by, leads}
 use Rattle.clover_rule.specs.Lists.{Each, nth}
 
@@ -120,4 +119,3 @@ silent_none k (e ∷ h) s = rw (ne_key (key_of e) k s.0) (silent_none k h s.1)
 pub unread_last : (lost : ℕ → Bool) (h : List Entry) → Unread lost h → Last lost h
 unread_last lost [] u = tt
 unread_last lost (e ∷ h) u = ((λ b. silent_none (key_of e) h (u.0 b)), unread_last lost h u.1)
-

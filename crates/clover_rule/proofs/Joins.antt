@@ -1,30 +1,24 @@
 -- A grant is joined to a client's pass.
-use Rattle.std.proofs.Common.{◌≡◌, ℕ, zero, suc, ◌+◌, ◌<◌, ◌≤◌, ◌≢◌, ◌⊎◌, List, [], ◌∷◌, ◌++◌, length, length-append, set, append_assoc, append-nil, Bool, true, false, cond, eqb, ltb, leb, refl, sym, ap, ◌∙◌, inl, inr, ⊎_elim, arith, subst, eq-eqb, ne_eqb, eqb-true, true≢false}
-use native.Mathlib.Decide.{ℕ_discrete, dec_le}
-use mathlib.Core.Logic.{dite}
-use Rattle.std.specs.Prelude.{Option, Some, None}
-use Rattle.std.proofs.lemmas.Bool.Decides.{nat_tests}
-use Rattle.clover_map.specs.declared.bytes.Value.{Value}
+use Rattle.std.proofs.Common.{◌≡◌, ℕ, ◌≢◌, ◌⊎◌, List, [], ◌∷◌, ◌++◌, length, set, append_assoc, append-nil, refl, sym, ap, ◌∙◌, inl, inr, ⊎_elim, arith, subst}
+use native.Mathlib.Decide.{ℕ_discrete}
+use Rattle.std.specs.Prelude.{Option, Some}
 use Rattle.clover_map.specs.declared.call.Entry.{Entry}
-use Rattle.clover_rule.specs.History.{Map, own}
+use Rattle.clover_rule.specs.History.{Map}
 use Rattle.clover_rule.specs.Lists.{Each, nth, Within, IsPrefix}
 use Rattle.clover_rule.specs.Server.{is_home, book_of, Serves, Whole}
-use Rattle.clover_rule.specs.State.{home, gen, Mem, Place, Stocked, Story, Core}
+use Rattle.clover_rule.specs.State.{home, gen, Mem, Place, Stocked, Story}
 use Rattle.clover_rule.specs.Views.{alone, empty_pass, Owned, Apart, ViewOk, handed}
 use Rattle.clover_rule.specs.declared.view.Role.TheVariants.{Client, Granting, Joined}
 use Rattle.clover_rule.specs.declared.view.Server.{Server}
 use Rattle.clover_rule.specs.declared.view.View.{View}
 use Rattle.clover_words.specs.declared.pool.Pool.{Pool}
-use Rattle.clover_rule.proofs.Tools.{upd_same, upd_else, nth_within, nth_snoc, nth_front, nth_last, nth_past, nth_none}
-use Rattle.clover_rule.proofs.Standings.{tag_there, tag_within, tag_past, same_tag, one_buffer}
-use Rattle.clover_rule.proofs.Steps.{each_map, each_within, prefix_trans, prefix_self, within_prefix, Grows, Leaves, view_kept, nth_set, set_here, set_away, link_kept, durable_kept, past_kept, copied_kept}
-
-use Rattle.clover_rule.proofs.ServerTools.{book_same, free_place}
-use Rattle.clover_rule.proofs.Hands.{set_length, each_both, st', hand_whole, hand_view, hand_case, hand_else, hand_owned, roots_placed, held_placed}
+use Rattle.clover_rule.proofs.Steps.{each_map, nth_set, set_here, set_away}
+use Rattle.clover_rule.proofs.ServerTools.{book_same}
+use Rattle.clover_rule.proofs.Hands.{each_both, hand_whole, hand_view, hand_case, hand_owned, roots_placed, held_placed}
 
 -- a batch and names of a grant, or a refusal, are joined to a client's pass
 module _ (l : Pool) (m0 : Map) (used : List ℕ) (m : Mem) (vs : List View) (st : Story) (h : List Entry) (w : Whole l m0 used m vs st h) (id j : ℕ) (apart_seats : j ≢ id) (v y : View) (at : nth vs id ≡ Some v) (there_at : nth vs j ≡ Some y)
-         (n : ℕ) (role : v.pass.role ≡ Client n) (granting : y.pass.role ≡ Granting) (fits : length v.pass.names ≡ y.pass.from) (bare : y.pass.history ≡ []) where
+    (n : ℕ) (role : v.pass.role ≡ Client n) (granting : y.pass.role ≡ Granting) (fits : length v.pass.names ≡ y.pass.from) (bare : y.pass.history ≡ []) where
   abbrev pub joining : View
   joining = record v { pass = record v.pass { stock = v.pass.stock ++ y.pass.stock; names = v.pass.names ++ y.pass.added; refusals = v.pass.refusals ++ y.pass.refusals } }
 
@@ -63,9 +57,20 @@ module _ (l : Pool) (m0 : Map) (used : List ℕ) (m : Mem) (vs : List View) (st 
 
   ok_join : ViewOk m st1 h id joining
   ok_join = let a = hand_view l m0 used m vs st h w y.pass.stock (Stocked j) id tt was id v (λ z. apart_seats (let z1 : Stocked id ≡ Stocked j = z in cc)) okv in record {
-      stocked = each_both (Owned m st1 id) v.pass.stock y.pass.stock a.stocked (hand_owned l m0 used m vs st h w y.pass.stock (Stocked j) id tt was y.pass.stock was (each_map (λ t d. d.1) y.pass.stock oky.stocked));
-      apart = apart_both v.pass.stock okv.stocked okv.apart;
-      durable = a.durable; links = a.links; words = a.words; written = a.written; flushed = a.flushed; copied = a.copied; names = names_then; added = a.added; most = a.most; history = a.history; calls = a.calls }
+    stocked = each_both (Owned m st1 id) v.pass.stock y.pass.stock a.stocked (hand_owned l m0 used m vs st h w y.pass.stock (Stocked j) id tt was y.pass.stock was (each_map (λ t d. d.1) y.pass.stock oky.stocked));
+    apart = apart_both v.pass.stock okv.stocked okv.apart;
+    durable = a.durable;
+    links = a.links;
+    words = a.words;
+    written = a.written;
+    flushed = a.flushed;
+    copied = a.copied;
+    names = names_then;
+    added = a.added;
+    most = a.most;
+    history = a.history;
+    calls = a.calls;
+  }
 
   cases : (i : ℕ) (a : View) → nth joined_list i ≡ Some a → ((i ≡ j) × (spent_view ≡ a)) ⊎ (((i ≡ id) × (joining ≡ a)) ⊎ ((i ≢ id) × (i ≢ j) × (nth vs i ≡ Some a)))
   cases i a e = ⊎_elim inl (λ d. inr (⊎_elim inl (λ f. inr (f.0, d.0, f.1)) (nth_set vs id i joining a d.1))) (nth_set (set vs id joining) j i spent_view a e)
@@ -74,15 +79,19 @@ module _ (l : Pool) (m0 : Map) (used : List ℕ) (m : Mem) (vs : List View) (st 
   old i a e d = ⊎_elim (λ b. absurd (d (ap (λ (q : View). q.pass.role) b.1))) (λ b. ⊎_elim (λ c. (v, ap (nth vs) c.0 ∙ at, ap (λ (q : View). q.pass.role) c.1, ap (λ (q : View). q.server) c.1)) (λ c. (a, c.2, refl, refl)) b) (cases i a e)
 
   serves_kept : (sv : Server) → Serves l m st st.task sv → Serves l m st1 st.task sv
-  serves_kept sv e = record { task_is = e.task_is; directory = e.directory; roots = λ s1. e.roots s1 ∙ sym (roots_placed st st1.place st.task s1);
-      books = λ b i. e.books b i ∙ ⊎_elim (λ d. ap (λ (q : Place). book_of st.task st q (gen (m.next b)) b) d.1 ∙ sym (ap (λ (q : Place). book_of st.task st1 q (gen (m.next b)) b) d.0))
+  serves_kept sv e = record {
+    task_is = e.task_is;
+    directory = e.directory;
+    roots = λ s1. e.roots s1 ∙ sym (roots_placed st st1.place st.task s1);
+    books = λ b i. e.books b i ∙ ⊎_elim (λ d. ap (λ (q : Place). book_of st.task st q (gen (m.next b)) b) d.1 ∙ sym (ap (λ (q : Place). book_of st.task st1 q (gen (m.next b)) b) d.0))
         (λ d. sym (book_same st.task st.task st st1 (st.place b) (gen (m.next b)) b (λ s q. ap (λ (o : Option ℕ). is_home o b) (roots_placed st st1.place st.task s)) (λ q. held_placed st st1.place st.task (gen (m.next b)) b)) ∙ sym (ap (λ (q : Place). book_of st.task st1 q (gen (m.next b)) b) d))
-        (hand_case l m0 used m vs st h w y.pass.stock (Stocked j) id tt was b) }
+        (hand_case l m0 used m vs st h w y.pass.stock (Stocked j) id tt was b);
+  }
 
   pub join_whole : Whole l m0 used m joined_list st1 h
   join_whole = let p = w.basis in hand_whole l m0 used m vs st h w y.pass.stock (Stocked j) id tt was joined_list
       (λ i a e. ⊎_elim (λ b. rw (← b.1) (record { stocked = tt; apart = tt; durable = tt; links = tt; words = tt; written = tt; flushed = tt; copied = tt; names = (st.bindings, refl); added = inl refl; most = omega arith; history = (h, refl); calls = tt }))
-          (λ b. ⊎_elim (λ c. rw (c.0, ← c.1) ok_join) (λ c. hand_view l m0 used m vs st h w y.pass.stock (Stocked j) id tt was i a (λ z. c.1 (let z1 : Stocked i ≡ Stocked j = z in cc)) (p.views i a c.2)) b) (cases i a e))
+      (λ b. ⊎_elim (λ c. rw (c.0, ← c.1) ok_join) (λ c. hand_view l m0 used m vs st h w y.pass.stock (Stocked j) id tt was i a (λ z. c.1 (let z1 : Stocked i ≡ Stocked j = z in cc)) (p.views i a c.2)) b) (cases i a e))
       (λ i k c a b e f s t. let x = old i a e (λ z. absurd (cc (z, s))) in let z = old k b f (λ z. absurd (cc (z, t))) in p.numbered i k c x.0 z.0 x.1 z.1 (x.2 ∙ s) (z.2 ∙ t))
       (let o = p.longest in longest_of o.0 o.1 o.2 o.3 (ℕ_discrete o.0 id) (ℕ_discrete o.0 j))
       (λ i a e s. let x = old i a e (λ z. absurd (cc (z, s))) in subst (Serves l m st1 st.task) x.3 (serves_kept x.0.server (w.serves i x.0 x.1 (x.2 ∙ s))))
@@ -92,12 +101,14 @@ module _ (l : Pool) (m0 : Map) (used : List ℕ) (m : Mem) (vs : List View) (st 
     where
       here : nth joined_list id ≡ Some joining
       here = set_away (set vs id joining) j id spent_view (λ z. apart_seats (sym z)) ∙ set_here vs id joining v at
+
       empty_prefix : IsPrefix v.pass.history [] → v.pass.history ≡ []
       empty_prefix (zs, e) = go v.pass.history zs e
         where
           go : (xs zs : List Entry) → [] ≡ xs ++ zs → xs ≡ []
           go [] zs f = refl
           go (x ∷ xs) zs f = absurd (let g = ap length f in omega arith)
+
       longest_of : (k : ℕ) (a : View) → nth vs k ≡ Some a → a.pass.history ≡ h → Dec (k ≡ id) → Dec (k ≡ j) → (i : ℕ) × (b : View) × (nth joined_list i ≡ Some b) × (b.pass.history ≡ h)
       longest_of k a q e (yes d) f = (id, joining, here, let z : v ≡ a = let zz : Some v ≡ Some a = sym at ∙ ap (nth vs) (sym d) ∙ q in cc in ap (λ (x : View). x.pass.history) z ∙ e)
       longest_of k a q e (no d) (yes f) = (id, joining, here, let z : y ≡ a = let zz : Some y ≡ Some a = sym there_at ∙ ap (nth vs) (sym f) ∙ q in cc in let g : [] ≡ h = sym bare ∙ ap (λ (x : View). x.pass.history) z ∙ e in empty_prefix (subst (IsPrefix v.pass.history) (sym g) okv.history) ∙ g)

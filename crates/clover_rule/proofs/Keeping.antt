@@ -1,16 +1,15 @@
 -- What each step over the words needs: the codes stay codes, and the run stays the run.
-use Rattle.std.proofs.Common.{◌≡◌, ℕ, zero, suc, ◌+◌, ◌-◌, ◌*◌, ◌/◌, ◌%◌, ◌^◌, ◌<◌, ◌≤◌, ◌≢◌, ◌⊎◌, ◌&&◌, List, [], ◌∷◌, length, set, get_or, length-set, get_or-set_other, Bool, true, false, cond, max, refl, sym, ap, ◌∙◌, inl, inr, ⊎_elim, arith, subst, eq-eqb, ne_eqb, nat_lt}
-use native.Mathlib.Decide.{ℕ_discrete, dec_le}
-use mathlib.Core.Logic.{dite}
-use Rattle.std.specs.Prelude.{Option, Some, None, slice_set, slice_index}
+use Rattle.std.proofs.Common.{◌≡◌, ℕ, ◌+◌, ◌/◌, ◌%◌, ◌<◌, ◌&&◌, List, length, get_or, length-set, get_or-set_other, Bool, true, refl, sym, ap, ◌∙◌, ⊎_elim, arith, subst, nat_lt}
+use native.Mathlib.Decide.{ℕ_discrete}
+use Rattle.std.specs.Prelude.{Some, None, slice_set}
 use Rattle.std.proofs.lemmas.Bool.Decides.{nat_tests}
 use Rattle.clover_words.specs.declared.pool.Pool.{Pool}
 use Rattle.clover_words.specs.declared.word.Word.{Word}
-use Rattle.clover_words.specs.declared.word.Word.TheVariants.{Next as NextOf, Meta, Value as ValueOf, Root, Key, Short, Count}
+use Rattle.clover_words.specs.declared.word.Word.TheVariants.{Next as NextOf, Root, Short}
 use Rattle.clover_words.specs.declared.word.Side.{Side}
 use Rattle.clover_words.specs.declared.word.Side.TheVariants.{Current, Flushed}
-use Rattle.clover_words.specs.Place.{IsBuffer, IsWithin, HasSide, address_of, copy_in, pool_words}
-use Rattle.clover_words.proofs.Places.{copy_set, copy_kept, one_address, address_below, has_current}
+use Rattle.clover_words.specs.Place.{IsBuffer, IsWithin, HasSide, address_of, copy_in}
+use Rattle.clover_words.proofs.Places.{copy_set, one_address, address_below}
 use Rattle.clover_map.specs.declared.call.Entry.{Entry}
 use Rattle.clover_map.specs.Tagged.{Tagged}
 use Rattle.clover_rule.specs.Content.{inside, InRange}
@@ -19,13 +18,13 @@ use Rattle.clover_rule.specs.Lists.{nth}
 use Rattle.clover_rule.specs.Meets.{IsCode, Decodes, OfRun, Meets}
 use Rattle.clover_rule.specs.Server.{Whole}
 use Rattle.clover_rule.specs.State.{Next, word, home, age, Story}
-use Rattle.clover_rule.specs.Steps.{IsClient, client, counted}
+use Rattle.clover_rule.specs.Steps.{IsClient, counted}
 use Rattle.clover_rule.specs.Views.{renewed}
 use Rattle.clover_rule.specs.Words.{root_code, next_code, root_of, next_of, buffer_at, content_at, mem_of}
 use Rattle.clover_rule.specs.declared.access.Act.{Act}
 use Rattle.clover_rule.specs.declared.view.View.{View}
-use Rattle.clover_rule.proofs.Ties.{guard_true, next_again, root_again, below, test_below, buffer_in, and_true}
-use Rattle.clover_rule.proofs.Steps.{nth_set, set_here}
+use Rattle.clover_rule.proofs.Ties.{guard_true, test_below, and_true}
+use Rattle.clover_rule.proofs.Steps.{nth_set}
 use Rattle.clover_rule.proofs.Learning.{recount}
 
 pub decodes_set : (p : Pool) (ws : List ℕ) (w0 : Word) (s0 : Side) (n : ℕ) → Decodes p ws → IsWithin p w0 → HasSide w0 s0 → address_of p w0 s0 < length ws → IsCode w0 n → Decodes p (slice_set ws (address_of p w0 s0) n)
@@ -86,5 +85,5 @@ module _ (p : Pool) (first : Tagged) (used : List ℕ) (ws : List ℕ) (vs : Lis
         sized = length-set ws (address_of p w0 s0) n ∙ r.sized;
         decodes = decodes_set p ws w0 s0 n r.decodes hw hs hl code;
         same = λ i z q. ⊎_elim (λ d. let o = r.same id v at in subst (OfRun p first used) d.1 (record { of_pool = run.pool ∙ o.of_pool; from_map = run.map ∙ o.from_map; from_used = run.used ∙ o.from_used })) (λ d. r.same i z d.1) (nth_set vs id i (counted b a k y) z q);
-        whole = recount p (shows first) used (mem_of p (slice_set ws (address_of p w0 s0) n)) vs st' h' id v at y cy b a k w
+        whole = recount p (shows first) used (mem_of p (slice_set ws (address_of p w0 s0) n)) vs st' h' id v at y cy b a k w;
       }

@@ -1,19 +1,17 @@
 -- The law: each step that a client may make keeps the helping facts over the words.
-use Rattle.std.proofs.Common.{◌≡◌, ℕ, zero, suc, ◌+◌, ◌-◌, ◌*◌, ◌/◌, ◌%◌, ◌^◌, ◌<◌, ◌≤◌, ◌≢◌, ◌⊎◌, ◌&&◌, ◌==◌, List, [], ◌∷◌, ◌++◌, length, set, get_or, Bool, true, false, cond, eqb, max, refl, sym, ap, ◌∙◌, inl, inr, ⊎_elim, arith, subst, eq-eqb, ne_eqb, nat_lt, ltb}
+use Rattle.std.proofs.Common.{◌≡◌, ℕ, zero, suc, ◌+◌, ◌-◌, ◌/◌, ◌%◌, ◌<◌, ◌≢◌, ◌⊎◌, ◌==◌, List, [], ◌∷◌, ◌++◌, length, Bool, true, false, cond, max, refl, sym, ap, ◌∙◌, inl, inr, ⊎_elim, arith, subst, eq-eqb, ne_eqb, nat_lt, ltb}
 use native.Mathlib.Decide.{ℕ_discrete, dec_le}
 use mathlib.Core.Logic.{dite}
 use prog.Atomic.{either}
 use Rattle.std.specs.Prelude.{Option, Some, None, slice_set, slice_index}
-use Rattle.std.proofs.lemmas.Bool.Decides.{nat_tests}
 use Rattle.std.proofs.lemmas.List.{set-get_or}
 use Rattle.clover_words.specs.declared.pool.Pool.{Pool}
 use Rattle.clover_words.specs.declared.word.Word.{Word}
-use Rattle.clover_words.specs.declared.word.Word.TheVariants.{Next as NextOf, Meta, Value as ValueOf, Root, Key, Short, Count}
+use Rattle.clover_words.specs.declared.word.Word.TheVariants.{Next as NextOf, Short}
 use Rattle.clover_words.specs.declared.word.Side.{Side}
 use Rattle.clover_words.specs.declared.word.Side.TheVariants.{Current, Flushed}
-use Rattle.clover_words.specs.Place.{IsBuffer, IsWithin, HasSide, address_of, copy_in, pool_words}
-use Rattle.clover_words.proofs.Places.{address_below, has_current}
-use Rattle.clover_map.specs.declared.bytes.Value.{Value}
+use Rattle.clover_words.specs.Place.{IsWithin, HasSide, address_of, copy_in}
+use Rattle.clover_words.proofs.Places.{address_below}
 use Rattle.clover_map.specs.declared.call.Call.{Call}
 use Rattle.clover_map.specs.declared.call.Call.TheVariants.{Get, Put, Delete, Swap}
 use Rattle.clover_map.specs.declared.call.Reply.{Reply}
@@ -33,17 +31,16 @@ use Rattle.clover_rule.specs.declared.view.Link.{Link}
 use Rattle.clover_rule.specs.declared.view.Role.{Role}
 use Rattle.clover_rule.specs.declared.view.Role.TheVariants.{Client}
 use Rattle.clover_rule.specs.declared.view.View.{View}
-use Rattle.clover_rule.proofs.Ties.{write_next, write_fnext, write_body, write_fbody, write_short, next_again, root_again, buffer_in, content_side, below}
+use Rattle.clover_rule.proofs.Ties.{write_next, write_fnext, write_body, write_fbody, write_short, next_again, root_again, content_side}
 use Rattle.clover_rule.proofs.Codes.{raise_on_codes, OneLink, Small}
-use Rattle.clover_rule.proofs.Keeping.{stepped, SameRun, tag_small, link_code, code_is, inside_of, read_next, read_fnext, read_body, read_root, read_short}
+use Rattle.clover_rule.proofs.Keeping.{stepped, SameRun, tag_small, link_code, inside_of, read_next, read_fnext, read_body, read_root, read_short}
 use Rattle.clover_rule.proofs.Learning.{seen_whole, started_whole, root_durable, copied_whole, counts_whole, lead_whole}
-use Rattle.clover_rule.proofs.Calls.{commit_whole, put_decides, delete_decides, swap_decides, load_whole, found_get, absent_get, absent_delete, absent_swap, differs}
+use Rattle.clover_rule.proofs.Calls.{put_decides, delete_decides, swap_decides, load_whole, found_get, absent_get, absent_delete, absent_swap, differs}
 use Rattle.clover_rule.proofs.CountLaw.{count_whole, absent_now}
 use Rattle.clover_rule.proofs.ClientLaws.{raise_whole}
 use Rattle.clover_rule.proofs.StoreLaw.{store_whole}
 use Rattle.clover_rule.proofs.FlushLaw.{flush_whole}
 use Rattle.clover_rule.proofs.RaiseLaw.{known}
-use Rattle.clover_rule.proofs.Steps.{each_within}
 
 -- a test of two numbers
 by_test : (x c : ℕ) (P : Bool → Type 0) → (x ≡ c → P true) → (x ≢ c → P false) → P (x == c)
@@ -116,9 +113,11 @@ module _ (p : Pool) (first : Tagged) (used : List ℕ) (ws : List ℕ) (vs : Lis
   -- a step that leaves its word
   quiet_step : (a : Step) → HasSide (word_of a) (side_of a) → IsWithin p (word_of a) → IsClient v → (b : Bool) (y : View) → SameRun v y → (k : ℕ) (h' : List Entry) → Whole p m0 used m (renewed vs id y) st h' → After a b (found p a ws) y k h'
   quiet_step a hs hw cl b y run k h' w =
-      let same : slice_set ws (address_of p (word_of a) (side_of a)) (found p a ws) ≡ ws = set-get_or ws (address_of p (word_of a) (side_of a)) 0 in
-      (st, stepped p first used ws vs st h r id v at cl (word_of a) (side_of a) (found p a ws) hw hs (r.decodes (word_of a) (side_of a) hw hs) y run (still v y cl run) st h'
-        (subst (λ (q : List ℕ). Whole p m0 used (mem_of p q) (renewed vs id y) st h') (sym same) w) b (act_of a (found p a ws)) k)
+      let same : slice_set ws (address_of p (word_of a) (side_of a)) (found p a ws) ≡ ws = set-get_or ws (address_of p (word_of a) (side_of a)) 0 in (
+        st,
+        stepped p first used ws vs st h r id v at cl (word_of a) (side_of a) (found p a ws) hw hs (r.decodes (word_of a) (side_of a) hw hs) y run (still v y cl run) st h'
+            (subst (λ (q : List ℕ). Whole p m0 used (mem_of p q) (renewed vs id y) st h') (sym same) w) b (act_of a (found p a ws)) k,
+      )
 
   load_next : (b : Bool) (a : Step) (s t : ℕ) → side_of a ≡ Current → word_of a ≡ NextOf (buffer_at (home t)) → IsWithin p (word_of a) → HasSide (word_of a) (side_of a) → IsClient v → Within (s, t) v.pass.durable → (k : ℕ) → After a b (found p a ws) (seen s t v (next_of (found p a ws))) k h
   load_next b a s t es ew hw hs cl d k =
@@ -126,7 +125,7 @@ module _ (p : Pool) (first : Tagged) (used : List ℕ) (ws : List ℕ) (vs : Lis
       let x : ℕ = found p a ws in
       let is : x ≡ copy_in p ws (NextOf (buffer_at (home t))) Current = ap (λ (z : Word). slice_index ws (address_of p z (side_of a))) ew ∙ ap (λ (z : Side). slice_index ws (address_of p (NextOf (buffer_at (home t))) z)) es in
       quiet_step a hs hw cl b (seen s t v (next_of x)) (seen_run s t v (next_of x)) k h
-        (seen_whole p m0 used m vs st h r.whole id v at cl s t d (next_of x) (read_next p ws (home t) i ∙ ap next_of (sym is)))
+      (seen_whole p m0 used m vs st h r.whole id v at cl s t d (next_of x) (read_next p ws (home t) i ∙ ap next_of (sym is)))
 
   at_tail : (t x : ℕ) → inside p (home t) ≡ true → x ≡ copy_in p ws (NextOf (buffer_at (home t))) Current → x ≡ unlinked t → m.next (home t) ≡ word (age t) None
   at_tail t x i is e = read_next p ws (home t) i ∙ ap next_of (sym is ∙ e) ∙ next_again (age t) None (omega arith)
@@ -156,11 +155,11 @@ module _ (p : Pool) (first : Tagged) (used : List ℕ) (ws : List ℕ) (vs : Lis
       let a : Step = DecideNext s t c y in
       let x : ℕ = found p a ws in
       by_test x (unlinked t) (λ (z : Bool). After a b x (cond z (decided v h t c y) (seen s t v (next_of x))) (cond z 0 1) (cond z (h ++ link_entry v (client v) c y ∷ []) h))
-        (λ e. let f : m.next (home t) ≡ word (age t) None = at_tail t x (inside_of p (home t) hw) refl e in
-           let d = reply_does s t c y may.tail may.name f may.client may.reply in
-           quiet_step a tt hw may.client b (decided v h t c y) (record { role = refl; pool = refl; map = refl; used = refl }) 0 (h ++ link_entry v (client v) c y ∷ [])
-             (load_whole p m0 used m vs st h r.whole id v at s (named c) t may.tail may.name f (client v) may.client c y refl d.0 d.1))
-        (λ n. load_next b a s t refl refl hw tt may.client may.tail 1)
+      (λ e. let f : m.next (home t) ≡ word (age t) None = at_tail t x (inside_of p (home t) hw) refl e in
+      let d = reply_does s t c y may.tail may.name f may.client may.reply in
+      quiet_step a tt hw may.client b (decided v h t c y) (record { role = refl; pool = refl; map = refl; used = refl }) 0 (h ++ link_entry v (client v) c y ∷ [])
+      (load_whole p m0 used m vs st h r.whole id v at s (named c) t may.tail may.name f (client v) may.client c y refl d.0 d.1))
+      (λ n. load_next b a s t refl refl hw tt may.client may.tail 1)
 
   own_range : (t : ℕ) (rest : List ℕ) → v.pass.stock ≡ t ∷ rest → InRange p t
   own_range t rest e = let o = (subst (Each (Owned m st id)) e (r.whole.basis.views id v at).stocked).0 in let g = r.whole.help.ranged.ready (home t) (subst Ready (sym o.0) tt) in (g.0, let q = o.1 in let z = g.1 in omega arith)
@@ -183,17 +182,19 @@ module _ (p : Pool) (first : Tagged) (used : List ℕ) (ws : List ℕ) (vs : Lis
       let own : InRange p t = own_range t may.rest may.stock in
       let code : next_of (linked u t) ≡ word (age u) (Some t) = next_again (age u) (Some t) (link_code p (age u) t own) in
       by_test x (unlinked u) (λ (z : Bool). After a b (either z (linked u t) x) (cond z (link_view v h (client v) s u t c (reply_of t c) (rest_of v.pass.stock)) (seen s u v (next_of x))) (cond z 0 1) (cond z (h ++ link_entry v (client v) c (reply_of t c) ∷ []) h))
-        (λ e. let f : m.next (home u) ≡ word (age u) None = at_tail u x i refl e in
-           let w0 = link_wrote s u t c may.rest (record { client = may.client; stock = may.stock; tail = may.tail; name = may.name; stored = may.stored }) may.fits may.call f in
-           let y : View = link_view v h (client v) s u t c (reply_of t c) (rest_of v.pass.stock) in
-           let st1 : Story = linked_story st s (record { tag = t; value = value_of c }) in
-           let h1 : List Entry = h ++ link_entry v (client v) c (reply_of t c) ∷ [] in
-           let w1 : Whole p m0 used (linked_mem m u t) (renewed vs id y) st1 h1 = subst (λ (q : List ℕ). Whole p m0 used (linked_mem m u t) (renewed vs id (link_view v h (client v) s u t c (reply_of t c) q)) st1 h1) (sym (ap rest_of may.stock)) w0 in
-           let mem : mem_of p (slice_set ws (address_of p (NextOf (buffer_at (home u))) Current) (linked u t)) ≡ linked_mem m u t =
-               write_next p ws (linked u t) (home u) i (room (NextOf (buffer_at (home u))) Current hw tt) ∙ ap (λ (q : Next). record m { next = upd m.next (home u) q }) code in
-           (st1, stepped p first used ws vs st h r id v at may.client (NextOf (buffer_at (home u))) Current (linked u t) hw tt (ap next_code code) y (record { role = refl; pool = refl; map = refl; used = refl }) may.client st1 h1
-             (subst (λ (q : Mem). Whole p m0 used q (renewed vs id y) st1 h1) (sym mem) w1) b (act_of a x) 0))
-        (λ n. load_next b a s u refl refl hw tt may.client may.tail 1)
+      (λ e. let f : m.next (home u) ≡ word (age u) None = at_tail u x i refl e in
+      let w0 = link_wrote s u t c may.rest (record { client = may.client; stock = may.stock; tail = may.tail; name = may.name; stored = may.stored }) may.fits may.call f in
+      let y : View = link_view v h (client v) s u t c (reply_of t c) (rest_of v.pass.stock) in
+      let st1 : Story = linked_story st s (record { tag = t; value = value_of c }) in
+      let h1 : List Entry = h ++ link_entry v (client v) c (reply_of t c) ∷ [] in
+      let w1 : Whole p m0 used (linked_mem m u t) (renewed vs id y) st1 h1 = subst (λ (q : List ℕ). Whole p m0 used (linked_mem m u t) (renewed vs id (link_view v h (client v) s u t c (reply_of t c) q)) st1 h1) (sym (ap rest_of may.stock)) w0 in
+      let mem : mem_of p (slice_set ws (address_of p (NextOf (buffer_at (home u))) Current) (linked u t)) ≡ linked_mem m u t =
+      write_next p ws (linked u t) (home u) i (room (NextOf (buffer_at (home u))) Current hw tt) ∙ ap (λ (q : Next). record m { next = upd m.next (home u) q }) code in (
+        st1,
+        stepped p first used ws vs st h r id v at may.client (NextOf (buffer_at (home u))) Current (linked u t) hw tt (ap next_code code) y (record { role = refl; pool = refl; map = refl; used = refl }) may.client st1 h1
+            (subst (λ (q : Mem). Whole p m0 used q (renewed vs id y) st1 h1) (sym mem) w1) b (act_of a x) 0,
+      ))
+      (λ n. load_next b a s u refl refl hw tt may.client may.tail 1)
 
   flushed_link : (l : Link) (i : ℕ) → tag_at st l.slot i ≡ Some l.from → tag_at st l.slot (suc i) ≡ Some l.to → gen (m.fnext (home l.from)) ≡ age l.from → (m.fnext (home l.from) ≡ word (age l.from) None) ⊎ (m.fnext (home l.from) ≡ word (age l.from) (Some l.to))
   flushed_link l i e f g = dite (dec_le (st.gone l.slot) i)
@@ -222,34 +223,40 @@ module _ (p : Pool) (first : Tagged) (used : List ℕ) (ws : List ℕ) (vs : Lis
       let value : next_of (max x (linked l.from l.to)) ≡ greater o n = ap next_of top ∙ again (greater o n) (greater_case o n Small (small_of x) sn) in
       let code : next_code (next_of (max x (linked l.from l.to))) ≡ max x (linked l.from l.to) = ap next_code value ∙ sym top in
       let mem : mem_of p (slice_set ws (address_of p (NextOf (buffer_at (home l.from))) Flushed) (max x (linked l.from l.to))) ≡ raised_mem m l.from l.to =
-          write_fnext p ws (max x (linked l.from l.to)) (home l.from) i (room (NextOf (buffer_at (home l.from))) Flushed hw tt)
-          ∙ ap (λ (q : Next). record m { fnext = upd m.fnext (home l.from) q }) (value ∙ ap (λ (z : Next). greater z n) (sym was)) in
-      let w = raise_whole p m0 used m vs st h r.whole id v at (client v) cl l d in
-      (w.0, stepped p first used ws vs st h r id v at cl (NextOf (buffer_at (home l.from))) Flushed (max x (linked l.from l.to)) hw tt code (raise_view v l) (record { role = refl; pool = refl; map = refl; used = refl }) cl w.0 h
-        (subst (λ (q : Mem). Whole p m0 used q (renewed vs id (raise_view v l)) w.0 h) (sym mem) w.1) b (act_of a x) 0)
+      write_fnext p ws (max x (linked l.from l.to)) (home l.from) i (room (NextOf (buffer_at (home l.from))) Flushed hw tt)
+      ∙ ap (λ (q : Next). record m { fnext = upd m.fnext (home l.from) q }) (value ∙ ap (λ (z : Next). greater z n) (sym was)) in
+      let w = raise_whole p m0 used m vs st h r.whole id v at (client v) cl l d in (
+        w.0,
+        stepped p first used ws vs st h r id v at cl (NextOf (buffer_at (home l.from))) Flushed (max x (linked l.from l.to)) hw tt code (raise_view v l) (record { role = refl; pool = refl; map = refl; used = refl }) cl w.0 h
+            (subst (λ (q : Mem). Whole p m0 used q (renewed vs id (raise_view v l)) w.0 h) (sym mem) w.1) b (act_of a x) 0,
+      )
 
   store_content : (b : Bool) (t j x : ℕ) → IsWithin p (content_at (home t) j) → IsClient v → Within t v.pass.stock → After (StoreContent t j x) b x (stored_view v t j x) 0 h
   store_content b t j x hw cl own =
       let q = content_buffer p (home t) j hw in
       let hs : HasSide (content_at (home t) j) Current = content_side (home t) j Current in
-      let mem = write_body p ws x (home t) j q.0 q.1 (room (content_at (home t) j) Current hw hs) in
-      (st, stepped p first used ws vs st h r id v at cl (content_at (home t) j) Current x hw hs (content_code (home t) j x) (stored_view v t j x) (record { role = refl; pool = refl; map = refl; used = refl }) cl st h
-        (subst (λ (z : Mem). Whole p m0 used z (renewed vs id (stored_view v t j x)) st h) (sym mem) (store_whole p m0 used m vs st h r.whole id v at (client v) cl t j x own)) b (act_of (StoreContent t j x) (found p (StoreContent t j x) ws)) 0)
+      let mem = write_body p ws x (home t) j q.0 q.1 (room (content_at (home t) j) Current hw hs) in (
+        st,
+        stepped p first used ws vs st h r id v at cl (content_at (home t) j) Current x hw hs (content_code (home t) j x) (stored_view v t j x) (record { role = refl; pool = refl; map = refl; used = refl }) cl st h
+            (subst (λ (z : Mem). Whole p m0 used z (renewed vs id (stored_view v t j x)) st h) (sym mem) (store_whole p m0 used m vs st h r.whole id v at (client v) cl t j x own)) b (act_of (StoreContent t j x) (found p (StoreContent t j x) ws)) 0,
+      )
 
   flush_content : (b : Bool) (t j x : ℕ) → IsWithin p (content_at (home t) j) → IsClient v → Within t v.pass.stock → After (FlushContent t j x) b x (flushed_view v t j x) 0 h
   flush_content b t j x hw cl own =
       let q = content_buffer p (home t) j hw in
       let hs : HasSide (content_at (home t) j) Flushed = content_side (home t) j Flushed in
-      let mem = write_fbody p ws x (home t) j q.0 q.1 (room (content_at (home t) j) Flushed hw hs) in
-      (st, stepped p first used ws vs st h r id v at cl (content_at (home t) j) Flushed x hw hs (content_code (home t) j x) (flushed_view v t j x) (record { role = refl; pool = refl; map = refl; used = refl }) cl st h
-        (subst (λ (z : Mem). Whole p m0 used z (renewed vs id (flushed_view v t j x)) st h) (sym mem) (flush_whole p m0 used m vs st h r.whole id v at (client v) cl t j x own)) b (act_of (FlushContent t j x) (found p (FlushContent t j x) ws)) 0)
+      let mem = write_fbody p ws x (home t) j q.0 q.1 (room (content_at (home t) j) Flushed hw hs) in (
+        st,
+        stepped p first used ws vs st h r id v at cl (content_at (home t) j) Flushed x hw hs (content_code (home t) j x) (flushed_view v t j x) (record { role = refl; pool = refl; map = refl; used = refl }) cl st h
+            (subst (λ (z : Mem). Whole p m0 used z (renewed vs id (flushed_view v t j x)) st h) (sym mem) (flush_whole p m0 used m vs st h r.whole id v at (client v) cl t j x own)) b (act_of (FlushContent t j x) (found p (FlushContent t j x) ws)) 0,
+      )
 
   load_content : (b : Bool) (s t j : ℕ) → IsWithin p (content_at (home t) j) → IsClient v → Within (s, t) v.pass.durable → After (LoadContent s t j) b (found p (LoadContent s t j) ws) (learned (LoadContent s t j) h v (found p (LoadContent s t j) ws)) 0 h
   load_content b s t j hw cl d =
       let q = content_buffer p (home t) j hw in
       let x : ℕ = found p (LoadContent s t j) ws in
       quiet_step (LoadContent s t j) (content_side (home t) j Current) hw cl b (learned (LoadContent s t j) h v x) (record { role = refl; pool = refl; map = refl; used = refl }) 0 h
-        (subst (λ (z : ℕ). Whole p m0 used m (renewed vs id (record v { pass = record v.pass { copied = (s, record { tag = t; place = j; word = z }) ∷ v.pass.copied } })) st h) (read_body p ws (home t) j q.0 q.1) (copied_whole p m0 used m vs st h r.whole id v at cl s t j d))
+      (subst (λ (z : ℕ). Whole p m0 used m (renewed vs id (record v { pass = record v.pass { copied = (s, record { tag = t; place = j; word = z }) ∷ v.pass.copied } })) st h) (read_body p ws (home t) j q.0 q.1) (copied_whole p m0 used m vs st h r.whole id v at cl s t j d))
 
   read_slot : (b : Bool) (a : Step) (s : ℕ) → HasSide (word_of a) (side_of a) → IsWithin p (word_of a) → IsClient v → ((t : ℕ) → root_of (found p a ws) ≡ Some t → Durable st s t) → After a b (found p a ws) (started s v (root_of (found p a ws))) 0 h
   read_slot b a s hs hw cl f = quiet_step a hs hw cl b (started s v (root_of (found p a ws))) (started_run s v (root_of (found p a ws))) 0 h (started_whole p m0 used m vs st h r.whole id v at cl s (root_of (found p a ws)) f)
@@ -257,9 +264,11 @@ module _ (p : Pool) (first : Tagged) (used : List ℕ) (ws : List ℕ) (vs : Lis
   store_short : (b : Bool) (s t : ℕ) → s < p.slots → IsClient v → Within (s, t) v.pass.durable → After (StoreShort s t) b (root_code (Some t)) v 0 h
   store_short b s t hw cl d =
       let mem : mem_of p (slice_set ws (address_of p (Short s) Current) (root_code (Some t))) ≡ record m { short = upd m.short s (Some t) } =
-          write_short p ws (root_code (Some t)) s hw (room (Short s) Current hw tt) ∙ ap (λ (q : Option ℕ). record m { short = upd m.short s q }) (root_again (Some t)) in
-      (st, stepped p first used ws vs st h r id v at cl (Short s) Current (root_code (Some t)) hw tt (ap root_code (root_again (Some t))) v (same_self v) cl st h
-        (subst (λ (z : Mem). Whole p m0 used z (renewed vs id v) st h) (sym mem) (lead_whole p m0 used m vs st h r.whole id v at cl s t d)) b (act_of (StoreShort s t) (found p (StoreShort s t) ws)) 0)
+      write_short p ws (root_code (Some t)) s hw (room (Short s) Current hw tt) ∙ ap (λ (q : Option ℕ). record m { short = upd m.short s q }) (root_again (Some t)) in (
+        st,
+        stepped p first used ws vs st h r id v at cl (Short s) Current (root_code (Some t)) hw tt (ap root_code (root_again (Some t))) v (same_self v) cl st h
+            (subst (λ (z : Mem). Whole p m0 used z (renewed vs id v) st h) (sym mem) (lead_whole p m0 used m vs st h r.whole id v at cl s t d)) b (act_of (StoreShort s t) (found p (StoreShort s t) ws)) 0,
+      )
 
   absent_count : (b : Bool) (c : Call) → IsClient v → MayMiss c → ((s : ℕ) → Within (s, named c) v.pass.names → ⊥)
       → After (AbsentCount c) b (found p (AbsentCount c) ws) (learned (AbsentCount c) h v (found p (AbsentCount c) ws)) 0 (next_history (AbsentCount c) h v (found p (AbsentCount c) ws))
@@ -267,9 +276,9 @@ module _ (p : Pool) (first : Tagged) (used : List ℕ) (ws : List ℕ) (vs : Lis
       let a : Step = AbsentCount c in
       let x : ℕ = found p a ws in
       by_test x (length v.pass.names) (λ (z : Bool). After a b x (cond z (missed v h c x) (counts v x)) 0 (cond z (h ++ link_entry v (client v) c Absent ∷ []) h))
-        (λ e. quiet_step a tt tt cl b (missed v h c x) (record { role = refl; pool = refl; map = refl; used = refl }) 0 (h ++ link_entry v (client v) c Absent ∷ [])
-           (let d = miss_does c mc (absent_now p m0 used m vs st h r.whole id v at (named c) away e) in count_whole p m0 used m vs st h r.whole id v at (named c) away e (client v) cl c Absent refl d.0 d.1))
-        (λ n. quiet_step a tt tt cl b (counts v x) (record { role = refl; pool = refl; map = refl; used = refl }) 0 h (counts_whole p m0 used m vs st h r.whole id v at cl))
+      (λ e. quiet_step a tt tt cl b (missed v h c x) (record { role = refl; pool = refl; map = refl; used = refl }) 0 (h ++ link_entry v (client v) c Absent ∷ [])
+      (let d = miss_does c mc (absent_now p m0 used m vs st h r.whole id v at (named c) away e) in count_whole p m0 used m vs st h r.whole id v at (named c) away e (client v) cl c Absent refl d.0 d.1))
+      (λ n. quiet_step a tt tt cl b (counts v x) (record { role = refl; pool = refl; map = refl; used = refl }) 0 h (counts_whole p m0 used m vs st h r.whole id v at cl))
     where
       miss_does : (c : Call) → MayMiss c → leads m0 h (named c) ≡ None → (committed c Absent ≡ None) × Does (leads m0 h (named c)) (used_by used h) c Absent
       miss_does (Get k) q e = (refl, e)

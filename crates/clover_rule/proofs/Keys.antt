@@ -1,5 +1,5 @@
 -- Keys are the same exactly where their test says so, and a function of keys changed at one key.
-use Rattle.std.proofs.Common.{◌≡◌, ◌≢◌, ℕ, List, [], ◌∷◌, ◌&&◌, Bool, true, false, cond, eqb, refl, ap, eq-eqb, ne_eqb}
+use Rattle.std.proofs.Common.{◌≡◌, ◌≢◌, ℕ, List, [], ◌∷◌, ◌&&◌, true, false, eqb, refl, eq-eqb, ne_eqb}
 use native.Mathlib.Decide.{ℕ_discrete}
 use Rattle.clover_rule.specs.History.{same_key, at_key}
 

@@ -1,24 +1,21 @@
 -- What a client's loads teach, and that counting changes nothing.
-use Rattle.std.proofs.Common.{◌≡◌, ℕ, zero, suc, ◌+◌, ◌<◌, ◌≤◌, ◌≢◌, ◌⊎◌, List, [], ◌∷◌, ◌++◌, length, set, Bool, true, false, cond, eqb, ltb, leb, refl, sym, ap, ◌∙◌, inl, inr, ⊎_elim, arith, subst, eq-eqb, ne_eqb, eqb-true}
-use native.Mathlib.Decide.{ℕ_discrete, dec_le}
-use mathlib.Core.Logic.{dite}
+use Rattle.std.proofs.Common.{◌≡◌, ℕ, zero, suc, ◌≤◌, List, [], ◌∷◌, set, Bool, true, false, cond, eqb, refl, sym, ap, ◌∙◌, arith, subst, eqb-true}
 use Rattle.std.specs.Prelude.{Option, Some, None}
 use Rattle.std.proofs.lemmas.Bool.Decides.{nat_tests}
 use Rattle.clover_map.specs.declared.call.Entry.{Entry}
 use Rattle.clover_rule.specs.History.{Map, used_by}
 use Rattle.clover_rule.specs.Lists.{upd, Each, Within, nth}
 use Rattle.clover_rule.specs.Server.{Whole}
-use Rattle.clover_rule.specs.State.{Next, word, home, age, Mem, Story, Core, tag_at, greatest, Durable}
+use Rattle.clover_rule.specs.State.{Next, word, home, age, Mem, Story, tag_at, greatest, Durable}
 use Rattle.clover_rule.specs.Steps.{IsClient, client, seen, started, counts, counted}
 use Rattle.clover_rule.specs.Views.{Basis, ViewOk, renewed, Past, IsLink, shown}
 use Rattle.clover_rule.specs.declared.access.Act.{Act}
 use Rattle.clover_rule.specs.declared.view.View.{View}
 use Rattle.clover_words.specs.declared.pool.Pool.{Pool}
-use Rattle.clover_rule.proofs.Tools.{upd_same, upd_else, nth_within}
 use Rattle.clover_rule.proofs.Standings.{tag_there, tag_within}
 use Rattle.clover_rule.proofs.Steps.{each_map, each_within, set_here}
 use Rattle.clover_rule.proofs.Derived.{current_past}
-use Rattle.clover_rule.proofs.Quiet.{loaded_link, loaded_root, loaded_body}
+use Rattle.clover_rule.proofs.Quiet.{loaded_link, loaded_body}
 use Rattle.clover_rule.proofs.ClientLaws.{quiet_whole, short_whole}
 use Rattle.clover_rule.proofs.ServerTools.{core_copy}
 
@@ -41,12 +38,14 @@ module _ (p : Pool) (m0 : Map) (used : List ℕ) (m : Mem) (vs : List View) (st 
     where
       seen_link : Bool → View
       seen_link b = record v { pass = record v.pass { words = shown (home t) a (Some u) ∷ v.pass.words; links = cond b (record { slot = s; from = t; to = u } ∷ v.pass.links) v.pass.links } }
+
       linked : (b : Bool) → eqb a (age t) ≡ b → Each (IsLink st) (cond b (record { slot = s; from = t; to = u } ∷ v.pass.links) v.pass.links)
       linked true q = (loaded_link m st w.basis.core s t (each_within (λ (z : ℕ × ℕ). Durable st z.0 z.1) (s, t) v.pass.durable ok.durable d) u (e ∙ ap (λ (y : ℕ). word y (Some u)) (eqb-true a (age t) q)), ok.links)
       linked false q = ok.links
+
       go : (b : Bool) → eqb a (age t) ≡ b → Whole p m0 used m (renewed vs id (record v { pass = record v.pass { words = shown (home t) a (Some u) ∷ v.pass.words; links = cond b (record { slot = s; from = t; to = u } ∷ v.pass.links) v.pass.links } })) st h
       go b q = quiet_whole p m0 used m vs st h w id v at (client v) cl (record v { pass = record v.pass { words = shown (home t) a (Some u) ∷ v.pass.words; links = cond b (record { slot = s; from = t; to = u } ∷ v.pass.links) v.pass.links } }) refl refl
-        record { stocked = ok.stocked; apart = ok.apart; durable = ok.durable; links = linked b q; words = (subst (Past m st (home t)) e (current_past m st w.basis.core (home t)), ok.words); written = ok.written; flushed = ok.flushed; copied = ok.copied; names = ok.names; added = ok.added; most = ok.most; history = ok.history; calls = ok.calls }
+          record { stocked = ok.stocked; apart = ok.apart; durable = ok.durable; links = linked b q; words = (subst (Past m st (home t)) e (current_past m st w.basis.core (home t)), ok.words); written = ok.written; flushed = ok.flushed; copied = ok.copied; names = ok.names; added = ok.added; most = ok.most; history = ok.history; calls = ok.calls }
 
   pub started_whole : (s : ℕ) (o : Option ℕ) → ((t : ℕ) → o ≡ Some t → Durable st s t) → Whole p m0 used m (renewed vs id (started s v o)) st h
   started_whole s None f = quiet_whole p m0 used m vs st h w id v at (client v) cl v refl refl ok
@@ -61,8 +60,21 @@ module _ (p : Pool) (m0 : Map) (used : List ℕ) (m : Mem) (vs : List View) (st 
       let k : Durable st s t = each_within (λ (z : ℕ × ℕ). Durable st z.0 z.1) (s, t) v.pass.durable ok.durable d in
       let y = tag_there st s k.0 t k.1 in
       quiet_whole p m0 used m vs st h w id v at (client v) cl (record v { pass = record v.pass { copied = (s, record { tag = t; place = j; word = m.body (home t) j }) ∷ v.pass.copied } }) refl refl
-      record { stocked = ok.stocked; apart = ok.apart; durable = ok.durable; links = ok.links; words = ok.words; written = ok.written; flushed = ok.flushed;
-          copied = (loaded_body m st w.basis.core s t k y.0 y.1 (λ g. w.basis.bodies s k.0 y.0 y.1 g) j, ok.copied); names = ok.names; added = ok.added; most = ok.most; history = ok.history; calls = ok.calls }
+      record {
+        stocked = ok.stocked;
+        apart = ok.apart;
+        durable = ok.durable;
+        links = ok.links;
+        words = ok.words;
+        written = ok.written;
+        flushed = ok.flushed;
+        copied = (loaded_body m st w.basis.core s t k y.0 y.1 (λ g. w.basis.bodies s k.0 y.0 y.1 g) j, ok.copied);
+        names = ok.names;
+        added = ok.added;
+        most = ok.most;
+        history = ok.history;
+        calls = ok.calls;
+      }
 
   pub counts_whole : Whole p m0 used m (renewed vs id (counts v m.count)) st h
   counts_whole = quiet_whole p m0 used m vs st h w id v at (client v) cl (counts v m.count) refl refl
@@ -73,8 +85,15 @@ module _ (p : Pool) (m0 : Map) (used : List ℕ) (m : Mem) (vs : List View) (st 
   lead_whole s t d = short_whole p m0 used m vs st h w id v at (client v) s t cl d
       (let r : Basis m0 used m (renewed vs id v) st h = (quiet_whole p m0 used m vs st h w id v at (client v) cl v refl refl ok).basis in record {
         core = core_copy m st r.core m.body m.fbody m.key m.fkey (upd m.short s (Some t)) m.count st.keys st.first st.bindings st.task st.slot_named;
-        tale = r.tale; bodies = r.bodies; spent = each_map (λ y a. a) (used_by used h) r.spent; bound = r.bound; keyed = r.keyed; numbered = r.numbered; longest = r.longest;
-        views = λ i y q. let a = r.views i y q in record { stocked = each_map (λ y1 b. b) y.pass.stock a.stocked; apart = a.apart; durable = a.durable; links = a.links; words = each_map (λ y1 b. b) y.pass.words a.words; written = each_map (λ y1 b. b) y.pass.written a.written; flushed = each_map (λ y1 b. b) y.pass.flushed a.flushed; copied = a.copied; names = a.names; added = a.added; most = a.most; history = a.history; calls = a.calls } })
+        tale = r.tale;
+        bodies = r.bodies;
+        spent = each_map (λ y a. a) (used_by used h) r.spent;
+        bound = r.bound;
+        keyed = r.keyed;
+        numbered = r.numbered;
+        longest = r.longest;
+        views = λ i y q. let a = r.views i y q in record { stocked = each_map (λ y1 b. b) y.pass.stock a.stocked; apart = a.apart; durable = a.durable; links = a.links; words = each_map (λ y1 b. b) y.pass.words a.words; written = each_map (λ y1 b. b) y.pass.written a.written; flushed = each_map (λ y1 b. b) y.pass.flushed a.flushed; copied = a.copied; names = a.names; added = a.added; most = a.most; history = a.history; calls = a.calls };
+      })
 
 -- counting is read by no fact
 pub recount : (p : Pool) (m0 : Map) (used : List ℕ) (m : Mem) (vs : List View) (st : Story) (h : List Entry) (id : ℕ) (v : View) → nth vs id ≡ Some v → (y : View) → IsClient y → (first : Bool) (a : Act) (n : ℕ) → Whole p m0 used m (renewed vs id y) st h → Whole p m0 used m (renewed vs id (counted first a n y)) st h
@@ -82,5 +101,5 @@ recount p m0 used m vs st h id v at y cl first a n w =
     let here : nth (renewed vs id y) id ≡ Some y = set_here vs id y v at in
     let ok : ViewOk m st h id y = w.basis.views id y here in
     subst (λ (l : List View). Whole p m0 used m l st h) (set_set vs id y (counted first a n y))
-      (quiet_whole p m0 used m (renewed vs id y) st h w id y here (client y) cl (counted first a n y) refl refl
-        record { stocked = ok.stocked; apart = ok.apart; durable = ok.durable; links = ok.links; words = ok.words; written = ok.written; flushed = ok.flushed; copied = ok.copied; names = ok.names; added = ok.added; most = ok.most; history = ok.history; calls = ok.calls })
+    (quiet_whole p m0 used m (renewed vs id y) st h w id y here (client y) cl (counted first a n y) refl refl
+    record { stocked = ok.stocked; apart = ok.apart; durable = ok.durable; links = ok.links; words = ok.words; written = ok.written; flushed = ok.flushed; copied = ok.copied; names = ok.names; added = ok.added; most = ok.most; history = ok.history; calls = ok.calls })

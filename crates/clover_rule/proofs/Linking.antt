@@ -1,16 +1,13 @@
 -- The law of the link step on the core facts.
-use Rattle.std.proofs.Common.{◌≡◌, ℕ, zero, suc, ◌+◌, ◌<◌, ◌≤◌, ◌≢◌, ◌⊎◌, List, [], ◌∷◌, ◌++◌, length, length-append, Bool, true, false, cond, eqb, ltb, refl, sym, ap, ◌∙◌, inl, inr, ⊎_elim, arith, subst, eq-eqb, ne_eqb, eqb-true, true≢false}
+use Rattle.std.proofs.Common.{◌≡◌, ℕ, suc, ◌<◌, ◌≤◌, ◌≢◌, ◌⊎◌, List, [], ◌∷◌, ◌++◌, length, length-append, true, ltb, refl, sym, ap, ◌∙◌, inl, inr, ⊎_elim, arith, subst, true≢false}
 use native.Mathlib.Decide.{ℕ_discrete, dec_le}
 use mathlib.Core.Logic.{dite}
-use Rattle.std.specs.Prelude.{Option, Some, None}
-use Rattle.std.proofs.lemmas.Bool.Decides.{nat_tests}
-use Rattle.clover_map.specs.declared.bytes.Value.{Value}
+use Rattle.std.specs.Prelude.{Some, None}
 use Rattle.clover_rule.specs.History.{Version}
 use Rattle.clover_rule.specs.Lists.{nth}
 use Rattle.clover_rule.specs.State.{home, age, word, gen, link, Mem, Chained, Stocked, Taken, Loose, Story, tag_at, only, safe_at, Standing, Core, Passed, Waits, linked_mem, linked_story}
-use Rattle.clover_rule.proofs.Tools.{upd_same, upd_else, nth_snoc, nth_front, nth_last, nth_within, nth_past, nth_none}
-
-use Rattle.clover_rule.proofs.Standings.{tag_there, tag_within, tag_past, same_tag, only_same, only_none, word_of, one_buffer}
+use Rattle.clover_rule.proofs.Tools.{upd_same, upd_else, nth_front, nth_last, nth_none}
+use Rattle.clover_rule.proofs.Standings.{tag_within, tag_past, same_tag, only_same, only_none, word_of}
 
 -- where a tag stands in the longer story
 pub data Pushed (st : Story) (s : ℕ) (w : Version) (s' i' t' : ℕ) : Type 0 where
@@ -108,9 +105,9 @@ module _ (m : Mem) (st : Story) (s u i k : ℕ) (w : Version) (c : Core m st) (l
     where
       go : Pushed st s w s' i' t' → Passed (linked_mem m u w.tag) (linked_story st s w) s' i' t'
       go (before b n) = let x = c.passed s' i' t' b g in let r = gone_sure s' i' t' b in let d = c.led s' in record {
-          later = rw (gens (home t')) x.later;
-          safe = ⊎_elim inl (λ h. inr (h ∙ ap (word (age t')) (sym (tag_else st s w s' (suc i') (early s' (suc i') (omega arith)))))) x.safe
-        }
+        later = rw (gens (home t')) x.later;
+        safe = ⊎_elim inl (λ h. inr (h ∙ ap (word (age t')) (sym (tag_else st s w s' (suc i') (early s' (suc i') (omega arith)))))) x.safe;
+      }
       go (new p q r) = let x = gone_sure s i u l.tail in let y = c.sure_most s in let d = c.led s in let z = ap st.gone p in absurd (omega arith)
 
   safe_before : (s' i' t' : ℕ) → Standing m st s' i' t' → (linked_mem m u w.tag).fnext (home t') ≡ safe_at (linked_story st s w) s' i' t'
@@ -125,13 +122,13 @@ module _ (m : Mem) (st : Story) (s u i k : ℕ) (w : Version) (c : Core m st) (l
       record {
         placed = placed_before s' i' t' x;
         now = rw h (upd_same m.next (home u) (word (age u) (Some w.tag)) ∙ cc (b, l.tail, at.0, at.1, k0, k2));
-        safe = safe_before s' i' t' x
+        safe = safe_before s' i' t' x;
       }
   stands_before s' i' t' b n g (no h) = let x = c.standing s' i' t' b g in
       record {
         placed = placed_before s' i' t' x;
         now = upd_else m.next (home u) (home t') (word (age u) (Some w.tag)) h ∙ x.now ∙ ap (word (age t')) (sym (tag_else st s w s' (suc i') (λ p q. absurd (let lu = u_last in let ii : i' ≡ i = omega arith in h (cc (b, l.tail, p, ii))))));
-        safe = safe_before s' i' t' x
+        safe = safe_before s' i' t' x;
       }
 
   stands_new : Standing (linked_mem m u w.tag) (linked_story st s w) s (length (st.log s)) w.tag
@@ -139,7 +136,7 @@ module _ (m : Mem) (st : Story) (s u i k : ℕ) (w : Version) (c : Core m st) (l
       record {
         placed = upd_same st.place (home w.tag) (Chained s);
         now = upd_else m.next (home u) (home w.tag) (word (age u) (Some w.tag)) apart ∙ word_of (m.next (home w.tag)) (age w.tag) l.aged o.0 ∙ ap (word (age w.tag)) (sym (tag_beyond st s w));
-        safe = o.1 ∙ word_of (m.next (home w.tag)) (age w.tag) l.aged o.0 ∙ ap (word (age w.tag)) (sym (ap (only (ltb (suc (length (st.log s))) (st.sure s))) (tag_beyond st s w) ∙ only_none (ltb (suc (length (st.log s))) (st.sure s))))
+        safe = o.1 ∙ word_of (m.next (home w.tag)) (age w.tag) l.aged o.0 ∙ ap (word (age w.tag)) (sym (ap (only (ltb (suc (length (st.log s))) (st.sure s))) (tag_beyond st s w) ∙ only_none (ltb (suc (length (st.log s))) (st.sure s))));
       }
 
   standing' : (s' i' t' : ℕ) → tag_at (linked_story st s w) s' i' ≡ Some t' → st.gone s' ≤ i' → Standing (linked_mem m u w.tag) (linked_story st s w) s' i' t'
@@ -179,22 +176,21 @@ module _ (m : Mem) (st : Story) (s u i k : ℕ) (w : Version) (c : Core m st) (l
   held' : (b : ℕ) → (linked_story st s w).place b ≡ Taken → link ((linked_mem m u w.tag).next b) ≡ None
   held' b f = dite (ℕ_discrete b (home w.tag)) (λ d. absurd (cc (ap (linked_story st s w).place d, upd_same st.place (home w.tag) (Chained s), f)))
       (λ n. let g : st.place b ≡ Taken = sym (upd_else st.place (home w.tag) b (Chained s) n) ∙ f in
-          ap link (upd_else m.next (home u) b (word (age u) (Some w.tag)) (λ d. absurd (cc (ap st.place d, (c.standing s i u l.tail u_stands).placed, g)))) ∙ c.held b g)
+      ap link (upd_else m.next (home u) b (word (age u) (Some w.tag)) (λ d. absurd (cc (ap st.place d, (c.standing s i u l.tail u_stands).placed, g)))) ∙ c.held b g)
 
   pub link_core : Core (linked_mem m u w.tag) (linked_story st s w)
   link_core = record {
-      spotted = spotted';
-      passed = passed';
-      standing = standing';
-      sure_most = λ s'. let x = c.sure_most s' in ⊎_elim (λ h. let y = c.sure_most s in let z = ap st.sure h.0 in omega arith) (λ h. omega arith) (length_linked st s w s');
-      sure_all = λ s'. let x = c.sure_all s' in ⊎_elim (λ h. let y = u_sure in let y2 = u_last in let z = ap st.sure h.0 in omega arith) (λ h. omega arith) (length_linked st s w s');
-      rooted = some_old;
-      bare = λ s' z. ⊎_elim (λ h. absurd (let x = h.1 in omega arith)) (λ h. c.bare s' (sym h.1 ∙ z)) (length_linked st s w s');
-      led = c.led;
-      root = root';
-      froot = froot';
-      loose = loose';
-      held = held';
-      chained = chained'
-    }
-
+    spotted = spotted';
+    passed = passed';
+    standing = standing';
+    sure_most = λ s'. let x = c.sure_most s' in ⊎_elim (λ h. let y = c.sure_most s in let z = ap st.sure h.0 in omega arith) (λ h. omega arith) (length_linked st s w s');
+    sure_all = λ s'. let x = c.sure_all s' in ⊎_elim (λ h. let y = u_sure in let y2 = u_last in let z = ap st.sure h.0 in omega arith) (λ h. omega arith) (length_linked st s w s');
+    rooted = some_old;
+    bare = λ s' z. ⊎_elim (λ h. absurd (let x = h.1 in omega arith)) (λ h. c.bare s' (sym h.1 ∙ z)) (length_linked st s w s');
+    led = c.led;
+    root = root';
+    froot = froot';
+    loose = loose';
+    held = held';
+    chained = chained';
+  }

@@ -1,14 +1,10 @@
 -- Views move to other positions; and a note is split off.
-use Rattle.std.proofs.Common.{◌≡◌, ℕ, zero, suc, ◌+◌, ◌<◌, ◌≤◌, ◌≢◌, ◌⊎◌, List, [], ◌∷◌, ◌++◌, length, length-append, set, append_assoc, append-nil, Bool, true, false, cond, eqb, ltb, leb, refl, sym, ap, ◌∙◌, inl, inr, ⊎_elim, arith, subst, eq-eqb, ne_eqb, eqb-true, true≢false}
-use native.Mathlib.Decide.{ℕ_discrete, dec_le}
-use mathlib.Core.Logic.{dite}
-use Rattle.std.specs.Prelude.{Option, Some, None}
-use Rattle.std.proofs.lemmas.Bool.Decides.{nat_tests}
-use Rattle.clover_map.specs.declared.bytes.Value.{Value}
+use Rattle.std.proofs.Common.{◌≡◌, ℕ, List, [], ◌∷◌, ◌++◌, set, cond, refl, sym, ap, ◌∙◌, inl, inr, ⊎_elim}
+use Rattle.std.specs.Prelude.{Option, Some}
 use Rattle.clover_map.specs.declared.call.Entry.{Entry}
-use Rattle.clover_rule.specs.History.{Map, own, used_by}
+use Rattle.clover_rule.specs.History.{Map, used_by}
 use Rattle.clover_rule.specs.Lists.{nth}
-use Rattle.clover_rule.specs.Server.{Ready, unnamed, AtStage, Help, is_home, book_of, Whole}
+use Rattle.clover_rule.specs.Server.{Ready, AtStage, Help, is_home, book_of, Whole}
 use Rattle.clover_rule.specs.State.{gen, Mem, Place, Chained, Stocked, Free, Worn, Taken, Loose, Story, Core}
 use Rattle.clover_rule.specs.Views.{alone, empty_pass, book, Owned, ViewOk, Basis}
 use Rattle.clover_rule.specs.declared.view.BufferState.TheVariants.{Bound as IsBound, Out as IsOut}
@@ -17,10 +13,7 @@ use Rattle.clover_rule.specs.declared.view.Task.{Task}
 use Rattle.clover_rule.specs.declared.view.Task.TheVariants.{Idle, Storing, Rooted, Waiting, Loaded, Raised, Led, Both, Exchanged}
 use Rattle.clover_rule.specs.declared.view.View.{View}
 use Rattle.clover_words.specs.declared.pool.Pool.{Pool}
-use Rattle.clover_rule.proofs.Tools.{upd_same, upd_else, nth_within, nth_snoc, nth_front, nth_last, nth_past, nth_none}
-use Rattle.clover_rule.proofs.Standings.{tag_there, tag_within, tag_past, same_tag, one_buffer}
-use Rattle.clover_rule.proofs.Steps.{each_map, each_within, prefix_trans, prefix_self, within_prefix, Grows, Leaves, view_kept, nth_set, set_here, set_away, link_kept, durable_kept, past_kept, copied_kept}
-
+use Rattle.clover_rule.proofs.Steps.{each_map}
 use Rattle.clover_rule.proofs.ServerTools.{tale_copy}
 use Rattle.clover_rule.proofs.Hands.{roots_placed, held_placed}
 use Rattle.clover_rule.proofs.Seats.{split_whole}
@@ -68,7 +61,7 @@ back_ready f Worn e = e
 back_ready f Taken e = e
 
 module _ (l : Pool) (m0 : Map) (used : List ℕ) (m : Mem) (vs vs' : List View) (st : Story) (h : List Entry) (w : Whole l m0 used m vs st h) (f : ℕ → ℕ)
-         (there : (i : ℕ) (y : View) → nth vs i ≡ Some y → nth vs' (f i) ≡ Some y) (back : (k : ℕ) (y : View) → nth vs' k ≡ Some y → (i : ℕ) × (nth vs i ≡ Some y) × (f i ≡ k)) where
+    (there : (i : ℕ) (y : View) → nth vs i ≡ Some y → nth vs' (f i) ≡ Some y) (back : (k : ℕ) (y : View) → nth vs' k ≡ Some y → (i : ℕ) × (nth vs i ≡ Some y) × (f i ≡ k)) where
   abbrev pub st' : Story
   st' = record st { place = λ (b : ℕ). moved f (st.place b) }
 
@@ -80,18 +73,37 @@ module _ (l : Pool) (m0 : Map) (used : List ℕ) (m : Mem) (vs vs' : List View) 
 
   view_moved : (i : ℕ) (y : View) → ViewOk m st h i y → ViewOk m st' h (f i) y
   view_moved i y k = record {
-      stocked = each_map (owned i) y.pass.stock k.stocked; apart = k.apart; durable = k.durable; links = k.links; words = k.words;
-      written = each_map (λ c d. (owned i c.tag d.0, d.1)) y.pass.written k.written; flushed = each_map (λ c d. (owned i c.tag d.0, d.1)) y.pass.flushed k.flushed;
-      copied = k.copied; names = k.names; added = k.added; most = k.most; history = k.history; calls = k.calls }
+    stocked = each_map (owned i) y.pass.stock k.stocked;
+    apart = k.apart;
+    durable = k.durable;
+    links = k.links;
+    words = k.words;
+    written = each_map (λ c d. (owned i c.tag d.0, d.1)) y.pass.written k.written;
+    flushed = each_map (λ c d. (owned i c.tag d.0, d.1)) y.pass.flushed k.flushed;
+    copied = k.copied;
+    names = k.names;
+    added = k.added;
+    most = k.most;
+    history = k.history;
+    calls = k.calls;
+  }
 
   core' : Core m st'
   core' = let c = r.core in record {
-      spotted = c.spotted;
-      passed = λ s i t e g. let x = c.passed s i t e g in record { later = x.later; safe = x.safe };
-      standing = λ s i t e g. let x = c.standing s i t e g in record { placed = ap (moved f) x.placed; now = x.now; safe = x.safe };
-      sure_most = c.sure_most; sure_all = c.sure_all; rooted = c.rooted; bare = c.bare; led = c.led; root = c.root;
-      froot = λ s. ⊎_elim inl (λ a. inr record { empty = a.empty; unnamed = a.unnamed; alone = a.alone; dead = a.dead }) (c.froot s);
-      loose = λ b a. c.loose b (back_loose f (st.place b) a); held = λ b a. c.held b (back_held f (st.place b) a); chained = λ b s a. c.chained b s (back_chained f (st.place b) s a) }
+    spotted = c.spotted;
+    passed = λ s i t e g. let x = c.passed s i t e g in record { later = x.later; safe = x.safe };
+    standing = λ s i t e g. let x = c.standing s i t e g in record { placed = ap (moved f) x.placed; now = x.now; safe = x.safe };
+    sure_most = c.sure_most;
+    sure_all = c.sure_all;
+    rooted = c.rooted;
+    bare = c.bare;
+    led = c.led;
+    root = c.root;
+    froot = λ s. ⊎_elim inl (λ a. inr record { empty = a.empty; unnamed = a.unnamed; alone = a.alone; dead = a.dead }) (c.froot s);
+    loose = λ b a. c.loose b (back_loose f (st.place b) a);
+    held = λ b a. c.held b (back_held f (st.place b) a);
+    chained = λ b s a. c.chained b s (back_chained f (st.place b) s a);
+  }
 
   here : (T : Task) → AtStage l m st T → AtStage l m st' T
   here Idle a = tt
@@ -106,11 +118,12 @@ module _ (l : Pool) (m0 : Map) (used : List ℕ) (m : Mem) (vs vs' : List View) 
 
   help' : Help l m st'
   help' = let p = w.help in record {
-      ranged = let a = p.ranged in record { tags = a.tags; own = a.own; below = a.below; fits = a.fits; ready = λ b e. a.ready b (back_ready f (st.place b) e); worn = λ b i e. a.worn b i (back_worn f (st.place b) e) };
-      keyed = let a = p.keyed in record { valid = a.valid; current = a.current; flushed = a.flushed; bare = a.bare; nameless = a.nameless; filled = a.filled; slots = a.slots };
-      naming = let a = p.naming in record { counted = a.counted; found = a.found; listed = a.listed; waiting = a.waiting };
-      stage = record { settled = p.stage.settled; holds = λ b e. p.stage.holds b (back_held f (st.place b) e); names = p.stage.names; here = here st.task p.stage.here };
-      short = p.short }
+    ranged = let a = p.ranged in record { tags = a.tags; own = a.own; below = a.below; fits = a.fits; ready = λ b e. a.ready b (back_ready f (st.place b) e); worn = λ b i e. a.worn b i (back_worn f (st.place b) e) };
+    keyed = let a = p.keyed in record { valid = a.valid; current = a.current; flushed = a.flushed; bare = a.bare; nameless = a.nameless; filled = a.filled; slots = a.slots };
+    naming = let a = p.naming in record { counted = a.counted; found = a.found; listed = a.listed; waiting = a.waiting };
+    stage = record { settled = p.stage.settled; holds = λ b e. p.stage.holds b (back_held f (st.place b) e); names = p.stage.names; here = here st.task p.stage.here };
+    short = p.short;
+  }
 
   book_moved : (q : Place) (g b : ℕ) → book_of st.task st q g b ≡ book_of st.task st' (moved f q) g b
   book_moved (Chained s) g b = ap (λ (o : Option ℕ). book g (cond (is_home o b) IsBound IsOut)) (sym (roots_placed st st'.place st.task s))
@@ -121,18 +134,24 @@ module _ (l : Pool) (m0 : Map) (used : List ℕ) (m : Mem) (vs vs' : List View) 
 
   pub moved_whole : Whole l m0 used m vs' st' h
   moved_whole = record {
-      basis = record { core = core'; tale = tale_copy st m0 used h r.tale st'.place st.gone st.lead st.flead st.named st.bindings st.task st.slot_named;
-        bodies = r.bodies; spent = each_map (λ y q. ⊎_elim inl (λ a. inr (a.0, ap (moved f) a.1, a.2)) q) (used_by used h) r.spent; bound = r.bound; keyed = r.keyed;
-        views = λ k y e. let a = back k y e in rw (← a.2) (view_moved a.0 y (r.views a.0 y a.1));
-        numbered = λ i j n y z e g a b. let c = back i y e in let d = back j z g in sym c.2 ∙ ap f (r.numbered c.0 d.0 n y z c.1 d.1 a b) ∙ d.2;
-        longest = let o = r.longest in (f o.0, o.1, there o.0 o.1 o.2, o.3) };
-      help = help';
-      serves = λ k y e q. let a = back k y e in let s = w.serves a.0 y a.1 q in record { task_is = s.task_is; directory = s.directory; roots = λ s1. s.roots s1 ∙ sym (roots_placed st st'.place st.task s1); books = λ b i. s.books b i ∙ book_moved (st.place b) (gen (m.next b)) b };
-      one = λ i j y z e g a b. let c = back i y e in let d = back j z g in sym c.2 ∙ ap f (w.one c.0 d.0 y z c.1 d.1 a b) ∙ d.2;
-      safe = w.safe;
-      made = λ i j n y z e g a b. w.made (back i y e).0 (back j z g).0 n y z (back i y e).1 (back j z g).1 a b;
-      entered = λ k y e q. w.entered (back k y e).0 y (back k y e).1 q
-    }
+    basis = record {
+      core = core';
+      tale = tale_copy st m0 used h r.tale st'.place st.gone st.lead st.flead st.named st.bindings st.task st.slot_named;
+      bodies = r.bodies;
+      spent = each_map (λ y q. ⊎_elim inl (λ a. inr (a.0, ap (moved f) a.1, a.2)) q) (used_by used h) r.spent;
+      bound = r.bound;
+      keyed = r.keyed;
+      views = λ k y e. let a = back k y e in rw (← a.2) (view_moved a.0 y (r.views a.0 y a.1));
+      numbered = λ i j n y z e g a b. let c = back i y e in let d = back j z g in sym c.2 ∙ ap f (r.numbered c.0 d.0 n y z c.1 d.1 a b) ∙ d.2;
+      longest = let o = r.longest in (f o.0, o.1, there o.0 o.1 o.2, o.3);
+    };
+    help = help';
+    serves = λ k y e q. let a = back k y e in let s = w.serves a.0 y a.1 q in record { task_is = s.task_is; directory = s.directory; roots = λ s1. s.roots s1 ∙ sym (roots_placed st st'.place st.task s1); books = λ b i. s.books b i ∙ book_moved (st.place b) (gen (m.next b)) b };
+    one = λ i j y z e g a b. let c = back i y e in let d = back j z g in sym c.2 ∙ ap f (w.one c.0 d.0 y z c.1 d.1 a b) ∙ d.2;
+    safe = w.safe;
+    made = λ i j n y z e g a b. w.made (back i y e).0 (back j z g).0 n y z (back i y e).1 (back j z g).1 a b;
+    entered = λ k y e q. w.entered (back k y e).0 y (back k y e).1 q;
+  }
 
 -- a note is split off a pass
 module _ (l : Pool) (m0 : Map) (used : List ℕ) (m : Mem) (vs : List View) (st : Story) (h : List Entry) (w : Whole l m0 used m vs st h) (id : ℕ) (v : View) (at : nth vs id ≡ Some v) (n : ℕ) (role : v.pass.role ≡ Client n) where

@@ -1,28 +1,21 @@
 -- A note is joined to the server's view, which then has the longer of the two histories.
-use Rattle.std.proofs.Common.{◌≡◌, ℕ, zero, suc, ◌+◌, ◌<◌, ◌≤◌, ◌≢◌, ◌⊎◌, List, [], ◌∷◌, ◌++◌, length, length-append, set, append_assoc, append-nil, Bool, true, false, cond, eqb, ltb, leb, refl, sym, ap, ◌∙◌, inl, inr, ⊎_elim, arith, subst, eq-eqb, ne_eqb, eqb-true, true≢false}
-use native.Mathlib.Decide.{ℕ_discrete, dec_le}
-use mathlib.Core.Logic.{dite}
-use Rattle.std.specs.Prelude.{Option, Some, None}
+use Rattle.std.proofs.Common.{◌≡◌, ℕ, ◌≤◌, ◌≢◌, ◌⊎◌, List, [], length, length-append, set, Bool, true, false, cond, leb, refl, sym, ap, ◌∙◌, inl, inr, ⊎_elim, arith, subst}
+use native.Mathlib.Decide.{ℕ_discrete}
+use Rattle.std.specs.Prelude.{Some}
 use Rattle.std.proofs.lemmas.Bool.Decides.{nat_tests}
-use Rattle.clover_map.specs.declared.bytes.Value.{Value}
 use Rattle.clover_map.specs.declared.call.Entry.{Entry}
 use Rattle.clover_rule.specs.History.{Map}
 use Rattle.clover_rule.specs.Lists.{Each, nth, Within, IsPrefix}
 use Rattle.clover_rule.specs.Server.{Serves, Whole}
-use Rattle.clover_rule.specs.State.{Mem, Stocked, Story, Core}
+use Rattle.clover_rule.specs.State.{Mem, Stocked, Story}
 use Rattle.clover_rule.specs.Views.{alone, empty_pass, OwnCalls, ViewOk}
 use Rattle.clover_rule.specs.declared.view.Role.{Role}
 use Rattle.clover_rule.specs.declared.view.Role.TheVariants.{Serving, Noting, Joined}
 use Rattle.clover_rule.specs.declared.view.Server.{Server}
 use Rattle.clover_rule.specs.declared.view.View.{View}
 use Rattle.clover_words.specs.declared.pool.Pool.{Pool}
-use Rattle.clover_rule.proofs.Tools.{upd_same, upd_else, nth_within, nth_snoc, nth_front, nth_last, nth_past, nth_none}
-use Rattle.clover_rule.proofs.Standings.{tag_there, tag_within, tag_past, same_tag, one_buffer}
-use Rattle.clover_rule.proofs.Steps.{each_map, each_within, prefix_trans, prefix_self, within_prefix, Grows, Leaves, view_kept, nth_set, set_here, set_away, link_kept, durable_kept, past_kept, copied_kept}
-
-use Rattle.clover_rule.proofs.ServerTools.{book_same, free_place}
-use Rattle.clover_rule.proofs.Hands.{set_length, each_both, st', hand_whole, hand_view, hand_case, hand_else, hand_owned, roots_placed, held_placed}
-
+use Rattle.clover_rule.proofs.Steps.{nth_set, set_here, set_away}
+use Rattle.clover_rule.proofs.Hands.{hand_whole}
 use Rattle.clover_rule.proofs.AbsentLaw.{whole_prefix}
 
 abbrev pub longer : List Entry → List Entry → List Entry
@@ -53,7 +46,7 @@ long_right a b h p q e = go (leb (length a) (length b)) refl
 
 -- the join of a note
 module _ (l : Pool) (m0 : Map) (used : List ℕ) (m : Mem) (vs : List View) (st : Story) (h : List Entry) (w : Whole l m0 used m vs st h) (id j : ℕ) (apart_seats : j ≢ id) (v y : View) (at : nth vs id ≡ Some v) (there_at : nth vs j ≡ Some y)
-         (role : v.pass.role ≡ Serving) (noting : y.pass.role ≡ Noting) (no_stock : y.pass.stock ≡ []) where
+    (role : v.pass.role ≡ Serving) (noting : y.pass.role ≡ Noting) (no_stock : y.pass.stock ≡ []) where
   abbrev pub joining : View
   joining = record v { pass = record v.pass { history = longer v.pass.history y.pass.history } }
 
@@ -76,8 +69,21 @@ module _ (l : Pool) (m0 : Map) (used : List ℕ) (m : Mem) (vs : List View) (st 
   long_ok = elim (leb (length v.pass.history) (length y.pass.history)) as (λ (b : Bool). IsPrefix (cond b y.pass.history v.pass.history) h) [ true ↦ oky.history | false ↦ okv.history ]
 
   ok_join : ViewOk m st1 h id joining
-  ok_join = let a = okv in record { stocked = a.stocked; apart = a.apart; durable = a.durable; links = a.links; words = a.words; written = a.written; flushed = a.flushed; copied = a.copied; names = a.names; added = a.added; most = a.most; history = long_ok;
-      calls = subst (λ (o : Role). OwnCalls o v.pass.calls h) (sym role) tt }
+  ok_join = let a = okv in record {
+    stocked = a.stocked;
+    apart = a.apart;
+    durable = a.durable;
+    links = a.links;
+    words = a.words;
+    written = a.written;
+    flushed = a.flushed;
+    copied = a.copied;
+    names = a.names;
+    added = a.added;
+    most = a.most;
+    history = long_ok;
+    calls = subst (λ (o : Role). OwnCalls o v.pass.calls h) (sym role) tt;
+  }
 
   cases : (i : ℕ) (a : View) → nth joined_list i ≡ Some a → ((i ≡ j) × (spent_view ≡ a)) ⊎ (((i ≡ id) × (joining ≡ a)) ⊎ ((i ≢ id) × (i ≢ j) × (nth vs i ≡ Some a)))
   cases i a e = ⊎_elim inl (λ d. inr (⊎_elim inl (λ f. inr (f.0, d.0, f.1)) (nth_set vs id i joining a d.1))) (nth_set (set vs id joining) j i spent_view a e)
@@ -88,7 +94,7 @@ module _ (l : Pool) (m0 : Map) (used : List ℕ) (m : Mem) (vs : List View) (st 
   pub join_note : Whole l m0 used m joined_list st1 h
   join_note = let p = w.basis in hand_whole l m0 used m vs st h w [] (Stocked j) id tt tt joined_list
       (λ i a e. ⊎_elim (λ b. rw (← b.1) (record { stocked = tt; apart = tt; durable = tt; links = tt; words = tt; written = tt; flushed = tt; copied = tt; names = (st.bindings, refl); added = inl refl; most = omega arith; history = (h, refl); calls = tt }))
-          (λ b. ⊎_elim (λ c. rw (c.0, ← c.1) ok_join) (λ c. p.views i a c.2) b) (cases i a e))
+      (λ b. ⊎_elim (λ c. rw (c.0, ← c.1) ok_join) (λ c. p.views i a c.2) b) (cases i a e))
       (λ i k c a b e f s t. let x = old i a e (λ z. absurd (cc (z, s))) in let z = old k b f (λ z. absurd (cc (z, t))) in p.numbered i k c x.0 z.0 x.1 z.1 (x.2 ∙ s) (z.2 ∙ t))
       (let o = p.longest in longest_of o.0 o.1 o.2 o.3 (ℕ_discrete o.0 id) (ℕ_discrete o.0 j))
       (λ i a e s. let x = old i a e (λ z. absurd (cc (z, s))) in subst (Serves l m st1 st.task) x.3 (w.serves i x.0 x.1 (x.2 ∙ s)))
@@ -98,6 +104,7 @@ module _ (l : Pool) (m0 : Map) (used : List ℕ) (m : Mem) (vs : List View) (st 
     where
       here : nth joined_list id ≡ Some joining
       here = set_away (set vs id joining) j id spent_view (λ z. apart_seats (sym z)) ∙ set_here vs id joining v at
+
       longest_of : (k : ℕ) (a : View) → nth vs k ≡ Some a → a.pass.history ≡ h → Dec (k ≡ id) → Dec (k ≡ j) → (i : ℕ) × (b : View) × (nth joined_list i ≡ Some b) × (b.pass.history ≡ h)
       longest_of k a q e (yes d) f = (id, joining, here, let z : v ≡ a = let zz : Some v ≡ Some a = sym at ∙ ap (nth vs) (sym d) ∙ q in cc in long_left v.pass.history y.pass.history h okv.history oky.history (ap (λ (x : View). x.pass.history) z ∙ e))
       longest_of k a q e (no d) (yes f) = (id, joining, here, let z : y ≡ a = let zz : Some y ≡ Some a = sym there_at ∙ ap (nth vs) (sym f) ∙ q in cc in long_right v.pass.history y.pass.history h okv.history oky.history (ap (λ (x : View). x.pass.history) z ∙ e))

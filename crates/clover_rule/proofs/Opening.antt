@@ -1,14 +1,11 @@
 -- After a restart the rule holds of the new run.
-use Rattle.std.proofs.Common.{◌≡◌, ℕ, zero, suc, ◌+◌, ◌<◌, ◌≤◌, ◌≢◌, ◌⊎◌, List, [], ◌∷◌, ◌++◌, length, length-append, set, append_assoc, append-nil, Bool, true, false, cond, eqb, ltb, leb, refl, sym, ap, ◌∙◌, inl, inr, ⊎_elim, arith, subst, eq-eqb, ne_eqb, eqb-true, true≢false}
-use native.Mathlib.Decide.{ℕ_discrete, dec_le}
-use mathlib.Core.Logic.{dite}
+use Rattle.std.proofs.Common.{◌≡◌, ℕ, zero, suc, ◌<◌, ◌≤◌, ◌≢◌, ◌⊎◌, List, [], ◌∷◌, length, append-nil, Bool, true, false, ltb, refl, sym, ap, ◌∙◌, inl, inr, ⊎_elim, arith, subst, true≢false}
 use Rattle.std.specs.Prelude.{Option, Some, None}
 use Rattle.std.proofs.lemmas.Bool.Decides.{nat_tests}
 use Rattle.clover_map.specs.declared.bytes.Value.{Value}
-use Rattle.clover_map.specs.declared.call.Entry.{Entry}
 use Rattle.clover_map.specs.Tagged.{Tagged}
 use Rattle.clover_rule.specs.Content.{content, InRange, Spells, inside, Fits}
-use Rattle.clover_rule.specs.History.{Version, Map, own}
+use Rattle.clover_rule.specs.History.{Version, Map}
 use Rattle.clover_rule.specs.Image.{Image, Chain}
 use Rattle.clover_rule.specs.Lists.{nth}
 use Rattle.clover_rule.specs.Server.{Ready, Help, Serves, Whole, Sound, Opens, versions_of}
@@ -20,10 +17,9 @@ use Rattle.clover_rule.specs.declared.view.Server.{Server}
 use Rattle.clover_rule.specs.declared.view.Task.TheVariants.{Idle}
 use Rattle.clover_rule.specs.declared.view.View.{View}
 use Rattle.clover_words.specs.declared.pool.Pool.{Pool}
-use Rattle.clover_rule.proofs.Tools.{upd_same, upd_else, nth_within, nth_snoc, nth_front, nth_last, nth_past, nth_none}
-use Rattle.clover_rule.proofs.Standings.{tag_there, tag_within, tag_past, same_tag, one_buffer}
-use Rattle.clover_rule.proofs.Steps.{each_map, each_within, prefix_trans, prefix_self, within_prefix, Grows, Leaves, view_kept, nth_set, set_here, set_away, link_kept, durable_kept, past_kept, copied_kept}
-
+use Rattle.clover_rule.proofs.Tools.{nth_within}
+use Rattle.clover_rule.proofs.Standings.{tag_within}
+use Rattle.clover_rule.proofs.Steps.{each_map}
 use Rattle.std.specs.Prelude.{◌&&◌}
 
 versions_at : (ts : List ℕ) (f : ℕ → Option Value) (i : ℕ) (w : Version) → nth (versions_of ts f) i ≡ Some w → (nth ts i ≡ Some w.tag) × (w.value ≡ f i)
@@ -83,10 +79,21 @@ module _ (l : Pool) (im : Image) (sound : Sound l im) (m0 : Map) (used : List �
 
   abbrev pub opened : Story
   opened = record {
-      log = λ (s : ℕ). versions_of (sound.chain s) (sound.value s); gone = λ (s : ℕ). 0; sure = λ (s : ℕ). length (versions_of (sound.chain s) (sound.value s));
-      slot_of = λ (t : ℕ). slot_in (o.spot (home t)); rank = λ (t : ℕ). rank_in (o.spot (home t)); place = λ (b : ℕ). placed (o.spot b) (ready_test b);
-      lead = λ (s : ℕ). 0; flead = λ (s : ℕ). 0; named = λ (s : ℕ). has (o.keys s); keys = o.keys; first = λ (s : ℕ). versions_of (sound.chain s) (sound.value s); bindings = o.bindings; task = Idle; slot_named = o.slot_named
-    }
+    log = λ (s : ℕ). versions_of (sound.chain s) (sound.value s);
+    gone = λ (s : ℕ). 0;
+    sure = λ (s : ℕ). length (versions_of (sound.chain s) (sound.value s));
+    slot_of = λ (t : ℕ). slot_in (o.spot (home t));
+    rank = λ (t : ℕ). rank_in (o.spot (home t));
+    place = λ (b : ℕ). placed (o.spot b) (ready_test b);
+    lead = λ (s : ℕ). 0;
+    flead = λ (s : ℕ). 0;
+    named = λ (s : ℕ). has (o.keys s);
+    keys = o.keys;
+    first = λ (s : ℕ). versions_of (sound.chain s) (sound.value s);
+    bindings = o.bindings;
+    task = Idle;
+    slot_named = o.slot_named;
+  }
 
   on_chain : (s i t : ℕ) → tag_at opened s i ≡ Some t → nth (sound.chain s) i ≡ Some t
   on_chain s i t e = sym (versions_tag (sound.chain s) (sound.value s) i) ∙ e
@@ -99,7 +106,7 @@ module _ (l : Pool) (im : Image) (sound : Sound l im) (m0 : Map) (used : List �
       record {
         placed = ap (λ (p : Option (ℕ × ℕ)). placed p (ready_test (home t))) (o.on s i t a);
         now = (o.next (home t)).0 ∙ n;
-        safe = (o.next (home t)).1 ∙ n ∙ ap (word (age t)) (keep (tag_at opened s (suc i)) refl)
+        safe = (o.next (home t)).1 ∙ n ∙ ap (word (age t)) (keep (tag_at opened s (suc i)) refl);
       }
     where
       keep : (x : Option ℕ) → tag_at opened s (suc i) ≡ x → tag_at opened s (suc i) ≡ only (ltb (suc i) (opened.sure s)) (tag_at opened s (suc i))
@@ -138,16 +145,20 @@ module _ (l : Pool) (im : Image) (sound : Sound l im) (m0 : Map) (used : List �
 
   pub open_core : Core m opened
   open_core = record {
-      spotted = λ s i t e. let a = o.on s i t (on_chain s i t e) in (ap slot_in a, ap rank_in a);
-      passed = λ s i t e g. absurd (omega arith);
-      standing = λ s i t e g. at_chain s i t e;
-      sure_most = λ s. omega arith; sure_all = λ s. omega arith; rooted = λ s q. q; bare = λ s q. refl; led = λ s. (omega arith, omega arith, omega arith);
-      root = λ s. (o.root s).0 ∙ chain_head im (sound.chain s) (im.root s) (sound.walk s) ∙ sym (versions_tag (sound.chain s) (sound.value s) 0);
-      froot = λ s. inl ((o.root s).1 ∙ chain_head im (sound.chain s) (im.root s) (sound.walk s) ∙ sym (versions_tag (sound.chain s) (sound.value s) 0));
-      loose = λ b f. (ap link (o.next b).0 ∙ o.off b (off_chain b f), (o.next b).1 ∙ sym (o.next b).0);
-      held = λ b f. absurd (never_held b f);
-      chained = λ b s e. chained_at b s e
-    }
+    spotted = λ s i t e. let a = o.on s i t (on_chain s i t e) in (ap slot_in a, ap rank_in a);
+    passed = λ s i t e g. absurd (omega arith);
+    standing = λ s i t e g. at_chain s i t e;
+    sure_most = λ s. omega arith;
+    sure_all = λ s. omega arith;
+    rooted = λ s q. q;
+    bare = λ s q. refl;
+    led = λ s. (omega arith, omega arith, omega arith);
+    root = λ s. (o.root s).0 ∙ chain_head im (sound.chain s) (im.root s) (sound.walk s) ∙ sym (versions_tag (sound.chain s) (sound.value s) 0);
+    froot = λ s. inl ((o.root s).1 ∙ chain_head im (sound.chain s) (im.root s) (sound.walk s) ∙ sym (versions_tag (sound.chain s) (sound.value s) 0));
+    loose = λ b f. (ap link (o.next b).0 ∙ o.off b (off_chain b f), (o.next b).1 ∙ sym (o.next b).0);
+    held = λ b f. absurd (never_held b f);
+    chained = λ b s e. chained_at b s e;
+  }
 
   -- a slot is bound exactly where it has a root
   root_case : (s : ℕ) → ((o.keys s ≡ None) × (im.root s ≡ None)) ⊎ ((k : List ℕ) × (t : ℕ) × (o.keys s ≡ Some k) × (im.root s ≡ Some t) × Spells (im.key s) k)
@@ -169,25 +180,27 @@ module _ (l : Pool) (im : Image) (sound : Sound l im) (m0 : Map) (used : List �
 
   pub open_help : Help l m opened
   open_help = record {
-      ranged = record {
-        tags = λ s i t e. let a = on_chain s i t e in range s i t a;
-        own = λ b. let z = ap gen (o.next b).0 in let z1 = sound.own b in omega arith;
-        below = λ b. let z = ap gen (o.next b).0 in let z1 = ap gen (o.next b).1 in omega arith;
-        ready = λ b f. ready_of b (o.spot b) (ready_test b) refl f;
-        worn = λ b i f. worn_of b i (o.spot b) (ready_test b) refl f;
-        fits = λ s i w e. let a = versions_at (sound.chain s) (sound.value s) i w e in subst (Fits l) (sym a.1) (sound.contents s i w.tag a.0).0 };
-      keyed = record {
-        current = λ s k e j x q. (o.key s j).0 ∙ (bound_root s k e).2 j x q;
-        flushed = λ s k e j x q. (o.key s j).1 ∙ (bound_root s k e).2 j x q;
-        bare = λ s e. ⊎_elim (λ a. none_chain s a.1) (λ a. absurd (cc (a.2, e))) (root_case s);
-        nameless = λ s e. ap has e;
-        valid = o.valid;
-        filled = λ s k e. let a = bound_root s k e in let b : tag_at opened s 0 ≡ Some a.0 = sym (open_core.root s) ∙ (o.root s).0 ∙ a.1 in tag_within opened s 0 a.0 b;
-        slots = λ s k e. let a = bound_root s k e in sound.inside s a.0 a.1 };
-      naming = record { counted = o.count; found = o.found; listed = λ s k e f. o.listed s k e; waiting = λ s k e f. absurd (true≢false (sym (ap has e) ∙ f)) };
-      stage = record { settled = λ s q. (refl, refl); holds = λ b e. absurd (never_held b e); names = λ s k e. inl (ap has e); here = tt };
-      short = λ s t e. absurd (cc (o.short s, e))
-    }
+    ranged = record {
+      tags = λ s i t e. let a = on_chain s i t e in range s i t a;
+      own = λ b. let z = ap gen (o.next b).0 in let z1 = sound.own b in omega arith;
+      below = λ b. let z = ap gen (o.next b).0 in let z1 = ap gen (o.next b).1 in omega arith;
+      ready = λ b f. ready_of b (o.spot b) (ready_test b) refl f;
+      worn = λ b i f. worn_of b i (o.spot b) (ready_test b) refl f;
+      fits = λ s i w e. let a = versions_at (sound.chain s) (sound.value s) i w e in subst (Fits l) (sym a.1) (sound.contents s i w.tag a.0).0;
+    };
+    keyed = record {
+      current = λ s k e j x q. (o.key s j).0 ∙ (bound_root s k e).2 j x q;
+      flushed = λ s k e j x q. (o.key s j).1 ∙ (bound_root s k e).2 j x q;
+      bare = λ s e. ⊎_elim (λ a. none_chain s a.1) (λ a. absurd (cc (a.2, e))) (root_case s);
+      nameless = λ s e. ap has e;
+      valid = o.valid;
+      filled = λ s k e. let a = bound_root s k e in let b : tag_at opened s 0 ≡ Some a.0 = sym (open_core.root s) ∙ (o.root s).0 ∙ a.1 in tag_within opened s 0 a.0 b;
+      slots = λ s k e. let a = bound_root s k e in sound.inside s a.0 a.1;
+    };
+    naming = record { counted = o.count; found = o.found; listed = λ s k e f. o.listed s k e; waiting = λ s k e f. absurd (true≢false (sym (ap has e) ∙ f)) };
+    stage = record { settled = λ s q. (refl, refl); holds = λ b e. absurd (never_held b e); names = λ s k e. inl (ap has e); here = tt };
+    short = λ s t e. absurd (cc (o.short s, e));
+  }
     where
       range : (s i t : ℕ) → nth (sound.chain s) i ≡ Some t → InRange l t
       range s zero t e = sound.root s t (chain_head im (sound.chain s) (im.root s) (sound.walk s) ∙ e)
@@ -197,9 +210,11 @@ module _ (l : Pool) (im : Image) (sound : Sound l im) (m0 : Map) (used : List �
           short_list [] i q = refl
           short_list (u ∷ us) zero q = absurd cc
           short_list (u ∷ us) (suc i) q = short_list us i q
+
           before : (x : Option ℕ) → nth (sound.chain s) i ≡ x → InRange l t
           before None q = absurd (cc (short_list (sound.chain s) i q, e))
           before (Some u) q = let c = chain_link im (sound.chain s) (im.root s) (sound.walk s) i u q in sound.target (home u) t (c.1 ∙ e)
+
       ready_of : (b : ℕ) (x : Option (ℕ × ℕ)) (t : Bool) → ready_test b ≡ t → Ready (placed x t) → (inside l b ≡ true) × (gen (m.next b) < l.wear)
       ready_of b (Some p) t e f = absurd f
       ready_of b None false e f = absurd f
@@ -207,6 +222,7 @@ module _ (l : Pool) (im : Image) (sound : Sound l im) (m0 : Map) (used : List �
         where
           both : (a : Bool) (c d : ℕ) → a && ltb c d ≡ true → (a ≡ true) × (c < d)
           both a c d q = grind (arith, nat_tests)
+
       worn_of : (b : ℕ) → inside l b ≡ true → (x : Option (ℕ × ℕ)) (t : Bool) → ready_test b ≡ t → placed x t ≡ Worn → gen (m.next b) ≡ l.wear
       worn_of b i (Some p) t e f = absurd cc
       worn_of b i None true e f = absurd cc
@@ -217,10 +233,13 @@ module _ (l : Pool) (im : Image) (sound : Sound l im) (m0 : Map) (used : List �
 
   pub open_tale : Tale opened m0 used []
   open_tale = record {
-      legal = tt; told = λ s k e. sym (append-nil (opened.log s)); began = o.map_is; unread = tt;
-      settled = λ s i w e. nth_within (opened.log s) i w e;
-      unbound = λ k f. (o.map_else k f, refl)
-    }
+    legal = tt;
+    told = λ s k e. sym (append-nil (opened.log s));
+    began = o.map_is;
+    unread = tt;
+    settled = λ s i w e. nth_within (opened.log s) i w e;
+    unbound = λ k f. (o.map_else k f, refl);
+  }
 
   abbrev pub fresh_view : Role → Server → View
   fresh_view ro sv = record { pass = start_pass l first used ro; server = sv }
@@ -236,19 +255,21 @@ module _ (l : Pool) (im : Image) (sound : Sound l im) (m0 : Map) (used : List �
 
     pub open_whole : Whole l m0 used m first_views opened []
     open_whole = record {
-        basis = record {
-          core = open_core; tale = open_tale;
-          bodies = λ s i w e g j y q. let a = versions_at (sound.chain s) (sound.value s) i w e in let b = (sound.contents s i w.tag a.0).1 j y (ap (λ (x : Option Value). nth (content x) j) (sym a.1) ∙ q) in ((o.body (home w.tag) j).0 ∙ b, (o.body (home w.tag) j).1 ∙ b);
-          spent = each_map (λ t d. ⊎_elim (λ a. inl (let z = ap gen (o.next (home t)).0 in omega arith)) (λ a. inr (a.0, ap (λ (p : Option (ℕ × ℕ)). placed p (ready_test (home t))) a.2, a.3 ∙ sym (ap gen (o.next (home t)).0))) d.1) used o.used_is;
-          bound = λ s k q. let a = o.bound s k q in (a, ap has a);
-          keyed = λ s1 s2 k e f. sym (o.found s1 k e) ∙ o.found s2 k f;
-          views = λ i y e. rw (← (only_view i y e).1) (record { stocked = tt; apart = tt; durable = tt; links = tt; words = tt; written = tt; flushed = tt; copied = tt; names = (o.bindings, refl); added = inl refl; most = omega arith; history = ([], refl); calls = tt });
-          numbered = λ i j n y z e f s t. (only_view i y e).0 ∙ sym (only_view j z f).0;
-          longest = (0, fresh_view Serving sv, refl, refl) };
-        help = open_help;
-        serves = λ i y e q. rw (← (only_view i y e).1) serves;
-        one = λ i j y z e f s t. (only_view i y e).0 ∙ sym (only_view j z f).0;
-        safe = each_map (λ t d. (d.0, let z = ap gen (o.next (home t)).1 in ⊎_elim (λ a. omega arith) (λ a. let b = a.3 in omega arith) d.1)) used o.used_is;
-        made = λ i j n y z e f s t. absurd (let a : Serving ≡ Client n = ap (λ (q : View). q.pass.role) (only_view j z f).1 ∙ t in cc);
-        entered = λ i y e q. tt
-      }
+      basis = record {
+        core = open_core;
+        tale = open_tale;
+        bodies = λ s i w e g j y q. let a = versions_at (sound.chain s) (sound.value s) i w e in let b = (sound.contents s i w.tag a.0).1 j y (ap (λ (x : Option Value). nth (content x) j) (sym a.1) ∙ q) in ((o.body (home w.tag) j).0 ∙ b, (o.body (home w.tag) j).1 ∙ b);
+        spent = each_map (λ t d. ⊎_elim (λ a. inl (let z = ap gen (o.next (home t)).0 in omega arith)) (λ a. inr (a.0, ap (λ (p : Option (ℕ × ℕ)). placed p (ready_test (home t))) a.2, a.3 ∙ sym (ap gen (o.next (home t)).0))) d.1) used o.used_is;
+        bound = λ s k q. let a = o.bound s k q in (a, ap has a);
+        keyed = λ s1 s2 k e f. sym (o.found s1 k e) ∙ o.found s2 k f;
+        views = λ i y e. rw (← (only_view i y e).1) (record { stocked = tt; apart = tt; durable = tt; links = tt; words = tt; written = tt; flushed = tt; copied = tt; names = (o.bindings, refl); added = inl refl; most = omega arith; history = ([], refl); calls = tt });
+        numbered = λ i j n y z e f s t. (only_view i y e).0 ∙ sym (only_view j z f).0;
+        longest = (0, fresh_view Serving sv, refl, refl);
+      };
+      help = open_help;
+      serves = λ i y e q. rw (← (only_view i y e).1) serves;
+      one = λ i j y z e f s t. (only_view i y e).0 ∙ sym (only_view j z f).0;
+      safe = each_map (λ t d. (d.0, let z = ap gen (o.next (home t)).1 in ⊎_elim (λ a. omega arith) (λ a. let b = a.3 in omega arith) d.1)) used o.used_is;
+      made = λ i j n y z e f s t. absurd (let a : Serving ≡ Client n = ap (λ (q : View). q.pass.role) (only_view j z f).1 ∙ t in cc);
+      entered = λ i y e q. tt;
+    }

@@ -1,31 +1,20 @@
 -- Steps that change no word: a load teaches its own view, and nothing else changes.
-use Rattle.std.proofs.Common.{◌≡◌, ℕ, zero, suc, ◌+◌, ◌<◌, ◌≤◌, ◌≢◌, ◌⊎◌, List, [], ◌∷◌, ◌++◌, length, set, append_assoc, append-nil, Bool, true, false, cond, eqb, ltb, leb, refl, sym, ap, ◌∙◌, inl, inr, ⊎_elim, arith, subst, eq-eqb, ne_eqb, eqb-true, true≢false}
+use Rattle.std.proofs.Common.{◌≡◌, ℕ, ◌≤◌, ◌≢◌, ◌⊎◌, List, refl, sym, ap, ◌∙◌, inl, inr, ⊎_elim, arith}
 use native.Mathlib.Decide.{ℕ_discrete, dec_le}
 use mathlib.Core.Logic.{dite}
-use Rattle.std.specs.Prelude.{Option, Some, None}
-use Rattle.std.proofs.lemmas.Bool.Decides.{nat_tests}
-use Rattle.clover_map.specs.declared.bytes.Value.{Value}
-use Rattle.clover_map.specs.declared.call.Call.{Call}
-use Rattle.clover_map.specs.declared.call.Reply.{Reply}
+use Rattle.std.specs.Prelude.{Some}
 use Rattle.clover_map.specs.declared.call.Entry.{Entry}
-use Rattle.clover_map.specs.declared.call.Call.TheVariants.{Put}
-use Rattle.clover_map.specs.declared.call.Reply.TheVariants.{Stored}
-use Rattle.clover_rule.specs.History.{Version, Map, own}
+use Rattle.clover_rule.specs.History.{Version, Map}
 use Rattle.clover_rule.specs.Lists.{nth}
 use Rattle.clover_rule.specs.State.{home, age, word, gen, Mem, Story, tag_in_version, tag_at, now_at, Core, Durable}
 use Rattle.clover_rule.specs.Views.{Holds, IsLink, IsCopied, ViewOk, Basis, renewed}
 use Rattle.clover_rule.specs.declared.view.View.{View}
-use Rattle.clover_rule.proofs.Tools.{upd_same, upd_else, nth_within, nth_snoc, nth_front, nth_last}
-use Rattle.clover_rule.proofs.Standings.{tag_there, tag_within, tag_past, same_tag}
-use Rattle.clover_rule.proofs.Histories.{legal_snoc, leads_commits, commits_snoc}
-use Rattle.clover_rule.proofs.Linking.{CanLink, link_core, own_new, u_last, u_sure, apart, gens, u_stands, tag_else, tag_new}
-use Rattle.clover_rule.proofs.Snocs.{unread_snoc, used_more, fresh_commit, within_nth, within_commits, within_back, used_snoc, own_snoc}
-use Rattle.clover_rule.proofs.Steps.{each_map, each_within, prefix_trans, prefix_self, within_prefix, Grows, Leaves, view_kept, nth_set, set_here, set_away, link_kept, durable_kept, past_kept, copied_kept}
-
+use Rattle.clover_rule.proofs.Standings.{tag_within}
+use Rattle.clover_rule.proofs.Steps.{nth_set, set_here, set_away}
 
 -- one view is renewed by another of the same role, which knows true facts and has the same history or the longer one
 module _ (m0 : Map) (used : List ℕ) (m : Mem) (vs : List View) (st : Story) (h : List Entry) (r : Basis m0 used m vs st h)
-         (id : ℕ) (v v' : View) (at : nth vs id ≡ Some v) (role : v'.pass.role ≡ v.pass.role) (past : v'.pass.history ≡ v.pass.history) (ok : ViewOk m st h id v') where
+    (id : ℕ) (v v' : View) (at : nth vs id ≡ Some v) (role : v'.pass.role ≡ v.pass.role) (past : v'.pass.history ≡ v.pass.history) (ok : ViewOk m st h id v') where
   views' : (i1 : ℕ) (v1 : View) → nth (renewed vs id v') i1 ≡ Some v1 → ViewOk m st h i1 v1
   views' i1 v1 q = go (nth_set vs id i1 v' v1 q)
     where
@@ -45,16 +34,16 @@ module _ (m0 : Map) (used : List ℕ) (m : Mem) (vs : List View) (st : Story) (h
 
   pub quiet : Basis m0 used m (renewed vs id v') st h
   quiet = record {
-      core = r.core;
-      tale = r.tale;
-      bodies = r.bodies;
-      spent = r.spent;
-      bound = r.bound;
-      keyed = r.keyed;
-      views = views';
-      numbered = λ i1 j1 c a b qa qb ra rb. let x1 = was i1 a qa in let y1 = was j1 b qb in r.numbered i1 j1 c x1.0 y1.0 x1.1 y1.1 (x1.2 ∙ ra) (y1.2 ∙ rb);
-      longest = longest'
-    }
+    core = r.core;
+    tale = r.tale;
+    bodies = r.bodies;
+    spent = r.spent;
+    bound = r.bound;
+    keyed = r.keyed;
+    views = views';
+    numbered = λ i1 j1 c a b qa qb ra rb. let x1 = was i1 a qa in let y1 = was j1 b qb in r.numbered i1 j1 c x1.0 y1.0 x1.1 y1.1 (x1.2 ∙ ra) (y1.2 ∙ rb);
+    longest = longest';
+  }
 
 -- what a load of a durable tag's next word teaches
 module _ (m : Mem) (st : Story) (c : Core m st) (s t : ℕ) (d : Durable st s t) where

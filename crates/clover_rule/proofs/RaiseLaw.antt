@@ -1,33 +1,22 @@
 -- The law of the raise over a link.
-use Rattle.std.proofs.Common.{◌≡◌, ℕ, zero, suc, ◌+◌, ◌<◌, ◌≤◌, ◌≢◌, ◌⊎◌, List, [], ◌∷◌, ◌++◌, length, set, append_assoc, append-nil, Bool, true, false, cond, eqb, ltb, leb, refl, sym, ap, ◌∙◌, inl, inr, ⊎_elim, arith, subst, eq-eqb, ne_eqb, eqb-true, true≢false}
-use native.Mathlib.Decide.{ℕ_discrete, dec_le}
-use mathlib.Core.Logic.{dite}
-use Rattle.std.specs.Prelude.{Option, Some, None}
+use Rattle.std.proofs.Common.{◌≡◌, ℕ, suc, ◌<◌, ◌≤◌, ◌≢◌, ◌⊎◌, List, true, leb, refl, sym, ap, ◌∙◌, inl, inr, ⊎_elim, arith}
+use native.Mathlib.Decide.{ℕ_discrete}
+use Rattle.std.specs.Prelude.{Some}
 use Rattle.std.proofs.lemmas.Bool.Decides.{nat_tests}
-use Rattle.clover_map.specs.declared.bytes.Value.{Value}
-use Rattle.clover_map.specs.declared.call.Call.{Call}
-use Rattle.clover_map.specs.declared.call.Reply.{Reply}
 use Rattle.clover_map.specs.declared.call.Entry.{Entry}
-use Rattle.clover_map.specs.declared.call.Call.TheVariants.{Put}
-use Rattle.clover_map.specs.declared.call.Reply.TheVariants.{Stored}
 use Rattle.clover_rule.specs.History.{Map}
 use Rattle.clover_rule.specs.Lists.{nth, Within}
-use Rattle.clover_rule.specs.State.{link, Mem, Stocked, Story, Core, Tale, unsure, raised_mem, raised_story, greatest}
+use Rattle.clover_rule.specs.State.{Mem, Stocked, Story, Core, Tale, unsure, raised_mem, raised_story, greatest}
 use Rattle.clover_rule.specs.Views.{IsLink, ViewOk, Basis, renewed, raise_view, RaiseLaw}
 use Rattle.clover_rule.specs.declared.view.Link.{Link}
 use Rattle.clover_rule.specs.declared.view.View.{View}
-use Rattle.clover_rule.proofs.Tools.{upd_same, upd_else, nth_within, nth_snoc, nth_front, nth_last}
-use Rattle.clover_rule.proofs.Standings.{tag_there, tag_within, tag_past, same_tag}
-use Rattle.clover_rule.proofs.Histories.{legal_snoc, leads_commits, commits_snoc}
-use Rattle.clover_rule.proofs.Linking.{CanLink, link_core, own_new, u_last, u_sure, apart, gens, u_stands, tag_else, tag_new}
-use Rattle.clover_rule.proofs.Snocs.{unread_snoc, used_more, fresh_commit, within_nth, within_commits, within_back, used_snoc, own_snoc}
-use Rattle.clover_rule.proofs.Steps.{each_map, each_within, prefix_trans, prefix_self, within_prefix, Grows, Leaves, view_kept, nth_set, set_here, set_away, link_kept, durable_kept, past_kept, copied_kept}
-
-use Rattle.clover_rule.proofs.Raising.{CanRaise, raise_core}
+use Rattle.clover_rule.proofs.Tools.{upd_same, upd_else}
+use Rattle.clover_rule.proofs.Steps.{each_within, prefix_self, Grows, Leaves, view_kept, nth_set, set_here, set_away}
+use Rattle.clover_rule.proofs.Raising.{raise_core}
 use Rattle.clover_rule.proofs.Cuts.{unread_less}
 
 module _ (m0 : Map) (used : List ℕ) (m : Mem) (vs : List View) (st : Story) (h : List Entry) (r : Basis m0 used m vs st h)
-         (id : ℕ) (v : View) (at : nth vs id ≡ Some v) (l : Link) (p : Within l v.pass.links) where
+    (id : ℕ) (v : View) (at : nth vs id ≡ Some v) (l : Link) (p : Within l v.pass.links) where
   ok : ViewOk m st h id v
   ok = r.views id v at
 
@@ -54,6 +43,7 @@ module _ (m0 : Map) (used : List ℕ) (m : Mem) (vs : List View) (st : Story) (h
     where
       grown_most : (a b : ℕ) → a ≤ greatest a b
       grown_most a b = grind (arith, nat_tests)
+
       go : Dec (s ≡ l.slot) → st.sure s ≤ st'.sure s
       go (yes d) = rw d (rw (upd_same st.sure l.slot (greatest (st.sure l.slot) (suc (suc i)))) (grown_most (st.sure l.slot) (suc (suc i))))
       go (no n) = let q : st'.sure s ≡ st.sure s = upd_else st.sure l.slot s (greatest (st.sure l.slot) (suc (suc i))) n in omega arith
@@ -72,13 +62,13 @@ module _ (m0 : Map) (used : List ℕ) (m : Mem) (vs : List View) (st : Story) (h
 
   tale' : Tale st' m0 used h
   tale' = record {
-      legal = r.tale.legal;
-      told = r.tale.told;
-      began = r.tale.began;
-      unread = unread_less (unsure st) (unsure st') less_unsure h r.tale.unread;
-      settled = λ s j w e. let a = r.tale.settled s j w e in let b = sure_more s in omega arith;
-      unbound = r.tale.unbound
-    }
+    legal = r.tale.legal;
+    told = r.tale.told;
+    began = r.tale.began;
+    unread = unread_less (unsure st) (unsure st') less_unsure h r.tale.unread;
+    settled = λ s j w e. let a = r.tale.settled s j w e in let b = sure_more s in omega arith;
+    unbound = r.tale.unbound;
+  }
 
   pub grows : Grows m st h m' st' h
   grows = record { versions = λ s1 i1 w1 q. q; sure = sure_more; gone = λ j. omega arith; gens = λ b. omega arith; names = prefix_self st.bindings; count = omega arith; history = prefix_self h }
@@ -88,9 +78,20 @@ module _ (m0 : Map) (used : List ℕ) (m : Mem) (vs : List View) (st : Story) (h
 
   new_ok : ViewOk m' st' h id v'
   new_ok = let a = view_kept m st h m' st' h grows id v (leaves id) (λ c f. refl) ok in record {
-      stocked = a.stocked; apart = a.apart; links = a.links; words = a.words; written = a.written; flushed = a.flushed; copied = a.copied; names = a.names; added = a.added; most = a.most; history = a.history; calls = a.calls;
-      durable = ((suc i, known.2, now_sure), a.durable)
-    }
+    stocked = a.stocked;
+    apart = a.apart;
+    links = a.links;
+    words = a.words;
+    written = a.written;
+    flushed = a.flushed;
+    copied = a.copied;
+    names = a.names;
+    added = a.added;
+    most = a.most;
+    history = a.history;
+    calls = a.calls;
+    durable = ((suc i, known.2, now_sure), a.durable);
+  }
 
   views' : (i1 : ℕ) (v1 : View) → nth (renewed vs id v') i1 ≡ Some v1 → ViewOk m' st' h i1 v1
   views' i1 v1 q = go (nth_set vs id i1 v' v1 q)
@@ -111,17 +112,16 @@ module _ (m0 : Map) (used : List ℕ) (m : Mem) (vs : List View) (st : Story) (h
 
   pub rule' : Basis m0 used m' (renewed vs id v') st' h
   rule' = record {
-      core = core';
-      tale = tale';
-      bodies = r.bodies;
-      spent = r.spent;
-      bound = r.bound;
-      keyed = r.keyed;
-      views = views';
-      numbered = λ i1 j1 c a b qa qb ra rb. let x1 = was i1 a qa in let y1 = was j1 b qb in r.numbered i1 j1 c x1.0 y1.0 x1.1 y1.1 (x1.2 ∙ ra) (y1.2 ∙ rb);
-      longest = longest'
-    }
+    core = core';
+    tale = tale';
+    bodies = r.bodies;
+    spent = r.spent;
+    bound = r.bound;
+    keyed = r.keyed;
+    views = views';
+    numbered = λ i1 j1 c a b qa qb ra rb. let x1 = was i1 a qa in let y1 = was j1 b qb in r.numbered i1 j1 c x1.0 y1.0 x1.1 y1.1 (x1.2 ∙ ra) (y1.2 ∙ rb);
+    longest = longest';
+  }
 
 pub raise_law : RaiseLaw
 raise_law m0 used m vs id v l (st, h, r) at p = (st' m0 used m vs st h r id v at l p, h, rule' m0 used m vs st h r id v at l p)
-

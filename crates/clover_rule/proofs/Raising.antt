@@ -1,14 +1,13 @@
 -- The law of the raise step on the core facts.
-use Rattle.std.proofs.Common.{◌≡◌, ℕ, zero, suc, ◌+◌, ◌<◌, ◌≤◌, ◌≢◌, ◌⊎◌, List, [], ◌∷◌, ◌++◌, length, length-append, Bool, true, false, cond, eqb, ltb, refl, sym, ap, ◌∙◌, inl, inr, ⊎_elim, arith, subst, eq-eqb, ne_eqb, eqb-true, true≢false}
+use Rattle.std.proofs.Common.{◌≡◌, ℕ, suc, ◌<◌, ◌≤◌, ◌≢◌, ◌⊎◌, length, Bool, true, false, ltb, refl, sym, ap, ◌∙◌, inl, inr, ⊎_elim, arith, subst}
 use native.Mathlib.Decide.{ℕ_discrete, dec_le}
 use mathlib.Core.Logic.{dite}
 use Rattle.std.specs.Prelude.{Option, Some, None}
 use Rattle.std.proofs.lemmas.Bool.Decides.{nat_tests}
-use Rattle.clover_map.specs.declared.bytes.Value.{Value}
 use Rattle.clover_rule.specs.Lists.{upd}
 use Rattle.clover_rule.specs.State.{home, age, Next, word, gen, link, Mem, Loose, Story, tag_at, only, safe_at, Standing, Core, Passed, order, greater, greatest, raised_mem, raised_story}
-use Rattle.clover_rule.proofs.Tools.{upd_same, upd_else, nth_snoc, nth_front, nth_last, nth_within, nth_past, nth_none}
-use Rattle.clover_rule.proofs.Standings.{tag_there, tag_within, tag_past, same_tag, only_same, only_none, word_of, one_buffer}
+use Rattle.clover_rule.proofs.Tools.{upd_same, upd_else}
+use Rattle.clover_rule.proofs.Standings.{tag_within, one_buffer}
 use mathlib.Core.Path.{fun_ext}
 
 -- a function set to what it has
@@ -86,6 +85,7 @@ module _ (m : Mem) (st : Story) (s i u t : ℕ) (c : Core m st) (l : CanRaise m 
       where
         x : Passed m st s' i' t'
         x = c.passed s' i' t' e h
+
         go : Dec (home t' ≡ home u) → Passed (raised_mem m u t) (raised_story st s i) s' i' t'
         go (no n) = record { later = x.later; safe = ⊎_elim (λ a. inl (rw (else_same (home t') n) a)) (λ a. inr (else_same (home t') n ∙ a)) x.safe }
         go (yes p) = let b : age t' < age u = let y = ap gen (ap m.next p ∙ stands.now) in let z = x.later in omega arith in
@@ -115,20 +115,20 @@ module _ (m : Mem) (st : Story) (s i u t : ℕ) (c : Core m st) (l : CanRaise m 
 
     grows : Core (raised_mem m u t) (raised_story st s i)
     grows = record {
-        spotted = c.spotted;
-        passed = raised_passed;
-        standing = raised_standing;
-        sure_most = λ s'. let x = c.sure_most s' in let y = tag_within st s (suc i) t l.to in ⊎_elim (λ d. let z = ap (λ (j : ℕ). length (st.log j)) d.0 in let q = d.1 in omega arith) (λ d. omega arith) (sure_cases s');
-        sure_all = λ s'. let x = c.sure_all s' in ⊎_elim (λ d. let z = ap st.sure d.0 in let q = d.1 in omega arith) (λ d. omega arith) (sure_cases s');
-        rooted = λ s' h. let x = c.rooted s' h in ⊎_elim (λ d. let z = ap st.sure d.0 in let q = d.1 in omega arith) (λ d. omega arith) (sure_cases s');
-        bare = c.bare;
-        led = c.led;
-        root = c.root;
-        froot = λ s'. ⊎_elim inl (λ h. inr record { empty = h.empty; unnamed = h.unnamed; alone = h.alone; dead = h.dead }) (c.froot s');
-        loose = raised_loose;
-        held = c.held;
-        chained = c.chained
-      }
+      spotted = c.spotted;
+      passed = raised_passed;
+      standing = raised_standing;
+      sure_most = λ s'. let x = c.sure_most s' in let y = tag_within st s (suc i) t l.to in ⊎_elim (λ d. let z = ap (λ (j : ℕ). length (st.log j)) d.0 in let q = d.1 in omega arith) (λ d. omega arith) (sure_cases s');
+      sure_all = λ s'. let x = c.sure_all s' in ⊎_elim (λ d. let z = ap st.sure d.0 in let q = d.1 in omega arith) (λ d. omega arith) (sure_cases s');
+      rooted = λ s' h. let x = c.rooted s' h in ⊎_elim (λ d. let z = ap st.sure d.0 in let q = d.1 in omega arith) (λ d. omega arith) (sure_cases s');
+      bare = c.bare;
+      led = c.led;
+      root = c.root;
+      froot = λ s'. ⊎_elim inl (λ h. inr record { empty = h.empty; unnamed = h.unnamed; alone = h.alone; dead = h.dead }) (c.froot s');
+      loose = raised_loose;
+      held = c.held;
+      chained = c.chained;
+    }
 
   pub raise_core : Core (raised_mem m u t) (raised_story st s i)
   raise_core = go (dec_le (st.gone s) i) (dec_le (suc (suc i)) (st.sure s))
@@ -137,4 +137,3 @@ module _ (m : Mem) (st : Story) (s i u t : ℕ) (c : Core m st) (l : CanRaise m 
       go (no n) d = nothing (⊎_elim (λ h. kept_below h) (λ h. kept_equal (h ∙ ap (word (age u)) l.to)) (c.passed s i u l.from (omega arith)).safe) (let a = lead_sure in let b = c.led s in omega arith)
       go (yes g) (yes d) = nothing (kept_equal ((c.standing s i u l.from g).safe ∙ ap (word (age u)) (only_less (suc i) (st.sure s) (tag_at st s (suc i)) (omega arith) ∙ l.to))) d
       go (yes g) (no d) = grows g (let a = c.sure_all s in let b = tag_within st s (suc i) t l.to in omega arith)
-

@@ -1,13 +1,12 @@
 -- The law of the recycling exchange on the core facts.
-use Rattle.std.proofs.Common.{◌≡◌, ℕ, zero, suc, ◌+◌, ◌<◌, ◌≤◌, ◌≢◌, ◌⊎◌, List, [], ◌∷◌, ◌++◌, length, length-append, Bool, true, false, cond, eqb, ltb, refl, sym, ap, ◌∙◌, inl, inr, ⊎_elim, arith, subst, eq-eqb, ne_eqb, eqb-true, true≢false}
-use native.Mathlib.Decide.{ℕ_discrete, dec_le}
+use Rattle.std.proofs.Common.{◌≡◌, ℕ, suc, ◌<◌, ◌≤◌, ◌≢◌, ◌⊎◌, true, ltb, refl, sym, ap, ◌∙◌, inl, inr, ⊎_elim, arith, subst}
+use native.Mathlib.Decide.{ℕ_discrete}
 use mathlib.Core.Logic.{dite}
-use Rattle.std.specs.Prelude.{Option, Some, None}
+use Rattle.std.specs.Prelude.{Some, None}
 use Rattle.std.proofs.lemmas.Bool.Decides.{nat_tests}
-use Rattle.clover_map.specs.declared.bytes.Value.{Value}
 use Rattle.clover_rule.specs.State.{home, age, word, gen, link, Mem, Chained, Taken, Loose, Story, tag_at, Standing, Core, Passed, recycled_mem, recycled_story}
-use Rattle.clover_rule.proofs.Tools.{upd_same, upd_else, nth_snoc, nth_front, nth_last, nth_within, nth_past, nth_none}
-use Rattle.clover_rule.proofs.Standings.{tag_there, tag_within, tag_past, same_tag, only_same, only_none, word_of, one_buffer}
+use Rattle.clover_rule.proofs.Tools.{upd_same, upd_else}
+use Rattle.clover_rule.proofs.Standings.{tag_within, one_buffer}
 
 pub record CanRecycle (m : Mem) (st : Story) (s r : ℕ) : Type 0 where
   pub root : tag_at st s (st.gone s) ≡ Some r
@@ -58,10 +57,10 @@ module _ (m : Mem) (st : Story) (s r : ℕ) (c : Core m st) (l : CanRecycle m st
 
   recycled_standing : (s' i' t' : ℕ) → tag_at st s' i' ≡ Some t' → (recycled_story st s r).gone s' ≤ i' → Standing (recycled_mem m r) (recycled_story st s r) s' i' t'
   recycled_standing s' i' t' e g = let x = c.standing s' i' t' e (behind s' i' g) in let n = away s' i' t' e g in record {
-      placed = upd_else st.place (home r) (home t') Taken n ∙ x.placed;
-      now = else_same (home t') n ∙ x.now;
-      safe = x.safe
-    }
+    placed = upd_else st.place (home r) (home t') Taken n ∙ x.placed;
+    now = else_same (home t') n ∙ x.now;
+    safe = x.safe;
+  }
 
   recycled_loose : (b : ℕ) → Loose ((recycled_story st s r).place b) → (link ((recycled_mem m r).next b) ≡ None) × (m.fnext b ≡ (recycled_mem m r).next b)
   recycled_loose b f = go (ℕ_discrete b (home r))
@@ -79,18 +78,17 @@ module _ (m : Mem) (st : Story) (s r : ℕ) (c : Core m st) (l : CanRecycle m st
 
   pub recycle_core : Core (recycled_mem m r) (recycled_story st s r)
   recycle_core = record {
-      spotted = c.spotted;
-      passed = recycled_passed;
-      standing = recycled_standing;
-      sure_most = c.sure_most;
-      sure_all = c.sure_all;
-      rooted = c.rooted;
-      bare = c.bare;
-      led = λ s'. let x = c.led s' in ⊎_elim (λ d. let y = d.1 in let z1 = ap st.flead d.0 in let z2 = ap st.gone d.0 in let z3 = ap st.lead d.0 in let w = l.stored in (omega arith, omega arith, omega arith)) (λ d. let y = d.1 in (omega arith, omega arith, omega arith)) (gone_cases s');
-      root = c.root;
-      froot = λ s'. ⊎_elim inl (λ h. inr record { empty = h.empty; unnamed = h.unnamed; alone = h.alone; dead = h.dead }) (c.froot s');
-      loose = recycled_loose;
-      held = λ b f. dite (ℕ_discrete b (home r)) (λ d. ap link (ap (recycled_mem m r).next d ∙ is)) (λ n. ap link (else_same b n) ∙ c.held b (sym (upd_else st.place (home r) b Taken n) ∙ f));
-      chained = recycled_chained
-    }
-
+    spotted = c.spotted;
+    passed = recycled_passed;
+    standing = recycled_standing;
+    sure_most = c.sure_most;
+    sure_all = c.sure_all;
+    rooted = c.rooted;
+    bare = c.bare;
+    led = λ s'. let x = c.led s' in ⊎_elim (λ d. let y = d.1 in let z1 = ap st.flead d.0 in let z2 = ap st.gone d.0 in let z3 = ap st.lead d.0 in let w = l.stored in (omega arith, omega arith, omega arith)) (λ d. let y = d.1 in (omega arith, omega arith, omega arith)) (gone_cases s');
+    root = c.root;
+    froot = λ s'. ⊎_elim inl (λ h. inr record { empty = h.empty; unnamed = h.unnamed; alone = h.alone; dead = h.dead }) (c.froot s');
+    loose = recycled_loose;
+    held = λ b f. dite (ℕ_discrete b (home r)) (λ d. ap link (ap (recycled_mem m r).next d ∙ is)) (λ n. ap link (else_same b n) ∙ c.held b (sym (upd_else st.place (home r) b Taken n) ∙ f));
+    chained = recycled_chained;
+  }

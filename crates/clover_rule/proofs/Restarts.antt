@@ -1,23 +1,16 @@
 -- Any stop of a restart leaves a sound image with the same map.
-use Rattle.std.proofs.Common.{◌≡◌, ℕ, zero, suc, ◌+◌, ◌<◌, ◌≤◌, ◌≢◌, ◌⊎◌, List, [], ◌∷◌, ◌++◌, length, length-append, set, append_assoc, append-nil, Bool, true, false, cond, eqb, ltb, leb, refl, sym, ap, ◌∙◌, inl, inr, ⊎_elim, arith, subst, eq-eqb, ne_eqb, eqb-true, true≢false}
-use native.Mathlib.Decide.{ℕ_discrete, dec_le}
-use mathlib.Core.Logic.{dite}
+use Rattle.std.proofs.Common.{◌≡◌, ℕ, zero, suc, ◌<◌, ◌≤◌, List, [], ◌∷◌, refl, sym, ap, ◌∙◌, ⊎_elim, arith, subst}
 use Rattle.std.specs.Prelude.{Option, Some, None}
-use Rattle.std.proofs.lemmas.Bool.Decides.{nat_tests}
-use Rattle.clover_map.specs.declared.bytes.Value.{Value}
 use Rattle.clover_map.specs.declared.call.Entry.{Entry}
 use Rattle.clover_rule.specs.Content.{Spells}
-use Rattle.clover_rule.specs.History.{Map, own, used_by, ends}
+use Rattle.clover_rule.specs.History.{Map, used_by, ends}
 use Rattle.clover_rule.specs.Image.{Image, IsImage, Chain}
 use Rattle.clover_rule.specs.Lists.{Each, nth}
 use Rattle.clover_rule.specs.Server.{Whole, Sound, Restarting, versions_of}
-use Rattle.clover_rule.specs.State.{home, age, gen, link, Mem, Story, Core}
+use Rattle.clover_rule.specs.State.{home, age, gen, link, Mem, Story}
 use Rattle.clover_rule.specs.declared.view.View.{View}
 use Rattle.clover_words.specs.declared.pool.Pool.{Pool}
-use Rattle.clover_rule.proofs.Tools.{upd_same, upd_else, nth_within, nth_snoc, nth_front, nth_last, nth_past, nth_none}
-use Rattle.clover_rule.proofs.Standings.{tag_there, tag_within, tag_past, same_tag, one_buffer}
-use Rattle.clover_rule.proofs.Steps.{each_map, each_within, prefix_trans, prefix_self, within_prefix, Grows, Leaves, view_kept, nth_set, set_here, set_away, link_kept, durable_kept, past_kept, copied_kept}
-
+use Rattle.clover_rule.proofs.Steps.{each_map}
 
 chain_moved : (im im2 : Image) (us : List ℕ) (x : Option ℕ) → ((i t : ℕ) → nth us i ≡ Some t → im2.next (home t) ≡ im.next (home t)) → Chain im x us → Chain im2 x us
 chain_moved im im2 [] None f c = tt
@@ -57,18 +50,18 @@ module _ (l : Pool) (im : Image) (sound : Sound l im) (im2 : Image) (r : Restart
 
   pub restart_sound : Sound l im2
   restart_sound = record {
-      own = λ b. ⊎_elim (λ a. let z = ap gen a in let y = sound.own b in omega arith) (λ a. let z = ap gen a.0 in let y = a.1 in omega arith) (r.next b);
-      target = λ b t e. ⊎_elim (λ a. sound.target b t (sym (ap link a) ∙ e)) (λ a. absurd (cc (ap link a.0, e))) (r.next b);
-      root = λ s t e. sound.root s t (rooted s t e);
-      key = λ s t e. let a = sound.key s t (rooted s t e) in (a.0, a.1, spelt s a.0 a.2);
-      same = λ s1 s2 t1 t2 k e1 e2 ik q1 q2. sound.same s1 s2 t1 t2 k (rooted s1 t1 e1) (rooted s2 t2 e2) ik (unspelt s1 k q1) (unspelt s2 k q2);
-      chain = chain2;
-      walk = λ s. walk2 s (im2.root s) refl;
-      once = λ s1 s2 i1 i2 t1 t2 e1 e2 q. sound.once s1 s2 i1 i2 t1 t2 (old_chain s1 i1 t1 (im2.root s1) e1) (old_chain s2 i2 t2 (im2.root s2) e2) q;
-      value = sound.value;
-      contents = λ s i t e. let a = sound.contents s i t (old_chain s i t (im2.root s) e) in (a.0, λ j y q. r.body (home t) j ∙ a.1 j y q);
-      inside = λ s t e. sound.inside s t (rooted s t e)
-    }
+    own = λ b. ⊎_elim (λ a. let z = ap gen a in let y = sound.own b in omega arith) (λ a. let z = ap gen a.0 in let y = a.1 in omega arith) (r.next b);
+    target = λ b t e. ⊎_elim (λ a. sound.target b t (sym (ap link a) ∙ e)) (λ a. absurd (cc (ap link a.0, e))) (r.next b);
+    root = λ s t e. sound.root s t (rooted s t e);
+    key = λ s t e. let a = sound.key s t (rooted s t e) in (a.0, a.1, spelt s a.0 a.2);
+    same = λ s1 s2 t1 t2 k e1 e2 ik q1 q2. sound.same s1 s2 t1 t2 k (rooted s1 t1 e1) (rooted s2 t2 e2) ik (unspelt s1 k q1) (unspelt s2 k q2);
+    chain = chain2;
+    walk = λ s. walk2 s (im2.root s) refl;
+    once = λ s1 s2 i1 i2 t1 t2 e1 e2 q. sound.once s1 s2 i1 i2 t1 t2 (old_chain s1 i1 t1 (im2.root s1) e1) (old_chain s2 i2 t2 (im2.root s2) e2) q;
+    value = sound.value;
+    contents = λ s i t e. let a = sound.contents s i t (old_chain s i t (im2.root s) e) in (a.0, λ j y q. r.body (home t) j ∙ a.1 j y q);
+    inside = λ s t e. sound.inside s t (rooted s t e);
+  }
 
   -- each slot's chain ends in what it ended in
   pub restart_map : (s : ℕ) → ends None (versions_of (chain2 s) (sound.value s)) ≡ ends None (versions_of (sound.chain s) (sound.value s))
@@ -80,6 +73,7 @@ module _ (l : Pool) (im : Image) (sound : Sound l im) (im2 : Image) (r : Restart
           nil : (us : List ℕ) → Chain im None us → ends None (versions_of [] (sound.value s)) ≡ ends None (versions_of us (sound.value s))
           nil [] c = refl
           nil (u ∷ us) c = absurd c
+
       go : (x : Option ℕ) → im2.root s ≡ x → ends None (versions_of (shown_chain x (sound.chain s)) (sound.value s)) ≡ ends None (versions_of (sound.chain s) (sound.value s))
       go (Some t) e = refl
       go None e = ⊎_elim (λ a. bare (subst (λ (x : Option ℕ). Chain im x (sound.chain s)) (sym a ∙ e) (sound.walk s))) (λ a. sym a.1) (r.root s)

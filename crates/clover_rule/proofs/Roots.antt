@@ -1,15 +1,12 @@
 -- The other steps of a recycling, and a grant, on the core facts.
-use Rattle.std.proofs.Common.{◌≡◌, ℕ, zero, suc, ◌+◌, ◌<◌, ◌≤◌, ◌≢◌, ◌⊎◌, List, [], ◌∷◌, ◌++◌, length, length-append, Bool, true, false, cond, eqb, ltb, refl, sym, ap, ◌∙◌, inl, inr, ⊎_elim, arith, subst, eq-eqb, ne_eqb, eqb-true, true≢false}
-use native.Mathlib.Decide.{ℕ_discrete, dec_le}
+use Rattle.std.proofs.Common.{◌≡◌, ℕ, suc, ◌<◌, ◌≢◌, ◌⊎◌, length, sym, ap, ◌∙◌, inl, inr, ⊎_elim, arith, subst}
+use native.Mathlib.Decide.{ℕ_discrete}
 use mathlib.Core.Logic.{dite}
-use Rattle.std.specs.Prelude.{Option, Some, None}
-use Rattle.std.proofs.lemmas.Bool.Decides.{nat_tests}
-use Rattle.clover_map.specs.declared.bytes.Value.{Value}
+use Rattle.std.specs.Prelude.{Some, None}
 use Rattle.clover_rule.specs.Lists.{upd}
 use Rattle.clover_rule.specs.State.{home, age, word, gen, link, Mem, Place, Chained, Taken, Loose, Story, tag_at, Standing, Core}
-use Rattle.clover_rule.proofs.Tools.{upd_same, upd_else, nth_snoc, nth_front, nth_last, nth_within, nth_past, nth_none}
-use Rattle.clover_rule.proofs.Standings.{tag_there, tag_within, tag_past, same_tag, only_same, only_none, word_of, one_buffer}
-
+use Rattle.clover_rule.proofs.Tools.{upd_same, upd_else}
+use Rattle.clover_rule.proofs.Standings.{tag_within}
 
 -- the root is stored: the second version leads
 module _ (m : Mem) (st : Story) (s r t : ℕ) (c : Core m st) (from : tag_at st s (st.gone s) ≡ Some r) (to : tag_at st s (suc (st.gone s)) ≡ Some t) (sure : suc (st.gone s) < st.sure s) where
@@ -24,20 +21,20 @@ module _ (m : Mem) (st : Story) (s r t : ℕ) (c : Core m st) (from : tag_at st 
 
   pub root_core : Core rooted_mem rooted_story
   root_core = record {
-      spotted = c.spotted;
-      passed = λ s' i t e h. let x = c.passed s' i t e h in record { later = x.later; safe = x.safe };
-      standing = λ s' i t e h. let x = c.standing s' i t e h in record { placed = x.placed; now = x.now; safe = x.safe };
-      sure_most = c.sure_most;
-      sure_all = c.sure_all;
-      rooted = λ s' h. ⊎_elim (λ d. let y = d.1 in let z = ap st.sure d.0 in omega arith) (λ d. let y = d.1 in let z = c.rooted s' h in omega arith) (lead_cases s');
-      bare = λ s' h. ⊎_elim (λ d. let z = ap (λ (j : ℕ). length (st.log j)) d.0 in let y = tag_within st s (st.gone s) r from in absurd (omega arith)) (λ d. d.1 ∙ c.bare s' h) (lead_cases s');
-      led = λ s'. let x = c.led s' in ⊎_elim (λ d. let y = d.1 in let z1 = ap st.flead d.0 in let z2 = ap st.gone d.0 in let z = c.led s in (omega arith, omega arith, omega arith)) (λ d. let y = d.1 in (omega arith, omega arith, omega arith)) (lead_cases s');
-      root = λ s'. ⊎_elim (λ d. ap rooted_mem.root d.0 ∙ upd_same m.root s (Some t) ∙ sym to ∙ ap (λ (j : ℕ). tag_at st j (suc (st.gone s))) (sym d.0) ∙ ap (tag_at st s') (sym d.1)) (λ d. upd_else m.root s s' (Some t) d.0 ∙ c.root s' ∙ ap (tag_at st s') (sym d.1)) (lead_cases s');
-      froot = λ s'. ⊎_elim inl (λ h. inr record { empty = h.empty; unnamed = h.unnamed; alone = h.alone; dead = h.dead }) (c.froot s');
-      loose = c.loose;
-      held = c.held;
-      chained = c.chained
-    }
+    spotted = c.spotted;
+    passed = λ s' i t e h. let x = c.passed s' i t e h in record { later = x.later; safe = x.safe };
+    standing = λ s' i t e h. let x = c.standing s' i t e h in record { placed = x.placed; now = x.now; safe = x.safe };
+    sure_most = c.sure_most;
+    sure_all = c.sure_all;
+    rooted = λ s' h. ⊎_elim (λ d. let y = d.1 in let z = ap st.sure d.0 in omega arith) (λ d. let y = d.1 in let z = c.rooted s' h in omega arith) (lead_cases s');
+    bare = λ s' h. ⊎_elim (λ d. let z = ap (λ (j : ℕ). length (st.log j)) d.0 in let y = tag_within st s (st.gone s) r from in absurd (omega arith)) (λ d. d.1 ∙ c.bare s' h) (lead_cases s');
+    led = λ s'. let x = c.led s' in ⊎_elim (λ d. let y = d.1 in let z1 = ap st.flead d.0 in let z2 = ap st.gone d.0 in let z = c.led s in (omega arith, omega arith, omega arith)) (λ d. let y = d.1 in (omega arith, omega arith, omega arith)) (lead_cases s');
+    root = λ s'. ⊎_elim (λ d. ap rooted_mem.root d.0 ∙ upd_same m.root s (Some t) ∙ sym to ∙ ap (λ (j : ℕ). tag_at st j (suc (st.gone s))) (sym d.0) ∙ ap (tag_at st s') (sym d.1)) (λ d. upd_else m.root s s' (Some t) d.0 ∙ c.root s' ∙ ap (tag_at st s') (sym d.1)) (lead_cases s');
+    froot = λ s'. ⊎_elim inl (λ h. inr record { empty = h.empty; unnamed = h.unnamed; alone = h.alone; dead = h.dead }) (c.froot s');
+    loose = c.loose;
+    held = c.held;
+    chained = c.chained;
+  }
 
 -- the flushed copy of the root is stored
 module _ (m : Mem) (st : Story) (s t : ℕ) (c : Core m st) (at : tag_at st s (st.lead s) ≡ Some t) where
@@ -52,21 +49,21 @@ module _ (m : Mem) (st : Story) (s t : ℕ) (c : Core m st) (at : tag_at st s (s
 
   pub flush_core : Core flushed_mem flushed_story
   flush_core = record {
-      spotted = c.spotted;
-      passed = λ s' i t e h. let x = c.passed s' i t e h in record { later = x.later; safe = x.safe };
-      standing = λ s' i t e h. let x = c.standing s' i t e h in record { placed = x.placed; now = x.now; safe = x.safe };
-      sure_most = c.sure_most;
-      sure_all = c.sure_all;
-      rooted = c.rooted;
-      bare = c.bare;
-      led = λ s'. let x = c.led s' in ⊎_elim (λ d. let y = d.1 in let z1 = ap st.lead d.0 in let z2 = ap st.gone d.0 in let z = c.led s in (omega arith, omega arith, omega arith)) (λ d. let y = d.1 in (omega arith, omega arith, omega arith)) (flead_cases s');
-      root = c.root;
-      froot = λ s'. ⊎_elim (λ d. inl (ap flushed_mem.froot d.0 ∙ upd_same m.froot s (Some t) ∙ sym at ∙ ap (λ (j : ℕ). tag_at st j (st.lead s)) (sym d.0) ∙ ap (tag_at st s') (sym d.1)))
-          (λ d. ⊎_elim (λ h. inl (upd_else m.froot s s' (Some t) d.0 ∙ h ∙ ap (tag_at st s') (sym d.1))) (λ h. inr record { empty = upd_else m.froot s s' (Some t) d.0 ∙ h.empty; unnamed = h.unnamed; alone = h.alone; dead = h.dead }) (c.froot s')) (flead_cases s');
-      loose = c.loose;
-      held = c.held;
-      chained = c.chained
-    }
+    spotted = c.spotted;
+    passed = λ s' i t e h. let x = c.passed s' i t e h in record { later = x.later; safe = x.safe };
+    standing = λ s' i t e h. let x = c.standing s' i t e h in record { placed = x.placed; now = x.now; safe = x.safe };
+    sure_most = c.sure_most;
+    sure_all = c.sure_all;
+    rooted = c.rooted;
+    bare = c.bare;
+    led = λ s'. let x = c.led s' in ⊎_elim (λ d. let y = d.1 in let z1 = ap st.lead d.0 in let z2 = ap st.gone d.0 in let z = c.led s in (omega arith, omega arith, omega arith)) (λ d. let y = d.1 in (omega arith, omega arith, omega arith)) (flead_cases s');
+    root = c.root;
+    froot = λ s'. ⊎_elim (λ d. inl (ap flushed_mem.froot d.0 ∙ upd_same m.froot s (Some t) ∙ sym at ∙ ap (λ (j : ℕ). tag_at st j (st.lead s)) (sym d.0) ∙ ap (tag_at st s') (sym d.1)))
+        (λ d. ⊎_elim (λ h. inl (upd_else m.froot s s' (Some t) d.0 ∙ h ∙ ap (tag_at st s') (sym d.1))) (λ h. inr record { empty = upd_else m.froot s s' (Some t) d.0 ∙ h.empty; unnamed = h.unnamed; alone = h.alone; dead = h.dead }) (c.froot s')) (flead_cases s');
+    loose = c.loose;
+    held = c.held;
+    chained = c.chained;
+  }
 
 -- the flushed copy of a held buffer is raised to its new generation, and the buffer is free
 module _ (m : Mem) (st : Story) (b a : ℕ) (q : Place) (c : Core m st) (held : st.place b ≡ Taken) (now : m.next b ≡ word a None) (loose_q : (s : ℕ) → q ≢ Chained s) where
@@ -81,26 +78,29 @@ module _ (m : Mem) (st : Story) (b a : ℕ) (q : Place) (c : Core m st) (held : 
 
   pub freed_core : Core freed_mem freed_story
   freed_core = record {
-      spotted = c.spotted;
-      passed = λ s' i t e h. let x = c.passed s' i t e h in record { later = x.later; safe = dite (ℕ_discrete (home t) b)
+    spotted = c.spotted;
+    passed = λ s' i t e h. let x = c.passed s' i t e h in record {
+      later = x.later;
+      safe = dite (ℕ_discrete (home t) b)
           (λ d. inl (rw d (rw (upd_same m.fnext b (word a None)) (let y = x.later in let z = ap gen (ap m.next d ∙ now) in let w : age t < a = omega arith in w))))
-          (λ n. ⊎_elim (λ y. inl (rw (upd_else m.fnext b (home t) (word a None) n) y)) (λ y. inr (upd_else m.fnext b (home t) (word a None) n ∙ y)) x.safe) };
-      standing = λ s' i t e h. let x = c.standing s' i t e h in let n = away s' i t x in record { placed = upd_else st.place b (home t) q n ∙ x.placed; now = x.now; safe = upd_else m.fnext b (home t) (word a None) n ∙ x.safe };
-      sure_most = c.sure_most;
-      sure_all = c.sure_all;
-      rooted = c.rooted;
-      bare = c.bare;
-      led = c.led;
-      root = c.root;
-      froot = λ s'. ⊎_elim inl (λ h. inr record { empty = h.empty; unnamed = h.unnamed; alone = h.alone; dead = h.dead }) (c.froot s');
-      loose = λ j f. dite (ℕ_discrete j b)
-          (λ d. (ap link (ap m.next d ∙ now), ap freed_mem.fnext d ∙ upd_same m.fnext b (word a None) ∙ sym (ap m.next d ∙ now)))
-          (λ n. let o = c.loose j (subst Loose (upd_else st.place b j q n) f) in (o.0, upd_else m.fnext b j (word a None) n ∙ o.1));
-      held = λ j f. dite (ℕ_discrete j b) (λ d. ap link (ap m.next d ∙ now)) (λ n. c.held j (sym (upd_else st.place b j q n) ∙ f));
-      chained = λ j s' f. dite (ℕ_discrete j b)
-          (λ d. absurd (loose_q s' (sym (upd_same st.place b q) ∙ ap freed_story.place (sym d) ∙ f)))
-          (λ n. c.chained j s' (sym (upd_else st.place b j q n) ∙ f))
-    }
+          (λ n. ⊎_elim (λ y. inl (rw (upd_else m.fnext b (home t) (word a None) n) y)) (λ y. inr (upd_else m.fnext b (home t) (word a None) n ∙ y)) x.safe);
+    };
+    standing = λ s' i t e h. let x = c.standing s' i t e h in let n = away s' i t x in record { placed = upd_else st.place b (home t) q n ∙ x.placed; now = x.now; safe = upd_else m.fnext b (home t) (word a None) n ∙ x.safe };
+    sure_most = c.sure_most;
+    sure_all = c.sure_all;
+    rooted = c.rooted;
+    bare = c.bare;
+    led = c.led;
+    root = c.root;
+    froot = λ s'. ⊎_elim inl (λ h. inr record { empty = h.empty; unnamed = h.unnamed; alone = h.alone; dead = h.dead }) (c.froot s');
+    loose = λ j f. dite (ℕ_discrete j b)
+        (λ d. (ap link (ap m.next d ∙ now), ap freed_mem.fnext d ∙ upd_same m.fnext b (word a None) ∙ sym (ap m.next d ∙ now)))
+        (λ n. let o = c.loose j (subst Loose (upd_else st.place b j q n) f) in (o.0, upd_else m.fnext b j (word a None) n ∙ o.1));
+    held = λ j f. dite (ℕ_discrete j b) (λ d. ap link (ap m.next d ∙ now)) (λ n. c.held j (sym (upd_else st.place b j q n) ∙ f));
+    chained = λ j s' f. dite (ℕ_discrete j b)
+        (λ d. absurd (loose_q s' (sym (upd_same st.place b q) ∙ ap freed_story.place (sym d) ∙ f)))
+        (λ n. c.chained j s' (sym (upd_else st.place b j q n) ∙ f));
+  }
 
 -- a loose buffer changes hands
 module _ (m : Mem) (st : Story) (b : ℕ) (q : Place) (c : Core m st) (was : Loose (st.place b)) (loose_q : (s : ℕ) → q ≢ Chained s) where
@@ -109,20 +109,19 @@ module _ (m : Mem) (st : Story) (b : ℕ) (q : Place) (c : Core m st) (was : Loo
 
   pub handed_core : Core m handed_story
   handed_core = record {
-      spotted = c.spotted;
-      passed = λ s' i t e h. let x = c.passed s' i t e h in record { later = x.later; safe = x.safe };
-      standing = λ s' i t e h. let x = c.standing s' i t e h in record { placed = upd_else st.place b (home t) q (λ z. absurd (subst Loose (sym (ap st.place z) ∙ x.placed) was)) ∙ x.placed; now = x.now; safe = x.safe };
-      sure_most = c.sure_most;
-      sure_all = c.sure_all;
-      rooted = c.rooted;
-      bare = c.bare;
-      led = c.led;
-      root = c.root;
-      froot = λ s'. ⊎_elim inl (λ h. inr record { empty = h.empty; unnamed = h.unnamed; alone = h.alone; dead = h.dead }) (c.froot s');
-      loose = λ j f. dite (ℕ_discrete j b) (λ d. c.loose j (subst (λ (x : ℕ). Loose (st.place x)) (sym d) was)) (λ n. c.loose j (subst Loose (upd_else st.place b j q n) f));
-      held = λ j f. dite (ℕ_discrete j b) (λ d. (c.loose j (subst (λ (x : ℕ). Loose (st.place x)) (sym d) was)).0) (λ n. c.held j (sym (upd_else st.place b j q n) ∙ f));
-      chained = λ j s' f. dite (ℕ_discrete j b)
-          (λ d. absurd (loose_q s' (sym (upd_same st.place b q) ∙ ap handed_story.place (sym d) ∙ f)))
-          (λ n. c.chained j s' (sym (upd_else st.place b j q n) ∙ f))
-    }
-
+    spotted = c.spotted;
+    passed = λ s' i t e h. let x = c.passed s' i t e h in record { later = x.later; safe = x.safe };
+    standing = λ s' i t e h. let x = c.standing s' i t e h in record { placed = upd_else st.place b (home t) q (λ z. absurd (subst Loose (sym (ap st.place z) ∙ x.placed) was)) ∙ x.placed; now = x.now; safe = x.safe };
+    sure_most = c.sure_most;
+    sure_all = c.sure_all;
+    rooted = c.rooted;
+    bare = c.bare;
+    led = c.led;
+    root = c.root;
+    froot = λ s'. ⊎_elim inl (λ h. inr record { empty = h.empty; unnamed = h.unnamed; alone = h.alone; dead = h.dead }) (c.froot s');
+    loose = λ j f. dite (ℕ_discrete j b) (λ d. c.loose j (subst (λ (x : ℕ). Loose (st.place x)) (sym d) was)) (λ n. c.loose j (subst Loose (upd_else st.place b j q n) f));
+    held = λ j f. dite (ℕ_discrete j b) (λ d. (c.loose j (subst (λ (x : ℕ). Loose (st.place x)) (sym d) was)).0) (λ n. c.held j (sym (upd_else st.place b j q n) ∙ f));
+    chained = λ j s' f. dite (ℕ_discrete j b)
+        (λ d. absurd (loose_q s' (sym (upd_same st.place b q) ∙ ap handed_story.place (sym d) ∙ f)))
+        (λ n. c.chained j s' (sym (upd_else st.place b j q n) ∙ f));
+  }

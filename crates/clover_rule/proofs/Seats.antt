@@ -1,16 +1,14 @@
 -- A seat is split in two, and one seat is joined into another.
-use Rattle.std.proofs.Common.{◌≡◌, ℕ, zero, suc, ◌+◌, ◌<◌, ◌≤◌, ◌≢◌, ◌⊎◌, List, [], ◌∷◌, ◌++◌, length, length-append, set, append_assoc, append-nil, Bool, true, false, cond, eqb, ltb, leb, refl, sym, ap, ◌∙◌, inl, inr, ⊎_elim, arith, subst, eq-eqb, ne_eqb, eqb-true, true≢false}
-use native.Mathlib.Decide.{ℕ_discrete, dec_le}
+use Rattle.std.proofs.Common.{◌≡◌, ℕ, ◌≢◌, ◌⊎◌, List, [], ◌∷◌, ◌++◌, length, set, true, refl, sym, ap, ◌∙◌, inl, inr, ⊎_elim, arith, subst}
+use native.Mathlib.Decide.{ℕ_discrete}
 use mathlib.Core.Logic.{dite}
-use Rattle.std.specs.Prelude.{Option, Some, None}
-use Rattle.std.proofs.lemmas.Bool.Decides.{nat_tests}
-use Rattle.clover_map.specs.declared.bytes.Value.{Value}
+use Rattle.std.specs.Prelude.{Option, Some}
 use Rattle.clover_map.specs.declared.call.Entry.{Entry}
 use Rattle.clover_rule.specs.Content.{inside}
 use Rattle.clover_rule.specs.History.{Map}
 use Rattle.clover_rule.specs.Lists.{Each, nth, upd, Within, IsPart}
 use Rattle.clover_rule.specs.Server.{root_in, is_home, book_of, Serves, Whole}
-use Rattle.clover_rule.specs.State.{home, age, gen, Mem, Place, Stocked, Free, Taken, Story, Core}
+use Rattle.clover_rule.specs.State.{home, age, gen, Mem, Place, Stocked, Free, Taken, Story}
 use Rattle.clover_rule.specs.Views.{find_book, line, alone, empty_pass, Book, book, Apart, ViewOk, handed, book_at}
 use Rattle.clover_rule.specs.declared.view.BookLine.{BookLine}
 use Rattle.clover_rule.specs.declared.view.BufferState.TheVariants.{Free as IsFree, Out as IsOut}
@@ -21,19 +19,16 @@ use Rattle.clover_rule.specs.declared.view.Task.{Task}
 use Rattle.clover_rule.specs.declared.view.Task.TheVariants.{Idle, Storing, Rooted, Waiting, Loaded, Raised, Led, Both, Exchanged}
 use Rattle.clover_rule.specs.declared.view.View.{View}
 use Rattle.clover_words.specs.declared.pool.Pool.{Pool}
-use Rattle.clover_rule.proofs.Tools.{upd_same, upd_else, nth_within, nth_snoc, nth_front, nth_last, nth_past, nth_none}
-use Rattle.clover_rule.proofs.Standings.{tag_there, tag_within, tag_past, same_tag, one_buffer}
-use Rattle.clover_rule.proofs.Steps.{each_map, each_within, prefix_trans, prefix_self, within_prefix, Grows, Leaves, view_kept, nth_set, set_here, set_away, link_kept, durable_kept, past_kept, copied_kept}
-
-use Rattle.clover_rule.proofs.GrantLaw.{away, there, all_there, core_handed}
+use Rattle.clover_rule.proofs.Tools.{upd_same, upd_else, nth_within, nth_snoc, nth_front}
+use Rattle.clover_rule.proofs.Steps.{each_map, nth_set, set_here, set_away}
 use Rattle.clover_rule.proofs.ServerTools.{book_same, free_place}
-use Rattle.clover_rule.proofs.Hands.{set_length, each_both, st', hand_whole, hand_view, hand_case, hand_else, hand_owned}
+use Rattle.clover_rule.proofs.Hands.{set_length, hand_whole, hand_view, hand_owned}
 
 module _ (l : Pool) (m0 : Map) (used : List ℕ) (m : Mem) (vs : List View) (st : Story) (h : List Entry) (w : Whole l m0 used m vs st h) (id : ℕ) (v v' x : View) (at : nth vs id ≡ Some v)
-         (batch : List ℕ) (was : Each (λ (t : ℕ). st.place (home t) ≡ Free) batch) (same : v'.pass.role ≡ v.pass.role) (past : v'.pass.history ≡ v.pass.history) (clients : v'.server.clients ≡ v.server.clients) (unserving : x.pass.role ≢ Serving) (noclient : (c : ℕ) → x.pass.role ≢ Client c)
-         (okv : ViewOk m (record st { place = handed st.place batch (Stocked (length vs)) }) h id v') (okx : ViewOk m (record st { place = handed st.place batch (Stocked (length vs)) }) h (length vs) x)
-         (serves : v.pass.role ≡ Serving → Serves l m (record st { place = handed st.place batch (Stocked (length vs)) }) st.task v'.server)
-         (others : (sv : Server) → Serves l m st st.task sv → v.pass.role ≢ Serving → Serves l m (record st { place = handed st.place batch (Stocked (length vs)) }) st.task sv) where
+    (batch : List ℕ) (was : Each (λ (t : ℕ). st.place (home t) ≡ Free) batch) (same : v'.pass.role ≡ v.pass.role) (past : v'.pass.history ≡ v.pass.history) (clients : v'.server.clients ≡ v.server.clients) (unserving : x.pass.role ≢ Serving) (noclient : (c : ℕ) → x.pass.role ≢ Client c)
+    (okv : ViewOk m (record st { place = handed st.place batch (Stocked (length vs)) }) h id v') (okx : ViewOk m (record st { place = handed st.place batch (Stocked (length vs)) }) h (length vs) x)
+    (serves : v.pass.role ≡ Serving → Serves l m (record st { place = handed st.place batch (Stocked (length vs)) }) st.task v'.server)
+    (others : (sv : Server) → Serves l m st st.task sv → v.pass.role ≢ Serving → Serves l m (record st { place = handed st.place batch (Stocked (length vs)) }) st.task sv) where
   abbrev pub split_list : List View
   split_list = set vs id v' ++ x ∷ []
 
@@ -71,6 +66,7 @@ module _ (l : Pool) (m0 : Map) (used : List ℕ) (m : Mem) (vs : List View) (st 
       serve i y z e s (inr d) q = rw (← d.1) (serves (ap (λ (a : View). a.pass.role) (sym d.0) ∙ s))
       serve i y z e s (inl d) (no q) = rw (← d.1) (others z.server (w.serves i z e s) q)
       serve i y z e s (inl d) (yes q) = absurd (d.0 (w.one i id z v e at s q))
+
       longest_of : (j : ℕ) (a : View) → nth vs j ≡ Some a → a.pass.history ≡ h → Dec (j ≡ id) → (i : ℕ) × (y : View) × (nth split_list i ≡ Some y) × (y.pass.history ≡ h)
       longest_of j a q e (yes d) = (id, v', front id v' (set_here vs id v' v at), let z : v ≡ a = let zz : Some v ≡ Some a = sym at ∙ ap (nth vs) (sym d) ∙ q in cc in past ∙ ap (λ (y : View). y.pass.history) z ∙ e)
         where
@@ -80,7 +76,7 @@ module _ (l : Pool) (m0 : Map) (used : List ℕ) (m : Mem) (vs : List View) (st 
 
 -- the server splits off a grant of tags that are free in its view, with the names from a position on
 module _ (l : Pool) (m0 : Map) (used : List ℕ) (m : Mem) (vs : List View) (st : Story) (h : List Entry) (w : Whole l m0 used m vs st h) (id : ℕ) (v : View) (at : nth vs id ≡ Some v) (role : v.pass.role ≡ Serving)
-         (batch : List ℕ) (free : Each (λ (t : ℕ). (inside l (home t) ≡ true) × ((book_at v.server) (home t) ≡ book (age t) IsFree)) batch) (apart : Apart batch) (position : ℕ) (names : List (ℕ × List ℕ)) (part : IsPart position names st.bindings) where
+    (batch : List ℕ) (free : Each (λ (t : ℕ). (inside l (home t) ≡ true) × ((book_at v.server) (home t) ≡ book (age t) IsFree)) batch) (apart : Apart batch) (position : ℕ) (names : List (ℕ × List ℕ)) (part : IsPart position names st.bindings) where
   abbrev k : ℕ
   k = length vs
 
@@ -137,6 +133,7 @@ module _ (l : Pool) (m0 : Map) (used : List ℕ) (m : Mem) (vs : List View) (st 
           roots_same (Led s2 k2 t2) s1 = refl
           roots_same (Both s2 k2 t2) s1 = refl
           roots_same (Exchanged s2 r2 t2) s1 = refl
+
           held_same : (T : Task) (y b : ℕ) → book_of T st1 Taken y b ≡ book_of T st Taken y b
           held_same Idle y b = refl
           held_same (Storing s2 k2 t2 n2) y b = refl
@@ -149,7 +146,7 @@ module _ (l : Pool) (m0 : Map) (used : List ℕ) (m : Mem) (vs : List View) (st 
           held_same (Exchanged s2 r2 t2) y b = refl
       go (t ∷ ts) a f g e = go ts a.1 (upd f (home t) (book (age t) IsOut)) (upd g (home t) (Stocked k))
           (dite (ℕ_discrete b (home t)) (λ d. ap (upd f (home t) (book (age t) IsOut)) d ∙ upd_same f (home t) (book (age t) IsOut) ∙ ap (λ (x : ℕ). book x IsOut) (sym (ap (λ (x : ℕ). gen (m.next x)) d ∙ a.0)) ∙ sym (ap (λ (q : Place). book_of st.task st q (gen (m.next b)) b) (ap (upd g (home t) (Stocked k)) d ∙ upd_same g (home t) (Stocked k))))
-            (λ d. upd_else f (home t) b (book (age t) IsOut) d ∙ e ∙ sym (ap (λ (q : Place). book_of st.task st q (gen (m.next b)) b) (upd_else g (home t) b (Stocked k) d))))
+          (λ d. upd_else f (home t) b (book (age t) IsOut) d ∙ e ∙ sym (ap (λ (q : Place). book_of st.task st q (gen (m.next b)) b) (upd_else g (home t) b (Stocked k) d))))
 
   root_kept : (T : Task) (s1 : ℕ) → root_in T st s1 ≡ root_in T st1 s1
   root_kept Idle s1 = refl
@@ -168,4 +165,3 @@ module _ (l : Pool) (m0 : Map) (used : List ℕ) (m : Mem) (vs : List View) (st 
       (record { stocked = hand_owned l m0 used m vs st h w batch Free k tt was batch was ages; apart = apart; durable = tt; links = tt; words = tt; written = tt; flushed = tt; copied = tt; names = (st.bindings, refl); added = inr part; most = omega arith; history = (h, refl); calls = tt })
       (λ e. record { task_is = sv.task_is; directory = sv.directory; roots = λ s1. sv.roots s1 ∙ root_kept st.task s1; books = books_then })
       (λ s e n. absurd (n role))
-

@@ -1,16 +1,14 @@
 -- The laws of the stores of a binding before its root.
-use Rattle.std.proofs.Common.{◌≡◌, ℕ, zero, suc, ◌+◌, ◌<◌, ◌≤◌, ◌≢◌, ◌⊎◌, List, [], ◌∷◌, ◌++◌, length, length-append, set, append_assoc, append-nil, Bool, true, false, cond, eqb, ltb, leb, refl, sym, ap, ◌∙◌, inl, inr, ⊎_elim, arith, subst, eq-eqb, ne_eqb, eqb-true, true≢false}
-use native.Mathlib.Decide.{ℕ_discrete, dec_le}
+use Rattle.std.proofs.Common.{◌≡◌, ℕ, ◌+◌, ◌≤◌, ◌≢◌, List, ◌∷◌, length, append-nil, false, refl, sym, ap, ◌∙◌, ⊎_elim, arith, subst}
+use native.Mathlib.Decide.{ℕ_discrete}
 use mathlib.Core.Logic.{dite}
 use Rattle.std.specs.Prelude.{Option, Some, None}
-use Rattle.std.proofs.lemmas.Bool.Decides.{nat_tests}
-use Rattle.clover_map.specs.declared.bytes.Value.{Value}
 use Rattle.clover_map.specs.declared.call.Entry.{Entry}
 use Rattle.clover_rule.specs.Content.{spelling, tombstone}
 use Rattle.clover_rule.specs.History.{Map}
 use Rattle.clover_rule.specs.Lists.{nth, upd, Within}
-use Rattle.clover_rule.specs.Server.{Ready, unnamed, IsStoring, Stage, Help, book_of, Serves, Whole, IsWhole, ServerStep, Begin, FlushMeta, StoreKey, FlushKey, server_after, served_view, ServerLaw}
-use Rattle.clover_rule.specs.State.{home, age, Next, word, gen, link, Mem, Place, Taken, Loose, Story, Core}
+use Rattle.clover_rule.specs.Server.{Ready, IsStoring, Stage, Help, book_of, Serves, Whole, IsWhole, ServerStep, Begin, FlushMeta, StoreKey, FlushKey, server_after, served_view, ServerLaw}
+use Rattle.clover_rule.specs.State.{home, age, Next, word, gen, link, Mem, Place, Taken, Loose, Story}
 use Rattle.clover_rule.specs.Views.{book, renewed, book_at, line}
 use Rattle.clover_rule.specs.declared.view.BufferState.TheVariants.{Out as IsOut}
 use Rattle.clover_rule.specs.declared.view.Role.TheVariants.{Serving}
@@ -19,11 +17,8 @@ use Rattle.clover_rule.specs.declared.view.Task.{Task}
 use Rattle.clover_rule.specs.declared.view.Task.TheVariants.{Idle, Storing}
 use Rattle.clover_rule.specs.declared.view.View.{View}
 use Rattle.clover_words.specs.declared.pool.Pool.{Pool}
-use Rattle.clover_rule.proofs.Tools.{upd_same, upd_else, nth_within, nth_snoc, nth_front, nth_last, nth_past, nth_none}
-use Rattle.clover_rule.proofs.Standings.{tag_there, tag_within, tag_past, same_tag, one_buffer}
-use Rattle.clover_rule.proofs.Steps.{each_map, each_within, prefix_trans, prefix_self, within_prefix, Grows, Leaves, view_kept, nth_set, set_here, set_away, link_kept, durable_kept, past_kept, copied_kept}
-
-use Rattle.clover_rule.proofs.ServerTools.{core_copy, Moves, whole, book_same, free_place, hold_core, tale_copy}
+use Rattle.clover_rule.proofs.Tools.{upd_same, upd_else, nth_within}
+use Rattle.clover_rule.proofs.ServerTools.{whole, free_place}
 use Rattle.clover_rule.proofs.Contents.{content_moves, storing_stage, storing_serves}
 
 -- the next word of a held or free buffer at its generation
@@ -46,10 +41,10 @@ module _ (l : Pool) (m0 : Map) (used : List ℕ) (m : Mem) (vs : List View) (id 
 
     -- one more store of a binding under way
     module _ (n n' : ℕ) (e : v.server.task ≡ Storing s k t n) (B FB K FK : ℕ → ℕ → ℕ) (be : (b : ℕ) → b ≢ home t → B b ≡ m.body b) (fe : (b : ℕ) → b ≢ home t → FB b ≡ m.fbody b)
-             (ke : (s1 : ℕ) → s1 ≢ s → K s1 ≡ m.key s1) (ge : (s1 : ℕ) → s1 ≢ s → FK s1 ≡ m.fkey s1)
-             (b1 : 1 ≤ n' → B (home t) 0 ≡ tombstone) (b2 : 2 ≤ n' → FB (home t) 0 ≡ tombstone)
-             (b3 : (j x : ℕ) → nth (spelling k) j ≡ Some x → 3 + j ≤ n' → K s j ≡ x) (b4 : (j x : ℕ) → nth (spelling k) j ≡ Some x → 3 + j + length (spelling k) ≤ n' → FK s j ≡ x)
-             (a : ServerStep) (after : server_after l a v.server ≡ record v.server { task = Storing s k t n' }) where
+        (ke : (s1 : ℕ) → s1 ≢ s → K s1 ≡ m.key s1) (ge : (s1 : ℕ) → s1 ≢ s → FK s1 ≡ m.fkey s1)
+        (b1 : 1 ≤ n' → B (home t) 0 ≡ tombstone) (b2 : 2 ≤ n' → FB (home t) 0 ≡ tombstone)
+        (b3 : (j x : ℕ) → nth (spelling k) j ≡ Some x → 3 + j ≤ n' → K s j ≡ x) (b4 : (j x : ℕ) → nth (spelling k) j ≡ Some x → 3 + j + length (spelling k) ≤ n' → FK s j ≡ x)
+        (a : ServerStep) (after : server_after l a v.server ≡ record v.server { task = Storing s k t n' }) where
       abbrev m1 : Mem
       m1 = record m { body = B; fbody = FB; key = K; fkey = FK }
 
@@ -69,42 +64,46 @@ module _ (l : Pool) (m0 : Map) (used : List ℕ) (m : Mem) (vs : List View) (id 
       unbound s1 k1 q z = absurd (cc (ap st.keys z, q, is.bare))
 
       pub storing_law : IsWhole l m0 used m1 (renewed vs id (served_view l a v))
-      storing_law = (st1, h, whole l m0 used m vs st h w id v at role a m1 st1
-          (content_moves l m0 used m vs st h w (home t) (ap link is.now) (λ s1 q. absurd (cc (q, is.place))) (λ j q. absurd (cc (q, is.place))) B FB K FK (Storing s k t n') be fe (λ s1 k1 q. ke s1 (unbound s1 k1 q)) (λ s1 k1 q. ge s1 (unbound s1 k1 q))
+      storing_law = (
+        st1,
+        h,
+        whole l m0 used m vs st h w id v at role a m1 st1
+            (content_moves l m0 used m vs st h w (home t) (ap link is.now) (λ s1 q. absurd (cc (q, is.place))) (λ j q. absurd (cc (q, is.place))) B FB K FK (Storing s k t n') be fe (λ s1 k1 q. ke s1 (unbound s1 k1 q)) (λ s1 k1 q. ge s1 (unbound s1 k1 q))
             (storing_stage l m m1 st (Storing s k t n) s k t n' g (λ s1 q. absurd cc) refl (λ b q. let z : Some (home t) ≡ Some b = q in cc) is1))
-          (subst (Serves l m1 st1 (Storing s k t n')) (sym after)
+            (subst (Serves l m1 st1 (Storing s k t n')) (sym after)
             (storing_serves l m m1 st (Storing s k t n) s k t n' v.server (serves_at (Storing s k t n) e) (λ s1. refl) refl (only_held n g) (λ b. refl) v.server.books (λ b q. refl)
-              (let i = is.range in (serves_at (Storing s k t n) e).books (home t) i.0 ∙ ap (λ (p : Place). book_of (Storing s k t n) st p (gen (m.next (home t))) (home t)) is.place))))
+            (let i = is.range in (serves_at (Storing s k t n) e).books (home t) i.0 ∙ ap (λ (p : Place). book_of (Storing s k t n) st p (gen (m.next (home t))) (home t)) is.place))),
+      )
 
 pub flush_meta_law : (l : Pool) (s : ℕ) (k : List ℕ) (t : ℕ) → ServerLaw l (FlushMeta s k t)
 flush_meta_law l s k t m0 used m vs id v (st, h, w) at role e =
     let is : IsStoring l m st s k t 1 = (stage_at l m0 used m vs id v st h w at role (Storing s k t 1) e).here in
     storing_law l m0 used m vs id v st h w at role s k t 1 2 e m.body (upd m.fbody (home t) (upd (m.fbody (home t)) 0 tombstone)) m.key m.fkey
-      (λ b n. refl) (λ b n. upd_else m.fbody (home t) b (upd (m.fbody (home t)) 0 tombstone) n) (λ s1 n. refl) (λ s1 n. refl)
-      (λ q. is.body (omega arith)) (λ q. ap (λ (f : ℕ → ℕ). f 0) (upd_same m.fbody (home t) (upd (m.fbody (home t)) 0 tombstone)))
-      (λ j x q i. absurd (omega arith)) (λ j x q i. absurd (omega arith)) (FlushMeta s k t) refl
+    (λ b n. refl) (λ b n. upd_else m.fbody (home t) b (upd (m.fbody (home t)) 0 tombstone) n) (λ s1 n. refl) (λ s1 n. refl)
+    (λ q. is.body (omega arith)) (λ q. ap (λ (f : ℕ → ℕ). f 0) (upd_same m.fbody (home t) (upd (m.fbody (home t)) 0 tombstone)))
+    (λ j x q i. absurd (omega arith)) (λ j x q i. absurd (omega arith)) (FlushMeta s k t) refl
 
 pub store_key_law : (l : Pool) (s : ℕ) (k : List ℕ) (t j x : ℕ) → ServerLaw l (StoreKey s k t j x)
 store_key_law l s k t j x m0 used m vs id v (st, h, w) at role (e, f) =
     let is : IsStoring l m st s k t (2 + j) = (stage_at l m0 used m vs id v st h w at role (Storing s k t (2 + j)) e).here in
     storing_law l m0 used m vs id v st h w at role s k t (2 + j) (3 + j) e m.body m.fbody (upd m.key s (upd (m.key s) j x)) m.fkey
-      (λ b n. refl) (λ b n. refl) (λ s1 n. upd_else m.key s s1 (upd (m.key s) j x) n) (λ s1 n. refl)
-      (λ q. is.body (omega arith)) (λ q. is.fbody (omega arith))
-      (λ i y q b. ap (λ (g : ℕ → ℕ). g i) (upd_same m.key s (upd (m.key s) j x)) ∙ dite (ℕ_discrete i j)
-         (λ d. ap (upd (m.key s) j x) d ∙ upd_same (m.key s) j x ∙ (let z : Some x ≡ Some y = sym f ∙ ap (nth (spelling k)) (sym d) ∙ q in cc))
-         (λ d. upd_else (m.key s) j i x d ∙ is.key i y q (omega arith)))
-      (λ i y q b. is.fkey i y q (let z = nth_within (spelling k) j x f in omega arith)) (StoreKey s k t j x) refl
+    (λ b n. refl) (λ b n. refl) (λ s1 n. upd_else m.key s s1 (upd (m.key s) j x) n) (λ s1 n. refl)
+    (λ q. is.body (omega arith)) (λ q. is.fbody (omega arith))
+    (λ i y q b. ap (λ (g : ℕ → ℕ). g i) (upd_same m.key s (upd (m.key s) j x)) ∙ dite (ℕ_discrete i j)
+    (λ d. ap (upd (m.key s) j x) d ∙ upd_same (m.key s) j x ∙ (let z : Some x ≡ Some y = sym f ∙ ap (nth (spelling k)) (sym d) ∙ q in cc))
+    (λ d. upd_else (m.key s) j i x d ∙ is.key i y q (omega arith)))
+    (λ i y q b. is.fkey i y q (let z = nth_within (spelling k) j x f in omega arith)) (StoreKey s k t j x) refl
 
 pub flush_key_law : (l : Pool) (s : ℕ) (k : List ℕ) (t j x : ℕ) → ServerLaw l (FlushKey s k t j x)
 flush_key_law l s k t j x m0 used m vs id v (st, h, w) at role (e, f) =
     let is : IsStoring l m st s k t (2 + j + length (spelling k)) = (stage_at l m0 used m vs id v st h w at role (Storing s k t (2 + j + length (spelling k))) e).here in
     storing_law l m0 used m vs id v st h w at role s k t (2 + j + length (spelling k)) (3 + j + length (spelling k)) e m.body m.fbody m.key (upd m.fkey s (upd (m.fkey s) j x))
-      (λ b n. refl) (λ b n. refl) (λ s1 n. refl) (λ s1 n. upd_else m.fkey s s1 (upd (m.fkey s) j x) n)
-      (λ q. is.body (omega arith)) (λ q. is.fbody (omega arith))
-      (λ i y q b. is.key i y q (let z = nth_within (spelling k) i y q in omega arith))
-      (λ i y q b. ap (λ (g : ℕ → ℕ). g i) (upd_same m.fkey s (upd (m.fkey s) j x)) ∙ dite (ℕ_discrete i j)
-         (λ d. ap (upd (m.fkey s) j x) d ∙ upd_same (m.fkey s) j x ∙ (let z : Some x ≡ Some y = sym f ∙ ap (nth (spelling k)) (sym d) ∙ q in cc))
-         (λ d. upd_else (m.fkey s) j i x d ∙ is.fkey i y q (omega arith))) (FlushKey s k t j x) refl
+    (λ b n. refl) (λ b n. refl) (λ s1 n. refl) (λ s1 n. upd_else m.fkey s s1 (upd (m.fkey s) j x) n)
+    (λ q. is.body (omega arith)) (λ q. is.fbody (omega arith))
+    (λ i y q b. is.key i y q (let z = nth_within (spelling k) i y q in omega arith))
+    (λ i y q b. ap (λ (g : ℕ → ℕ). g i) (upd_same m.fkey s (upd (m.fkey s) j x)) ∙ dite (ℕ_discrete i j)
+    (λ d. ap (upd (m.fkey s) j x) d ∙ upd_same (m.fkey s) j x ∙ (let z : Some x ≡ Some y = sym f ∙ ap (nth (spelling k)) (sym d) ∙ q in cc))
+    (λ d. upd_else (m.fkey s) j i x d ∙ is.fkey i y q (omega arith))) (FlushKey s k t j x) refl
 
 -- no slot of the directory
 not_bound : (l : Pool) (m : Mem) (st : Story) (sv : Server) (s : ℕ) → Help l m st → Serves l m st Idle sv → Stage l m st Idle → ((s1 : ℕ) (k1 : List ℕ) → Within (s, k1) st.bindings → ⊥) → (x : Option (List ℕ)) → st.keys s ≡ x → x ≡ None
@@ -124,12 +123,27 @@ begin_law l s k t m0 used m vs id v (st, h, w) at role (e, f, i, j, ik, ns, nk) 
     let m1 : Mem = record m { body = upd m.body (home t) (upd (m.body (home t)) 0 tombstone) } in
     let st1 : Story = record st { place = upd st.place (home t) Taken; task = Storing s k t 1 } in
     let nm : st.named s ≡ false = w.help.keyed.nameless s bare in
-    let is1 : IsStoring l m1 st1 s k t 1 = record { place = upd_same st.place (home t) Taken; now = nw; safe = lo.1 ∙ nw; range = (i, let q = fr.1 in let q2 = rg.1 in omega arith); slot = j; bare = bare; unnamed = nm;
-        absent = λ s1 q. nk s1 (subst (Within (s1, k)) (sym dir) (w.help.naming.listed s1 k q (⊎_elim (λ d. d) (λ d. absurd cc) (g.names s1 k q)))); valid = ik;
-        body = λ q. ap (λ (f1 : ℕ → ℕ). f1 0) (upd_same m.body (home t) (upd (m.body (home t)) 0 tombstone)); fbody = λ q. absurd (omega arith); key = λ j1 x1 q b. absurd (omega arith); fkey = λ j1 x1 q b. absurd (omega arith) } in
-    (st1, h, whole l m0 used m vs st h w id v at role (Begin s k t) m1 st1
-      (content_moves l m0 used m vs st h w (home t) lo.0 (λ s1 q. absurd (cc (q, fr.0))) (λ j1 q. absurd (cc (q, fr.0))) (upd m.body (home t) (upd (m.body (home t)) 0 tombstone)) m.fbody m.key m.fkey (Storing s k t 1)
-        (λ b n. upd_else m.body (home t) b (upd (m.body (home t)) 0 tombstone) n) (λ b n. refl) (λ s1 k1 q. refl) (λ s1 k1 q. refl)
-        (storing_stage l m m1 st Idle s k t 1 g (λ s1 q. absurd cc) refl (λ b q. absurd cc) is1))
-      (storing_serves l m m1 st Idle s k t 1 v.server sv (λ s1. refl) refl (λ b q. absurd (cc (g.holds b q))) (λ b. refl) (line (home t) (age t) IsOut ∷ v.server.books) (λ b n. upd_else (book_at v.server) (home t) b (book (age t) IsOut) n)
-        (upd_same (book_at v.server) (home t) (book (age t) IsOut) ∙ ap (λ (x : ℕ). book x IsOut) (sym fr.1))))
+    let is1 : IsStoring l m1 st1 s k t 1 = record {
+      place = upd_same st.place (home t) Taken;
+      now = nw;
+      safe = lo.1 ∙ nw;
+      range = (i, let q = fr.1 in let q2 = rg.1 in omega arith);
+      slot = j;
+      bare = bare;
+      unnamed = nm;
+      absent = λ s1 q. nk s1 (subst (Within (s1, k)) (sym dir) (w.help.naming.listed s1 k q (⊎_elim (λ d. d) (λ d. absurd cc) (g.names s1 k q))));
+      valid = ik;
+      body = λ q. ap (λ (f1 : ℕ → ℕ). f1 0) (upd_same m.body (home t) (upd (m.body (home t)) 0 tombstone));
+      fbody = λ q. absurd (omega arith);
+      key = λ j1 x1 q b. absurd (omega arith);
+      fkey = λ j1 x1 q b. absurd (omega arith);
+    } in (
+      st1,
+      h,
+      whole l m0 used m vs st h w id v at role (Begin s k t) m1 st1
+          (content_moves l m0 used m vs st h w (home t) lo.0 (λ s1 q. absurd (cc (q, fr.0))) (λ j1 q. absurd (cc (q, fr.0))) (upd m.body (home t) (upd (m.body (home t)) 0 tombstone)) m.fbody m.key m.fkey (Storing s k t 1)
+          (λ b n. upd_else m.body (home t) b (upd (m.body (home t)) 0 tombstone) n) (λ b n. refl) (λ s1 k1 q. refl) (λ s1 k1 q. refl)
+          (storing_stage l m m1 st Idle s k t 1 g (λ s1 q. absurd cc) refl (λ b q. absurd cc) is1))
+          (storing_serves l m m1 st Idle s k t 1 v.server sv (λ s1. refl) refl (λ b q. absurd (cc (g.holds b q))) (λ b. refl) (line (home t) (age t) IsOut ∷ v.server.books) (λ b n. upd_else (book_at v.server) (home t) b (book (age t) IsOut) n)
+          (upd_same (book_at v.server) (home t) (book (age t) IsOut) ∙ ap (λ (x : ℕ). book x IsOut) (sym fr.1))),
+    )

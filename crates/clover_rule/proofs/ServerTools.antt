@@ -1,14 +1,12 @@
 -- What each act of the server has to show, and how its law follows from it.
-use Rattle.std.proofs.Common.{◌≡◌, ℕ, zero, suc, ◌+◌, ◌<◌, ◌≤◌, ◌≢◌, ◌⊎◌, List, [], ◌∷◌, ◌++◌, length, length-append, set, append_assoc, append-nil, Bool, true, false, cond, eqb, ltb, leb, refl, sym, ap, ◌∙◌, inl, inr, ⊎_elim, arith, subst, eq-eqb, ne_eqb, eqb-true, true≢false}
-use native.Mathlib.Decide.{ℕ_discrete, dec_le}
+use Rattle.std.proofs.Common.{◌≡◌, ℕ, ◌≤◌, ◌≢◌, List, Bool, true, false, cond, refl, sym, ap, ◌∙◌, inl, inr, ⊎_elim, arith, subst}
+use native.Mathlib.Decide.{ℕ_discrete}
 use mathlib.Core.Logic.{dite}
 use Rattle.std.specs.Prelude.{Option, Some, None}
-use Rattle.std.proofs.lemmas.Bool.Decides.{nat_tests}
-use Rattle.clover_map.specs.declared.bytes.Value.{Value}
 use Rattle.clover_map.specs.declared.call.Entry.{Entry}
 use Rattle.clover_rule.specs.History.{Version, Map, used_by}
 use Rattle.clover_rule.specs.Lists.{Each, nth, upd, Within}
-use Rattle.clover_rule.specs.Server.{unnamed, Help, root_in, is_home, book_of, Serves, Whole, ServerStep, LoadRoot, FlushLink, StoreRoot, StoreFlushedRoot, ExchangeRoot, FreeOld, Begin, FlushMeta, StoreKey, FlushKey, BindRoot, BindFlushedRoot, StoreCount, server_after, served_view}
+use Rattle.clover_rule.specs.Server.{Help, root_in, is_home, book_of, Serves, Whole, ServerStep, LoadRoot, FlushLink, StoreRoot, StoreFlushedRoot, ExchangeRoot, FreeOld, Begin, FlushMeta, StoreKey, FlushKey, BindRoot, BindFlushedRoot, StoreCount, server_after, served_view}
 use Rattle.clover_rule.specs.State.{home, gen, link, Mem, Place, Chained, Stocked, Free, Worn, Taken, Loose, Story, Core, Tale}
 use Rattle.clover_rule.specs.Views.{book, Holds, Stands, ViewOk, Spent, Basis, renewed}
 use Rattle.clover_rule.specs.declared.view.BufferState.TheVariants.{Free as IsFree, Bound as IsBound, Out as IsOut}
@@ -18,21 +16,27 @@ use Rattle.clover_rule.specs.declared.view.Task.{Task}
 use Rattle.clover_rule.specs.declared.view.Task.TheVariants.{Idle, Storing, Rooted, Waiting, Loaded, Raised, Led, Both, Exchanged}
 use Rattle.clover_rule.specs.declared.view.View.{View}
 use Rattle.clover_words.specs.declared.pool.Pool.{Pool}
-use Rattle.clover_rule.proofs.Tools.{upd_same, upd_else, nth_within, nth_snoc, nth_front, nth_last, nth_past, nth_none}
-use Rattle.clover_rule.proofs.Standings.{tag_there, tag_within, tag_past, same_tag, one_buffer}
-use Rattle.clover_rule.proofs.Steps.{each_map, each_within, prefix_trans, prefix_self, within_prefix, Grows, Leaves, view_kept, nth_set, set_here, set_away, link_kept, durable_kept, past_kept, copied_kept}
+use Rattle.clover_rule.proofs.Tools.{upd_same, upd_else}
+use Rattle.clover_rule.proofs.Steps.{each_map, Grows, Leaves, view_kept, nth_set, set_here, set_away}
 
 -- the core facts read neither contents, keys, shortcuts nor the count, nor names and tasks
 pub core_copy : (m : Mem) (st : Story) → Core m st → (b fb k fk : ℕ → ℕ → ℕ) (sh : ℕ → Option ℕ) (ct : ℕ) (keys : ℕ → Option (List ℕ)) (first : ℕ → List Version) (bindings : List (ℕ × List ℕ)) (task : Task) (sn : List ℕ → ℕ)
     → Core (record m { body = b; fbody = fb; key = k; fkey = fk; short = sh; count = ct }) (record st { keys = keys; first = first; bindings = bindings; task = task; slot_named = sn })
 core_copy m st c b fb k fk sh ct keys first bindings task sn = record {
-    spotted = c.spotted;
-    passed = λ s i t e g. let x = c.passed s i t e g in record { later = x.later; safe = x.safe };
-    standing = λ s i t e g. let x = c.standing s i t e g in record { placed = x.placed; now = x.now; safe = x.safe };
-    sure_most = c.sure_most; sure_all = c.sure_all; rooted = c.rooted; bare = c.bare; led = c.led; root = c.root;
-    froot = λ s. ⊎_elim inl (λ h. inr record { empty = h.empty; unnamed = h.unnamed; alone = h.alone; dead = h.dead }) (c.froot s);
-    loose = c.loose; held = c.held; chained = c.chained
-  }
+  spotted = c.spotted;
+  passed = λ s i t e g. let x = c.passed s i t e g in record { later = x.later; safe = x.safe };
+  standing = λ s i t e g. let x = c.standing s i t e g in record { placed = x.placed; now = x.now; safe = x.safe };
+  sure_most = c.sure_most;
+  sure_all = c.sure_all;
+  rooted = c.rooted;
+  bare = c.bare;
+  led = c.led;
+  root = c.root;
+  froot = λ s. ⊎_elim inl (λ h. inr record { empty = h.empty; unnamed = h.unnamed; alone = h.alone; dead = h.dead }) (c.froot s);
+  loose = c.loose;
+  held = c.held;
+  chained = c.chained;
+}
 
 pub record Moves (l : Pool) (m0 : Map) (used : List ℕ) (m : Mem) (st : Story) (h : List Entry) (m' : Mem) (st' : Story) : Type 0 where
   pub core : Core m' st'
@@ -62,7 +66,7 @@ clients_same l (BindFlushedRoot s k t) sv = refl
 clients_same l (StoreCount s k t) sv = refl
 
 module _ (l : Pool) (m0 : Map) (used : List ℕ) (m : Mem) (vs : List View) (st : Story) (h : List Entry) (w : Whole l m0 used m vs st h)
-         (id : ℕ) (v : View) (at : nth vs id ≡ Some v) (role : v.pass.role ≡ Serving) (a : ServerStep) (m' : Mem) (st' : Story) (mv : Moves l m0 used m st h m' st') (sv : Serves l m' st' st'.task (server_after l a v.server)) where
+    (id : ℕ) (v : View) (at : nth vs id ≡ Some v) (role : v.pass.role ≡ Serving) (a : ServerStep) (m' : Mem) (st' : Story) (mv : Moves l m0 used m st h m' st') (sv : Serves l m' st' st'.task (server_after l a v.server)) where
   abbrev r : Basis m0 used m vs st h
   r = w.basis
 
@@ -74,9 +78,20 @@ module _ (l : Pool) (m0 : Map) (used : List ℕ) (m : Mem) (vs : List View) (st 
 
   ok : ViewOk m' st' h id v'
   ok = let k = kept id v (r.views id v at) in record {
-      stocked = k.stocked; apart = k.apart; durable = k.durable; links = k.links; words = k.words; written = k.written; flushed = k.flushed; copied = k.copied;
-      names = k.names; added = k.added; most = k.most; history = k.history; calls = k.calls
-    }
+    stocked = k.stocked;
+    apart = k.apart;
+    durable = k.durable;
+    links = k.links;
+    words = k.words;
+    written = k.written;
+    flushed = k.flushed;
+    copied = k.copied;
+    names = k.names;
+    added = k.added;
+    most = k.most;
+    history = k.history;
+    calls = k.calls;
+  }
 
   was : (i1 : ℕ) (x : View) → nth (renewed vs id v') i1 ≡ Some x → (y : View) × (nth vs i1 ≡ Some y) × (y.pass.role ≡ x.pass.role) × (y.server.clients ≡ x.server.clients)
   was i1 x q = ⊎_elim {C = (y : View) × (nth vs i1 ≡ Some y) × (y.pass.role ≡ x.pass.role) × (y.server.clients ≡ x.server.clients)}
@@ -91,22 +106,27 @@ module _ (l : Pool) (m0 : Map) (used : List ℕ) (m : Mem) (vs : List View) (st 
 
   rule' : Basis m0 used m' (renewed vs id v') st' h
   rule' = record {
-      core = mv.core; tale = mv.tale; bodies = mv.bodies; spent = each_map mv.spent (used_by used h) r.spent; bound = mv.bound; keyed = mv.keyed;
-      views = λ i1 x q. ⊎_elim (λ d. rw (d.0, ← d.1) ok) (λ d. kept i1 x (r.views i1 x d.1)) (nth_set vs id i1 v' x q);
-      numbered = λ i1 j1 c x y qx qy rx ry. let x1 = was i1 x qx in let y1 = was j1 y qy in r.numbered i1 j1 c x1.0 y1.0 x1.1 y1.1 (x1.2 ∙ rx) (y1.2 ∙ ry);
-      longest = longest'
-    }
+    core = mv.core;
+    tale = mv.tale;
+    bodies = mv.bodies;
+    spent = each_map mv.spent (used_by used h) r.spent;
+    bound = mv.bound;
+    keyed = mv.keyed;
+    views = λ i1 x q. ⊎_elim (λ d. rw (d.0, ← d.1) ok) (λ d. kept i1 x (r.views i1 x d.1)) (nth_set vs id i1 v' x q);
+    numbered = λ i1 j1 c x y qx qy rx ry. let x1 = was i1 x qx in let y1 = was j1 y qy in r.numbered i1 j1 c x1.0 y1.0 x1.1 y1.1 (x1.2 ∙ rx) (y1.2 ∙ ry);
+    longest = longest';
+  }
 
   pub whole : Whole l m0 used m' (renewed vs id v') st' h
   whole = record {
-      basis = rule';
-      help = mv.help;
-      serves = λ i1 x q e. ⊎_elim (λ d. rw (← d.1) sv) (λ d. absurd (d.0 (w.one i1 id x v d.1 at e role))) (nth_set vs id i1 v' x q);
-      one = λ i1 j1 x y qx qy rx ry. let x1 = was i1 x qx in let y1 = was j1 y qy in w.one i1 j1 x1.0 y1.0 x1.1 y1.1 (x1.2 ∙ rx) (y1.2 ∙ ry);
-      safe = each_map (λ t d. (d.0, let q = mv.fgens (home t) in let q2 = d.1 in omega arith)) (used_by used h) w.safe;
-      made = λ i1 j1 n x y qx qy rx ry. let x1 = was i1 x qx in let y1 = was j1 y qy in subst (Within n) x1.3 (w.made i1 j1 n x1.0 y1.0 x1.1 y1.1 (x1.2 ∙ rx) (y1.2 ∙ ry));
-      entered = λ i1 x q e. let x1 = was i1 x q in subst (λ (cs : List ℕ). Each (λ (y : Entry). Within y.client cs) h) x1.3 (w.entered i1 x1.0 x1.1 (x1.2 ∙ e))
-    }
+    basis = rule';
+    help = mv.help;
+    serves = λ i1 x q e. ⊎_elim (λ d. rw (← d.1) sv) (λ d. absurd (d.0 (w.one i1 id x v d.1 at e role))) (nth_set vs id i1 v' x q);
+    one = λ i1 j1 x y qx qy rx ry. let x1 = was i1 x qx in let y1 = was j1 y qy in w.one i1 j1 x1.0 y1.0 x1.1 y1.1 (x1.2 ∙ rx) (y1.2 ∙ ry);
+    safe = each_map (λ t d. (d.0, let q = mv.fgens (home t) in let q2 = d.1 in omega arith)) (used_by used h) w.safe;
+    made = λ i1 j1 n x y qx qy rx ry. let x1 = was i1 x qx in let y1 = was j1 y qy in subst (Within n) x1.3 (w.made i1 j1 n x1.0 y1.0 x1.1 y1.1 (x1.2 ∙ rx) (y1.2 ∙ ry));
+    entered = λ i1 x q e. let x1 = was i1 x q in subst (λ (cs : List ℕ). Each (λ (y : Entry). Within y.client cs) h) x1.3 (w.entered i1 x1.0 x1.1 (x1.2 ∙ e));
+  }
 
 -- the same books at the same place under another task
 pub book_same : (T T' : Task) (st st' : Story) (p : Place) (g b : ℕ) → ((s : ℕ) → p ≡ Chained s → is_home (root_in T' st' s) b ≡ is_home (root_in T st s) b) → (p ≡ Taken → book_of T' st' Taken g b ≡ book_of T st Taken g b) → book_of T' st' p g b ≡ book_of T st p g b
@@ -139,15 +159,20 @@ free_place (Both s k t) st Taken g b a e = absurd cc
 -- a buffer that is off the chains is held from now on
 pub hold_core : (m : Mem) (st : Story) (b0 : ℕ) → Core m st → link (m.next b0) ≡ None → ((s : ℕ) → st.place b0 ≢ Chained s) → Core m (record st { place = upd st.place b0 Taken })
 hold_core m st b0 c lone loose = record {
-    spotted = c.spotted;
-    passed = λ s i t e g. let x = c.passed s i t e g in record { later = x.later; safe = x.safe };
-    standing = λ s i t e g. let x = c.standing s i t e g in record { placed = upd_else st.place b0 (home t) Taken (λ q. loose s (ap st.place (sym q) ∙ x.placed)) ∙ x.placed; now = x.now; safe = x.safe };
-    sure_most = c.sure_most; sure_all = c.sure_all; rooted = c.rooted; bare = c.bare; led = c.led; root = c.root;
-    froot = λ s. ⊎_elim inl (λ h. inr record { empty = h.empty; unnamed = h.unnamed; alone = h.alone; dead = h.dead }) (c.froot s);
-    loose = λ b f. dite (ℕ_discrete b b0) (λ d. absurd (subst Loose (ap (upd st.place b0 Taken) d ∙ upd_same st.place b0 Taken) f)) (λ n. c.loose b (subst Loose (upd_else st.place b0 b Taken n) f));
-    held = λ b f. dite (ℕ_discrete b b0) (λ d. ap (λ (x : ℕ). link (m.next x)) d ∙ lone) (λ n. c.held b (sym (upd_else st.place b0 b Taken n) ∙ f));
-    chained = λ b s f. dite (ℕ_discrete b b0) (λ d. absurd (cc (ap (upd st.place b0 Taken) d, upd_same st.place b0 Taken, f))) (λ n. c.chained b s (sym (upd_else st.place b0 b Taken n) ∙ f))
-  }
+  spotted = c.spotted;
+  passed = λ s i t e g. let x = c.passed s i t e g in record { later = x.later; safe = x.safe };
+  standing = λ s i t e g. let x = c.standing s i t e g in record { placed = upd_else st.place b0 (home t) Taken (λ q. loose s (ap st.place (sym q) ∙ x.placed)) ∙ x.placed; now = x.now; safe = x.safe };
+  sure_most = c.sure_most;
+  sure_all = c.sure_all;
+  rooted = c.rooted;
+  bare = c.bare;
+  led = c.led;
+  root = c.root;
+  froot = λ s. ⊎_elim inl (λ h. inr record { empty = h.empty; unnamed = h.unnamed; alone = h.alone; dead = h.dead }) (c.froot s);
+  loose = λ b f. dite (ℕ_discrete b b0) (λ d. absurd (subst Loose (ap (upd st.place b0 Taken) d ∙ upd_same st.place b0 Taken) f)) (λ n. c.loose b (subst Loose (upd_else st.place b0 b Taken n) f));
+  held = λ b f. dite (ℕ_discrete b b0) (λ d. ap (λ (x : ℕ). link (m.next x)) d ∙ lone) (λ n. c.held b (sym (upd_else st.place b0 b Taken n) ∙ f));
+  chained = λ b s f. dite (ℕ_discrete b b0) (λ d. absurd (cc (ap (upd st.place b0 Taken) d, upd_same st.place b0 Taken, f))) (λ n. c.chained b s (sym (upd_else st.place b0 b Taken n) ∙ f));
+}
 
 pub tale_copy : (st : Story) (m0 : Map) (used : List ℕ) (h : List Entry) → Tale st m0 used h → (place : ℕ → Place) (gone lead flead : ℕ → ℕ) (named : ℕ → Bool) (bindings : List (ℕ × List ℕ)) (task : Task) (sn : List ℕ → ℕ)
     → Tale (record st { place = place; gone = gone; lead = lead; flead = flead; named = named; bindings = bindings; task = task; slot_named = sn }) m0 used h

@@ -1,22 +1,10 @@
 -- More laws on histories, at one more entry.
-use Rattle.std.proofs.Common.{◌≡◌, ℕ, zero, suc, ◌+◌, ◌<◌, ◌≤◌, ◌≢◌, ◌⊎◌, List, [], ◌∷◌, ◌++◌, length, set, append_assoc, append-nil, Bool, true, false, cond, eqb, ltb, leb, refl, sym, ap, ◌∙◌, inl, inr, ⊎_elim, arith, subst, eq-eqb, ne_eqb, eqb-true, true≢false}
-use native.Mathlib.Decide.{ℕ_discrete, dec_le}
-use mathlib.Core.Logic.{dite}
+use Rattle.std.proofs.Common.{◌≡◌, ℕ, zero, suc, ◌≢◌, List, [], ◌∷◌, ◌++◌, Bool, true, false, cond, eqb, refl, ap, ◌∙◌, inl, inr, ⊎_elim, subst}
 use Rattle.std.specs.Prelude.{Option, Some, None}
-use Rattle.std.proofs.lemmas.Bool.Decides.{nat_tests}
-use Rattle.clover_map.specs.declared.bytes.Value.{Value}
-use Rattle.clover_map.specs.declared.call.Call.{Call}
-use Rattle.clover_map.specs.declared.call.Reply.{Reply}
 use Rattle.clover_map.specs.declared.call.Entry.{Entry}
-use Rattle.clover_map.specs.declared.call.Call.TheVariants.{Put}
-use Rattle.clover_map.specs.declared.call.Reply.TheVariants.{Stored}
-use Rattle.clover_rule.proofs.Keys.{eq_key, ne_key}
+use Rattle.clover_rule.proofs.Keys.{eq_key}
 use Rattle.clover_rule.specs.History.{same_key, Version, own, used_by, commits, joined, Unread, Silent, key_of, commit_of, lost_in, Fresh, grown}
 use Rattle.clover_rule.specs.Lists.{nth, Within}
-use Rattle.clover_rule.specs.State.{Core}
-use Rattle.clover_rule.proofs.Tools.{upd_same, upd_else, nth_within, nth_snoc, nth_front, nth_last}
-use Rattle.clover_rule.proofs.Standings.{tag_there, tag_within, tag_past, same_tag}
-use Rattle.clover_rule.proofs.Histories.{legal_snoc, leads_commits, commits_snoc}
 
 pub unread_snoc : (a b : ℕ → Bool) (h : List Entry) (e : Entry) → Unread a h → ((x : Entry) → Within x h → lost_in b (commit_of x) ≡ true → (lost_in a (commit_of x) ≡ true) × (key_of e ≢ key_of x)) → Unread b (h ++ e ∷ [])
 unread_snoc a b [] e u f = ((λ p. tt), tt)
@@ -62,4 +50,3 @@ used_snoc used (x ∷ h) e = used_snoc (grown used (commit_of x)) h e
 pub own_snoc : (c : ℕ) (h : List Entry) (e : Entry) → own c (h ++ e ∷ []) ≡ own c h ++ own c (e ∷ [])
 own_snoc c [] e = refl
 own_snoc c (x ∷ h) e = elim (eqb x.client c) as (λ (b : Bool). cond b (x ∷ own c (h ++ e ∷ [])) (own c (h ++ e ∷ [])) ≡ cond b (x ∷ own c h) (own c h) ++ own c (e ∷ [])) [ true ↦ ap (λ (xs : List Entry). x ∷ xs) (own_snoc c h e) | false ↦ own_snoc c h e ]
-

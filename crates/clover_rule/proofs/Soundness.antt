@@ -1,15 +1,12 @@
 -- Each image of a cut is sound.
-use Rattle.std.proofs.Common.{◌≡◌, ℕ, zero, suc, ◌+◌, ◌<◌, ◌≤◌, ◌≢◌, ◌⊎◌, List, [], ◌∷◌, ◌++◌, length, length-append, set, append_assoc, append-nil, Bool, true, false, cond, eqb, ltb, leb, refl, sym, ap, ◌∙◌, inl, inr, ⊎_elim, arith, subst, eq-eqb, ne_eqb, eqb-true, true≢false}
-use native.Mathlib.Decide.{ℕ_discrete, dec_le}
-use mathlib.Core.Logic.{dite}
+use Rattle.std.proofs.Common.{◌≡◌, ℕ, zero, suc, ◌+◌, ◌<◌, ◌≤◌, ◌⊎◌, List, [], ◌∷◌, Bool, true, false, ltb, refl, sym, ap, ◌∙◌, inl, inr, ⊎_elim, arith, subst}
 use Rattle.std.specs.Prelude.{Option, Some, None}
-use Rattle.std.proofs.lemmas.Bool.Decides.{nat_tests}
 use Rattle.clover_map.specs.declared.bytes.Value.{Value}
 use Rattle.clover_map.specs.declared.call.Entry.{Entry}
 use Rattle.clover_rule.specs.Content.{content, InRange, Spells, Fits}
-use Rattle.clover_rule.specs.History.{Version, Map, own, ends, leads, kept}
+use Rattle.clover_rule.specs.History.{Version, Map, ends, leads, kept}
 use Rattle.clover_rule.specs.Image.{Image, IsImage, Chain, missing, sift, tags}
-use Rattle.clover_rule.specs.Lists.{Each, nth}
+use Rattle.clover_rule.specs.Lists.{nth}
 use Rattle.clover_rule.specs.Server.{versions_of, holding, AtStage, Stage, Help, Whole, Sound}
 use Rattle.clover_rule.specs.State.{home, gen, link, Mem, Place, Chained, Stocked, Free, Worn, Taken, Loose, Story, tag_in_version, tag_at, Core, only}
 use Rattle.clover_rule.specs.declared.view.Task.{Task}
@@ -17,13 +14,9 @@ use Rattle.clover_rule.specs.declared.view.Task.TheVariants.{Idle, Storing, Root
 use Rattle.clover_rule.specs.declared.view.View.{View}
 use Rattle.clover_words.specs.declared.pool.Pool.{Pool}
 use Rattle.clover_rule.proofs.Spelling.{one_key}
-use Rattle.clover_rule.proofs.Tools.{upd_same, upd_else, nth_within, nth_snoc, nth_front, nth_last, nth_past, nth_none}
-use Rattle.clover_rule.proofs.Standings.{tag_there, tag_within, tag_past, same_tag, one_buffer}
-use Rattle.clover_rule.proofs.Steps.{each_map, each_within, prefix_trans, prefix_self, within_prefix, Grows, Leaves, view_kept, nth_set, set_here, set_away, link_kept, durable_kept, past_kept, copied_kept}
-
-use Rattle.std.specs.Prelude.{drop, map}
+use Rattle.clover_rule.proofs.Standings.{tag_within, one_buffer}
+use Rattle.std.specs.Prelude.{drop}
 use Rattle.clover_rule.proofs.Cuts.{ends_drop, longer, map_left, Shown, shown, inside, up_to, nth_drop, cut_chain}
-use Rattle.clover_rule.proofs.BindLaws.{unrooted}
 
 nth_tags : (ws : List Version) (i t : ℕ) → nth (tags ws) i ≡ Some t → (w : Version) × (nth ws i ≡ Some w) × (w.tag ≡ t)
 nth_tags [] i t e = absurd cc
@@ -58,7 +51,7 @@ module _ (l : Pool) (m0 : Map) (used : List ℕ) (m : Mem) (vs : List View) (st 
   start : (s t : ℕ) → im.root s ≡ Some t → Start s t
   start s t e = let d = c.led s in
       ⊎_elim (λ q. lead_start s t (st.lead s) (sym (c.root s) ∙ sym q ∙ e) (omega arith) (omega arith))
-        (λ q. ⊎_elim (λ f. lead_start s t (st.flead s) (sym f ∙ sym q ∙ e) (omega arith) (omega arith)) (λ f. absurd (cc (f.empty, q, e))) (c.froot s)) (is.root s)
+      (λ q. ⊎_elim (λ f. lead_start s t (st.flead s) (sym f ∙ sym q ∙ e) (omega arith) (omega arith)) (λ f. absurd (cc (f.empty, q, e))) (c.froot s)) (is.root s)
 
   -- a slot with a root is bound
   pub bound_root : (s t : ℕ) → im.root s ≡ Some t → (k : List ℕ) × (st.keys s ≡ Some k)
@@ -143,21 +136,23 @@ module _ (l : Pool) (m0 : Map) (used : List ℕ) (m : Mem) (vs : List View) (st 
   pub cut_sound : Sound l im
   unfolding value_in
   cut_sound = record {
-      own = λ b. ⊎_elim (λ q. let a = ap gen q in let d = p.ranged.own b in omega arith) (λ q. let a = ap gen q in let d = p.ranged.own b in let f = p.ranged.below b in omega arith) (is.next b);
-      target = λ b t e. place_cases b t (st.place b) refl (⊎_elim (λ q. inl (sym (ap link q) ∙ e)) (λ q. inr (sym (ap link q) ∙ e)) (is.next b));
-      root = λ s t e. let a = start s t e in p.ranged.tags s a.at t a.tag;
-      key = λ s t e. let a = bound_root s t e in (a.0, p.keyed.valid s a.0 a.1, spelled s a.0 a.1);
-      same = λ s1 s2 t1 t2 k e1 e2 ik q1 q2. let a = bound_root s1 t1 e1 in let b = bound_root s2 t2 e2 in w.basis.keyed s2 s1 k (b.1 ∙ ap Some (one_key (im.key s2) b.0 k (p.keyed.valid s2 b.0 b.1) ik (spelled s2 b.0 b.1) q2)) (a.1 ∙ ap Some (one_key (im.key s1) a.0 k (p.keyed.valid s1 a.0 a.1) ik (spelled s1 a.0 a.1) q1));
-      chain = chain;
-      walk = λ s. walk_from s (im.root s) refl;
-      once = λ s1 s2 i1 i2 t1 t2 e1 e2 q. let a = on_chain s1 (im.root s1) refl i1 t1 e1 in let b = on_chain s2 (im.root s2) refl i2 t2 e2 in
-          let o = one_buffer m st c s1 (from s1 + i1) t1 s2 (from s2 + i2) t2 (ap tag_in_version a.there ∙ ap Some a.tag) a.late (ap tag_in_version b.there ∙ ap Some b.tag) b.late q in
-          (o.0, let f : from s2 ≡ from s1 = ap from o.0 in let g = o.1 in omega arith);
-      value = λ s i. value_in (nth (st.log s) (from s + i));
-      inside = λ s t e. let a = bound_root s t e in p.keyed.slots s a.0 a.1;
-      contents = λ s i t e. let a = on_chain s (im.root s) refl i t e in let va : value_in (nth (st.log s) (from s + i)) ≡ a.version.value = ap value_in a.there in (subst (Fits l) (sym va) (p.ranged.fits s (from s + i) a.version a.there),
-          λ j y q. let b = w.basis.bodies s (from s + i) a.version a.there a.late j y (ap (λ (x : Option Value). nth (content x) j) (sym va) ∙ q) in ap (λ (x : ℕ). im.body (home x) j) (sym a.tag) ∙ ⊎_elim (λ f. f ∙ b.0) (λ f. f ∙ b.1) (is.body (home a.version.tag) j))
-    }
+    own = λ b. ⊎_elim (λ q. let a = ap gen q in let d = p.ranged.own b in omega arith) (λ q. let a = ap gen q in let d = p.ranged.own b in let f = p.ranged.below b in omega arith) (is.next b);
+    target = λ b t e. place_cases b t (st.place b) refl (⊎_elim (λ q. inl (sym (ap link q) ∙ e)) (λ q. inr (sym (ap link q) ∙ e)) (is.next b));
+    root = λ s t e. let a = start s t e in p.ranged.tags s a.at t a.tag;
+    key = λ s t e. let a = bound_root s t e in (a.0, p.keyed.valid s a.0 a.1, spelled s a.0 a.1);
+    same = λ s1 s2 t1 t2 k e1 e2 ik q1 q2. let a = bound_root s1 t1 e1 in let b = bound_root s2 t2 e2 in w.basis.keyed s2 s1 k (b.1 ∙ ap Some (one_key (im.key s2) b.0 k (p.keyed.valid s2 b.0 b.1) ik (spelled s2 b.0 b.1) q2)) (a.1 ∙ ap Some (one_key (im.key s1) a.0 k (p.keyed.valid s1 a.0 a.1) ik (spelled s1 a.0 a.1) q1));
+    chain = chain;
+    walk = λ s. walk_from s (im.root s) refl;
+    once = λ s1 s2 i1 i2 t1 t2 e1 e2 q. let a = on_chain s1 (im.root s1) refl i1 t1 e1 in let b = on_chain s2 (im.root s2) refl i2 t2 e2 in
+        let o = one_buffer m st c s1 (from s1 + i1) t1 s2 (from s2 + i2) t2 (ap tag_in_version a.there ∙ ap Some a.tag) a.late (ap tag_in_version b.there ∙ ap Some b.tag) b.late q in
+        (o.0, let f : from s2 ≡ from s1 = ap from o.0 in let g = o.1 in omega arith);
+    value = λ s i. value_in (nth (st.log s) (from s + i));
+    inside = λ s t e. let a = bound_root s t e in p.keyed.slots s a.0 a.1;
+    contents = λ s i t e. let a = on_chain s (im.root s) refl i t e in let va : value_in (nth (st.log s) (from s + i)) ≡ a.version.value = ap value_in a.there in (
+      subst (Fits l) (sym va) (p.ranged.fits s (from s + i) a.version a.there),
+      λ j y q. let b = w.basis.bodies s (from s + i) a.version a.there a.late j y (ap (λ (x : Option Value). nth (content x) j) (sym va) ∙ q) in ap (λ (x : ℕ). im.body (home x) j) (sym a.tag) ∙ ⊎_elim (λ f. f ∙ b.0) (λ f. f ∙ b.1) (is.body (home a.version.tag) j),
+    );
+  }
 
   listed : (ws : List Version) (f : ℕ → Option Value) → ((i : ℕ) (y : Version) → nth ws i ≡ Some y → f i ≡ y.value) → versions_of (tags ws) f ≡ ws
   listed [] f e = refl
@@ -176,10 +171,10 @@ module _ (l : Pool) (m0 : Map) (used : List ℕ) (m : Mem) (vs : List View) (st 
       let n = (shown m st c im is s).0 in
       let f : Shown m st c im is s n = (shown m st c im is s).1 in
       let values : (i : ℕ) (y : Version) → nth (drop a.at L) i ≡ Some y → value_in (nth (st.log s) (a.at + i)) ≡ y.value =
-          λ i y q. let z : nth L (a.at + i) ≡ Some y = sym (nth_drop a.at i L) ∙ q in
-            let b = sym (f.sifted (a.at + i)) ∙ z in
-            let d : a.at + i < n = inside (a.at + i) n (nth (st.log s) (a.at + i)) y b in
-            ap value_in (up_to (a.at + i) n (nth (st.log s) (a.at + i)) d ∙ b) in
+      λ i y q. let z : nth L (a.at + i) ≡ Some y = sym (nth_drop a.at i L) ∙ q in
+      let b = sym (f.sifted (a.at + i)) ∙ z in
+      let d : a.at + i < n = inside (a.at + i) n (nth (st.log s) (a.at + i)) y b in
+      ap value_in (up_to (a.at + i) n (nth (st.log s) (a.at + i)) d ∙ b) in
       ap (ends None) (listed (drop a.at L) (λ (i : ℕ). value_in (nth (st.log s) (a.at + i))) values)
       ∙ ends_drop None None a.at L (longer m st c im is m0 used h w.basis.tale s a.at a.early) ∙ map_left m st c im is m0 used h w.basis.tale s k key
 

@@ -1,5 +1,5 @@
 -- A content is spelled by its words alone, and so is a key.
-use Rattle.std.proofs.Common.{◌≡◌, ℕ, zero, suc, ◌+◌, ◌*◌, ◌/◌, ◌%◌, ◌^◌, ◌<◌, ◌≤◌, ◌≢◌, List, [], ◌∷◌, length, refl, sym, ap, ◌∙◌, arith, subst}
+use Rattle.std.proofs.Common.{◌≡◌, ℕ, zero, suc, ◌+◌, ◌*◌, ◌/◌, ◌%◌, ◌^◌, ◌<◌, ◌≤◌, ◌≢◌, List, ◌∷◌, length, refl, sym, ap, ◌∙◌, arith, subst}
 use Rattle.std.specs.Prelude.{Option, Some, None, slice_index}
 use Rattle.std.proofs.lemmas.List.{ext_get_or}
 use Rattle.clover_words.specs.Pack.{AreBytes, words_of, packed, eight_at}
@@ -7,7 +7,7 @@ use Rattle.std.specs.Int.{w64, to_be_bytes}
 use Rattle.clover_words.specs.Meta.{meta_word}
 use Rattle.clover_words.proofs.Packing.{one_byte, packed_spells}
 use Rattle.clover_words.specs.declared.pool.Pool.{Pool}
-use Rattle.clover_words.specs.declared.meta.Kind.TheVariants.{Value as IsValue, Tombstone}
+use Rattle.clover_words.specs.declared.meta.Kind.TheVariants.{Value as IsValue}
 use Rattle.clover_map.specs.declared.bytes.Value.{Value}
 use Rattle.clover_rule.specs.Content.{content, tombstone, value_meta, all_words, words_from, Fits, spelling, IsKey, Spells, Unpacks}
 use Rattle.clover_rule.specs.Lists.{nth}
@@ -81,7 +81,7 @@ one_key f j k hj hk sj sk =
     let word_k : (i : ℕ) → i < words_of (suc (length k)) → f i ≡ packed (length k ∷ k) i = λ i b. sk i (packed (length k ∷ k) i) (nth_all (length k ∷ k) i b) in
     let lens : length j ≡ length k = one_byte (length j ∷ j) (length k ∷ k) 0 (key_bytes j hj) (key_bytes k hk) (sym (word_j 0 (omega arith)) ∙ word_k 0 (omega arith)) in
     tail_same (length j) (length k) j k (same_bytes (length j ∷ j) (length k ∷ k) (key_bytes j hj) (key_bytes k hk) (ap suc lens)
-      (λ i b. sym (word_j i b) ∙ word_k i (subst (λ (n : ℕ). i < words_of (suc n)) lens b)))
+    (λ i b. sym (word_j i b) ∙ word_k i (subst (λ (n : ℕ). i < words_of (suc n)) lens b)))
 
 eight_byte : (bytes : List ℕ) (k i : ℕ) → i < 8 → slice_index (eight_at bytes k) i ≡ slice_index bytes (8 * k + i)
 eight_byte bytes k zero lt = ap (slice_index bytes) (omega arith)
@@ -102,10 +102,10 @@ read_content p None x f g n h ws = absurd (meta_apart x.flags (length x.bytes) g
 read_content p (Some z) x f g n h ws =
     let e : (z.flags ≡ x.flags) × (length z.bytes ≡ length x.bytes) = meta_parts z.flags (length z.bytes) x.flags (length x.bytes) f.0 (short_enough p (length z.bytes) f.1) g n (h (value_meta z) refl) in
     ap Some (value_same z x e.0 (ext_get_or 0 z.bytes x.bytes e.1 (λ i lt.
-      let k : ℕ = i / 8 in let r : ℕ = i % 8 in
-      let kl : k < words_of (length x.bytes) = let q = e.1 in omega arith in
-      let w = ws k kl in
-      let is : packed z.bytes k ≡ w.0 = w.1 (packed z.bytes k) (nth_all z.bytes k (let q = e.1 in omega arith)) in
-      let place : i ≡ 8 * k + r = omega arith in
-      let lr : r < 8 = omega arith in
-      ap (slice_index z.bytes) place ∙ sym (eight_byte z.bytes k r lr) ∙ ap (λ (l : List ℕ). slice_index l r) (sym (packed_spells z.bytes k f.2) ∙ ap (to_be_bytes w64) is) ∙ w.2 r lr (let q = e.1 in omega arith) ∙ ap (slice_index x.bytes) (sym place))))
+    let k : ℕ = i / 8 in let r : ℕ = i % 8 in
+    let kl : k < words_of (length x.bytes) = let q = e.1 in omega arith in
+    let w = ws k kl in
+    let is : packed z.bytes k ≡ w.0 = w.1 (packed z.bytes k) (nth_all z.bytes k (let q = e.1 in omega arith)) in
+    let place : i ≡ 8 * k + r = omega arith in
+    let lr : r < 8 = omega arith in
+    ap (slice_index z.bytes) place ∙ sym (eight_byte z.bytes k r lr) ∙ ap (λ (l : List ℕ). slice_index l r) (sym (packed_spells z.bytes k f.2) ∙ ap (to_be_bytes w64) is) ∙ w.2 r lr (let q = e.1 in omega arith) ∙ ap (slice_index x.bytes) (sym place))))

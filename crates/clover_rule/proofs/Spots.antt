@@ -1,20 +1,13 @@
 -- Where a buffer stands on the chains of a sound image, by search.
-use Rattle.std.proofs.Common.{◌≡◌, ℕ, zero, suc, ◌+◌, ◌<◌, ◌≤◌, ◌≢◌, ◌⊎◌, List, [], ◌∷◌, ◌++◌, length, length-append, set, append_assoc, append-nil, Bool, true, false, cond, eqb, ltb, leb, refl, sym, ap, ◌∙◌, inl, inr, ⊎_elim, arith, subst, eq-eqb, ne_eqb, eqb-true, true≢false}
-use native.Mathlib.Decide.{ℕ_discrete, dec_le}
+use Rattle.std.proofs.Common.{◌≡◌, ℕ, zero, suc, ◌<◌, List, [], ◌∷◌, Bool, true, false, cond, eqb, refl, sym, ap, ◌∙◌, arith, subst, eq-eqb, eqb-true}
+use native.Mathlib.Decide.{ℕ_discrete}
 use mathlib.Core.Logic.{dite}
 use Rattle.std.specs.Prelude.{Option, Some, None}
-use Rattle.std.proofs.lemmas.Bool.Decides.{nat_tests}
-use Rattle.clover_map.specs.declared.bytes.Value.{Value}
-use Rattle.clover_map.specs.declared.call.Entry.{Entry}
 use Rattle.clover_rule.specs.Image.{Image, Chain}
 use Rattle.clover_rule.specs.Lists.{nth}
 use Rattle.clover_rule.specs.Server.{Sound}
-use Rattle.clover_rule.specs.State.{home, Core}
+use Rattle.clover_rule.specs.State.{home}
 use Rattle.clover_words.specs.declared.pool.Pool.{Pool}
-use Rattle.clover_rule.proofs.Tools.{upd_same, upd_else, nth_within, nth_snoc, nth_front, nth_last, nth_past, nth_none}
-use Rattle.clover_rule.proofs.Standings.{tag_there, tag_within, tag_past, same_tag, one_buffer}
-use Rattle.clover_rule.proofs.Steps.{each_map, each_within, prefix_trans, prefix_self, within_prefix, Grows, Leaves, view_kept, nth_set, set_here, set_away, link_kept, durable_kept, past_kept, copied_kept}
-
 
 next_place : Option ℕ → Option ℕ
 next_place None = None
@@ -32,6 +25,7 @@ found_at (t ∷ us) b i e = go (found_at us b) (eqb (home t) b) refl e
     after : ((j : ℕ) → find us b ≡ Some j → (u : ℕ) × (nth us j ≡ Some u) × (home u ≡ b)) → (x : Option ℕ) → find us b ≡ x → next_place x ≡ Some i → (u : ℕ) × (nth (t ∷ us) i ≡ Some u) × (home u ≡ b)
     after rec None q f = absurd cc
     after rec (Some j) q f = let a = rec j q in let z : suc j ≡ i = cc in (a.0, subst (λ (x : ℕ). nth (t ∷ us) x ≡ Some a.0) z a.1, a.2)
+
     go : ((j : ℕ) → find us b ≡ Some j → (u : ℕ) × (nth us j ≡ Some u) × (home u ≡ b)) → (x : Bool) → eqb (home t) b ≡ x → cond x (Some 0) (next_place (find us b)) ≡ Some i → (u : ℕ) × (nth (t ∷ us) i ≡ Some u) × (home u ≡ b)
     go rec true q f = let z : 0 ≡ i = cc in (t, subst (λ (x : ℕ). nth (t ∷ us) x ≡ Some t) z refl, eqb-true (home t) b q)
     go rec false q f = after rec (find us b) refl f
@@ -61,6 +55,7 @@ spot_at f (suc n) b s i e = go (spot_at f n b s i) (find (f n) b) refl e
   where
     parts : (p q : ℕ × ℕ) → Some p ≡ Some q → p ≡ q
     parts p q e = cc
+
     go : (spot_below f n b ≡ Some (s, i) → (t : ℕ) × (nth (f s) i ≡ Some t) × (home t ≡ b)) → (x : Option ℕ) → find (f n) b ≡ x → here_or n x (spot_below f n b) ≡ Some (s, i) → (t : ℕ) × (nth (f s) i ≡ Some t) × (home t ≡ b)
     go rec None q g = rec g
     go rec (Some j) q g = let a = found_at (f n) b j q in let z = parts (n, j) (s, i) g in (a.0, subst (λ (p : ℕ × ℕ). nth (f p.0) p.1 ≡ Some a.0) z a.1, a.2)
@@ -86,6 +81,7 @@ module _ (l : Pool) (im : Image) (sound : Sound l im) where
       nil : (us : List ℕ) → Chain im None us → nth us i ≡ Some t → ⊥
       nil [] c q = absurd cc
       nil (u ∷ us) c q = c
+
       go : (x : Option ℕ) → im.root s ≡ x → s < l.slots
       go (Some y) q = sound.inside s y q
       go None q = absurd (nil (sound.chain s) (subst (λ (x : Option ℕ). Chain im x (sound.chain s)) q (sound.walk s)) e)

@@ -1,16 +1,15 @@
 -- The laws of a recycling's steps, of a binding's flushed root and of the count.
-use Rattle.std.proofs.Common.{◌≡◌, ℕ, zero, suc, ◌+◌, ◌<◌, ◌≤◌, ◌≢◌, ◌⊎◌, List, [], ◌∷◌, ◌++◌, length, length-append, set, append_assoc, append-nil, Bool, true, false, cond, eqb, ltb, leb, refl, sym, ap, ◌∙◌, inl, inr, ⊎_elim, arith, subst, eq-eqb, ne_eqb, eqb-true, true≢false}
-use native.Mathlib.Decide.{ℕ_discrete, dec_le}
+use Rattle.std.proofs.Common.{◌≡◌, ℕ, suc, ◌<◌, ◌≤◌, ◌≢◌, ◌⊎◌, List, [], ◌∷◌, ◌++◌, length, length-append, append-nil, Bool, true, false, cond, ltb, leb, refl, sym, ap, ◌∙◌, inl, inr, ⊎_elim, arith, true≢false}
+use native.Mathlib.Decide.{ℕ_discrete}
 use mathlib.Core.Logic.{dite}
 use Rattle.std.specs.Prelude.{Option, Some, None}
 use Rattle.std.proofs.lemmas.Bool.Decides.{nat_tests}
-use Rattle.clover_map.specs.declared.bytes.Value.{Value}
 use Rattle.clover_map.specs.declared.call.Entry.{Entry}
 use Rattle.clover_rule.specs.Content.{inside}
-use Rattle.clover_rule.specs.History.{Version, Map, own}
+use Rattle.clover_rule.specs.History.{Version, Map}
 use Rattle.clover_rule.specs.Lists.{nth, upd, Within, IsPrefix}
-use Rattle.clover_rule.specs.Server.{unnamed, holding, IsRecycling, Stage, root_in, is_home, book_of, Serves, Whole, IsWhole, LoadRoot, FlushLink, StoreRoot, StoreFlushedRoot, BindFlushedRoot, StoreCount, served_view}
-use Rattle.clover_rule.specs.State.{home, age, Next, word, gen, link, Mem, Taken, Story, tag_at, now_at, Core, unsure, greater, order, raised_mem, raised_story, greatest}
+use Rattle.clover_rule.specs.Server.{holding, IsRecycling, Stage, root_in, is_home, book_of, Serves, Whole, IsWhole, LoadRoot, FlushLink, StoreRoot, StoreFlushedRoot, BindFlushedRoot, StoreCount, served_view}
+use Rattle.clover_rule.specs.State.{home, age, Next, word, gen, Mem, Taken, Story, tag_at, now_at, unsure, greater, order, raised_mem, raised_story, greatest}
 use Rattle.clover_rule.specs.Views.{Basis, renewed, root_at, book_at}
 use Rattle.clover_rule.specs.declared.view.Role.TheVariants.{Serving}
 use Rattle.clover_rule.specs.declared.view.Server.{Server}
@@ -18,16 +17,12 @@ use Rattle.clover_rule.specs.declared.view.Task.{Task}
 use Rattle.clover_rule.specs.declared.view.Task.TheVariants.{Idle, Rooted, Waiting, Loaded, Raised, Led, Both}
 use Rattle.clover_rule.specs.declared.view.View.{View}
 use Rattle.clover_words.specs.declared.pool.Pool.{Pool}
-use Rattle.clover_rule.proofs.Tools.{upd_same, upd_else, nth_within, nth_snoc, nth_front, nth_last, nth_past, nth_none}
-use Rattle.clover_rule.proofs.Standings.{tag_there, tag_within, tag_past, same_tag, one_buffer}
-use Rattle.clover_rule.proofs.Steps.{each_map, each_within, prefix_trans, prefix_self, within_prefix, Grows, Leaves, view_kept, nth_set, set_here, set_away, link_kept, durable_kept, past_kept, copied_kept}
-
-use Rattle.clover_rule.proofs.ServerTools.{core_copy, Moves, whole, book_same, free_place, hold_core, tale_copy}
+use Rattle.clover_rule.proofs.Tools.{upd_same, upd_else}
+use Rattle.clover_rule.proofs.Steps.{prefix_self, within_prefix, Grows, durable_kept}
+use Rattle.clover_rule.proofs.ServerTools.{core_copy, whole, book_same, tale_copy}
 use Rattle.clover_rule.proofs.ServerLaws.{stage_at, serves_at}
-use Rattle.clover_rule.proofs.Roots.{root_core, rooted_story, lead_cases, flush_core, flushed_story, flead_cases, freed_core, freed_story, freed_mem}
-use Rattle.clover_rule.proofs.Raising.{CanRaise, raise_core}
-use Rattle.clover_rule.proofs.Recycling.{CanRecycle, recycle_core, stands, is, else_same, gone_cases, behind}
-use Rattle.clover_rule.proofs.RecycleLaw.{gens', grows, leaves, spent_kept}
+use Rattle.clover_rule.proofs.Roots.{root_core, flush_core, flead_cases}
+use Rattle.clover_rule.proofs.Raising.{raise_core}
 use Rattle.clover_rule.proofs.Cuts.{unread_less}
 
 pub grow_refl : (m m' : Mem) (st st' : Story) (h : List Entry) → ((s : ℕ) → st'.log s ≡ st.log s) → ((s : ℕ) → st'.sure s ≡ st.sure s) → ((s : ℕ) → st'.gone s ≡ st.gone s) → ((b : ℕ) → m'.next b ≡ m.next b) → IsPrefix st.bindings st'.bindings → m.count ≤ m'.count → Grows m st h m' st' h
@@ -51,6 +46,7 @@ gen_least o n = go (ltb (order o) (order n)) refl
     rises (word a None) (word b (Some y)) q = grind (arith, nat_tests)
     rises (word a (Some x)) (word b None) q = grind (arith, nat_tests)
     rises (word a (Some x)) (word b (Some y)) q = grind (arith, nat_tests)
+
     go : (b : Bool) → ltb (order o) (order n) ≡ b → gen o ≤ gen (cond b n o)
     go true q = rises o n q
     go false q = omega arith
@@ -82,22 +78,30 @@ module _ (l : Pool) (m0 : Map) (used : List ℕ) (m : Mem) (vs : List View) (id 
     recycling = record { root = at_root; next = let q = (ru.core.standing s (st.gone s) r at_root (omega arith)).now in let z : now_at st s (st.gone s) r ≡ word (age r) (Some t) = sym q ∙ found in cc }
 
     pub load_root_whole : IsWhole l m0 used m (renewed vs id (served_view l (LoadRoot s r t) v))
-    load_root_whole = let p = w.help in let g = stage_of Idle e in let sv = serves_of Idle e in (record st { task = Loaded s r t }, h, whole l m0 used m vs st h w id v at role (LoadRoot s r t) m (record st { task = Loaded s r t })
-        record {
-          core = core_copy m st ru.core m.body m.fbody m.key m.fkey m.short m.count st.keys st.first st.bindings (Loaded s r t) st.slot_named;
-          tale = tale_copy st m0 used h ru.tale st.place st.gone st.lead st.flead st.named st.bindings (Loaded s r t) st.slot_named;
-          bodies = ru.bodies; spent = λ y q. q; bound = ru.bound; keyed = ru.keyed;
-          grows = grow_refl m m st (record st { task = Loaded s r t }) h (λ a. refl) (λ a. refl) (λ a. refl) (λ a. refl) (prefix_self st.bindings) (omega arith);
-          leaves = λ j b f. record { place = f; next = refl; body = λ y. refl; fbody = λ y. refl };
-          help = record {
-            ranged = let a = p.ranged in record { tags = a.tags; own = a.own; below = a.below; ready = a.ready; worn = a.worn; fits = a.fits };
-            keyed = let a = p.keyed in record { valid = a.valid; current = a.current; flushed = a.flushed; bare = a.bare; nameless = a.nameless; filled = a.filled; slots = a.slots };
-            naming = let a = p.naming in record { counted = a.counted; found = a.found; listed = a.listed; waiting = a.waiting };
-            stage = record { settled = λ s1 q. g.settled s1 (λ z. absurd cc); holds = λ b q. g.holds b q; names = g.names; here = record { root = recycling.root; next = recycling.next } };
-            short = p.short };
-          fgens = λ b. omega arith
-        }
-        record { task_is = refl; directory = sv.directory; roots = sv.roots; books = λ b i. books_still l m st (record st { task = Loaded s r t }) Idle (Loaded s r t) v.server g refl sv (λ s1. refl) b i })
+    load_root_whole = let p = w.help in let g = stage_of Idle e in let sv = serves_of Idle e in (
+      record st { task = Loaded s r t },
+      h,
+      whole l m0 used m vs st h w id v at role (LoadRoot s r t) m (record st { task = Loaded s r t })
+          record {
+            core = core_copy m st ru.core m.body m.fbody m.key m.fkey m.short m.count st.keys st.first st.bindings (Loaded s r t) st.slot_named;
+            tale = tale_copy st m0 used h ru.tale st.place st.gone st.lead st.flead st.named st.bindings (Loaded s r t) st.slot_named;
+            bodies = ru.bodies;
+            spent = λ y q. q;
+            bound = ru.bound;
+            keyed = ru.keyed;
+            grows = grow_refl m m st (record st { task = Loaded s r t }) h (λ a. refl) (λ a. refl) (λ a. refl) (λ a. refl) (prefix_self st.bindings) (omega arith);
+            leaves = λ j b f. record { place = f; next = refl; body = λ y. refl; fbody = λ y. refl };
+            help = record {
+              ranged = let a = p.ranged in record { tags = a.tags; own = a.own; below = a.below; ready = a.ready; worn = a.worn; fits = a.fits };
+              keyed = let a = p.keyed in record { valid = a.valid; current = a.current; flushed = a.flushed; bare = a.bare; nameless = a.nameless; filled = a.filled; slots = a.slots };
+              naming = let a = p.naming in record { counted = a.counted; found = a.found; listed = a.listed; waiting = a.waiting };
+              stage = record { settled = λ s1 q. g.settled s1 (λ z. absurd cc); holds = λ b q. g.holds b q; names = g.names; here = record { root = recycling.root; next = recycling.next } };
+              short = p.short;
+            };
+            fgens = λ b. omega arith;
+          }
+          record { task_is = refl; directory = sv.directory; roots = sv.roots; books = λ b i. books_still l m st (record st { task = Loaded s r t }) Idle (Loaded s r t) v.server g refl sv (λ s1. refl) b i },
+    )
 
   -- the raise over its link
   module _ (s r t : ℕ) (e : v.server.task ≡ Loaded s r t) where
@@ -135,24 +139,44 @@ module _ (l : Pool) (m0 : Map) (used : List ℕ) (m : Mem) (vs : List View) (id 
     else_f b n = upd_else m.fnext (home r) b (greater (m.fnext (home r)) (word (age r) (Some t))) n
 
     pub flush_link_whole : IsWhole l m0 used ms (renewed vs id (served_view l (FlushLink s r t) v))
-    flush_link_whole = let p = w.help in let sv = serves_of (Loaded s r t) e in (ss, h, whole l m0 used m vs st h w id v at role (FlushLink s r t) ms ss
-        record {
-          core = core_copy ms (raised_story st s (st.gone s)) (raise_core m st s (st.gone s) r t ru.core record { from = gl.here.root; to = gl.here.next }) m.body m.fbody m.key m.fkey m.short m.count st.keys st.first st.bindings (Raised s r t) st.slot_named;
-          tale = record { legal = ru.tale.legal; told = ru.tale.told; began = ru.tale.began;
-            unread = unread_less (unsure st) (unsure ss) (λ y q. test (st.sure (st.slot_of y)) (ss.sure (st.slot_of y)) (st.rank y) (sure_more (st.slot_of y)) q) h ru.tale.unread;
-            settled = λ s1 j y q. let a = ru.tale.settled s1 j y q in let b = sure_more s1 in omega arith; unbound = ru.tale.unbound };
-          bodies = ru.bodies; spent = λ y q. q; bound = ru.bound; keyed = ru.keyed; grows = grow;
-          leaves = λ j b f. record { place = f; next = refl; body = λ y. refl; fbody = λ y. refl };
-          help = record {
-            ranged = let a = p.ranged in record { tags = a.tags; own = a.own; ready = a.ready; worn = a.worn; fits = a.fits;
-              below = λ b. dite (ℕ_discrete b (home r)) (λ d. rw d (rw new_f (gen_most (m.fnext (home r)) (word (age r) (Some t)) (gen (m.next (home r))) (a.below (home r)) (let z = ap gen (ru.core.standing s (st.gone s) r gl.here.root (omega arith)).now in omega arith)))) (λ n. let z = ap gen (else_f b n) in let z1 = a.below b in omega arith) };
-            keyed = let a = p.keyed in record { valid = a.valid; current = a.current; flushed = a.flushed; bare = a.bare; nameless = a.nameless; filled = a.filled; slots = a.slots };
-            naming = let a = p.naming in record { counted = a.counted; found = a.found; listed = a.listed; waiting = a.waiting };
-            stage = record { settled = λ s1 q. gl.settled s1 (λ z. absurd cc); holds = λ b q. gl.holds b q; names = gl.names; here = (record { root = gl.here.root; next = gl.here.next }, now_sure) };
-            short = λ s1 y q. durable_kept m st h ms ss h grow s1 y (p.short s1 y q) };
-          fgens = λ b. dite (ℕ_discrete b (home r)) (λ d. rw d (rw new_f (gen_least (m.fnext (home r)) (word (age r) (Some t))))) (λ n. let z = ap gen (else_f b n) in omega arith)
-        }
-        record { task_is = refl; directory = sv.directory; roots = sv.roots; books = λ b i. books_still l m st ss (Loaded s r t) (Raised s r t) v.server gl refl sv (λ s1. refl) b i })
+    flush_link_whole = let p = w.help in let sv = serves_of (Loaded s r t) e in (
+      ss,
+      h,
+      whole l m0 used m vs st h w id v at role (FlushLink s r t) ms ss
+          record {
+            core = core_copy ms (raised_story st s (st.gone s)) (raise_core m st s (st.gone s) r t ru.core record { from = gl.here.root; to = gl.here.next }) m.body m.fbody m.key m.fkey m.short m.count st.keys st.first st.bindings (Raised s r t) st.slot_named;
+            tale = record {
+              legal = ru.tale.legal;
+              told = ru.tale.told;
+              began = ru.tale.began;
+              unread = unread_less (unsure st) (unsure ss) (λ y q. test (st.sure (st.slot_of y)) (ss.sure (st.slot_of y)) (st.rank y) (sure_more (st.slot_of y)) q) h ru.tale.unread;
+              settled = λ s1 j y q. let a = ru.tale.settled s1 j y q in let b = sure_more s1 in omega arith;
+              unbound = ru.tale.unbound;
+            };
+            bodies = ru.bodies;
+            spent = λ y q. q;
+            bound = ru.bound;
+            keyed = ru.keyed;
+            grows = grow;
+            leaves = λ j b f. record { place = f; next = refl; body = λ y. refl; fbody = λ y. refl };
+            help = record {
+              ranged = let a = p.ranged in record {
+                tags = a.tags;
+                own = a.own;
+                ready = a.ready;
+                worn = a.worn;
+                fits = a.fits;
+                below = λ b. dite (ℕ_discrete b (home r)) (λ d. rw d (rw new_f (gen_most (m.fnext (home r)) (word (age r) (Some t)) (gen (m.next (home r))) (a.below (home r)) (let z = ap gen (ru.core.standing s (st.gone s) r gl.here.root (omega arith)).now in omega arith)))) (λ n. let z = ap gen (else_f b n) in let z1 = a.below b in omega arith);
+              };
+              keyed = let a = p.keyed in record { valid = a.valid; current = a.current; flushed = a.flushed; bare = a.bare; nameless = a.nameless; filled = a.filled; slots = a.slots };
+              naming = let a = p.naming in record { counted = a.counted; found = a.found; listed = a.listed; waiting = a.waiting };
+              stage = record { settled = λ s1 q. gl.settled s1 (λ z. absurd cc); holds = λ b q. gl.holds b q; names = gl.names; here = (record { root = gl.here.root; next = gl.here.next }, now_sure) };
+              short = λ s1 y q. durable_kept m st h ms ss h grow s1 y (p.short s1 y q);
+            };
+            fgens = λ b. dite (ℕ_discrete b (home r)) (λ d. rw d (rw new_f (gen_least (m.fnext (home r)) (word (age r) (Some t))))) (λ n. let z = ap gen (else_f b n) in omega arith);
+          }
+          record { task_is = refl; directory = sv.directory; roots = sv.roots; books = λ b i. books_still l m st ss (Loaded s r t) (Raised s r t) v.server gl refl sv (λ s1. refl) b i },
+    )
 
   -- the store of the root
   module _ (s r t : ℕ) (e : v.server.task ≡ Raised s r t) where
@@ -166,24 +190,35 @@ module _ (l : Pool) (m0 : Map) (used : List ℕ) (m : Mem) (vs : List View) (id 
     sr = record st { lead = upd st.lead s (suc (st.gone s)); task = Led s r t }
 
     pub store_root_whole : IsWhole l m0 used mr (renewed vs id (served_view l (StoreRoot s r t) v))
-    store_root_whole = let p = w.help in let sv = serves_of (Raised s r t) e in (sr, h, whole l m0 used m vs st h w id v at role (StoreRoot s r t) mr sr
-        record {
-          core = core_copy mr (record st { lead = upd st.lead s (suc (st.gone s)) }) (root_core m st s r t ru.core gr.here.0.root gr.here.0.next gr.here.1) m.body m.fbody m.key m.fkey m.short m.count st.keys st.first st.bindings (Led s r t) st.slot_named;
-          tale = tale_copy st m0 used h ru.tale st.place st.gone (upd st.lead s (suc (st.gone s))) st.flead st.named st.bindings (Led s r t) st.slot_named;
-          bodies = ru.bodies; spent = λ y q. q; bound = ru.bound; keyed = ru.keyed;
-          grows = grow_refl m mr st sr h (λ a. refl) (λ a. refl) (λ a. refl) (λ a. refl) (prefix_self st.bindings) (omega arith);
-          leaves = λ j b f. record { place = f; next = refl; body = λ y. refl; fbody = λ y. refl };
-          help = record {
-            ranged = let a = p.ranged in record { tags = a.tags; own = a.own; below = a.below; ready = a.ready; worn = a.worn; fits = a.fits };
-            keyed = let a = p.keyed in record { valid = a.valid; current = a.current; flushed = a.flushed; bare = a.bare; nameless = a.nameless; filled = a.filled; slots = a.slots };
-            naming = let a = p.naming in record { counted = a.counted; found = a.found; listed = a.listed; waiting = a.waiting };
-            stage = record {
-              settled = λ s1 q. let d : s1 ≢ s = λ z. q (ap Some (sym z)) in let a = gr.settled s1 (λ z. absurd cc) in (upd_else st.lead s s1 (suc (st.gone s)) d ∙ a.0, a.1);
-              holds = λ b q. gr.holds b q; names = gr.names; here = (record { root = gr.here.0.root; next = gr.here.0.next }, gr.here.1, upd_same st.lead s (suc (st.gone s)), (gr.settled s (λ z. absurd cc)).1) };
-            short = p.short };
-          fgens = λ b. omega arith
-        }
-        record { task_is = refl; directory = sv.directory; roots = sv.roots; books = λ b i. books_still l m st sr (Raised s r t) (Led s r t) v.server gr refl sv (λ s1. refl) b i })
+    store_root_whole = let p = w.help in let sv = serves_of (Raised s r t) e in (
+      sr,
+      h,
+      whole l m0 used m vs st h w id v at role (StoreRoot s r t) mr sr
+          record {
+            core = core_copy mr (record st { lead = upd st.lead s (suc (st.gone s)) }) (root_core m st s r t ru.core gr.here.0.root gr.here.0.next gr.here.1) m.body m.fbody m.key m.fkey m.short m.count st.keys st.first st.bindings (Led s r t) st.slot_named;
+            tale = tale_copy st m0 used h ru.tale st.place st.gone (upd st.lead s (suc (st.gone s))) st.flead st.named st.bindings (Led s r t) st.slot_named;
+            bodies = ru.bodies;
+            spent = λ y q. q;
+            bound = ru.bound;
+            keyed = ru.keyed;
+            grows = grow_refl m mr st sr h (λ a. refl) (λ a. refl) (λ a. refl) (λ a. refl) (prefix_self st.bindings) (omega arith);
+            leaves = λ j b f. record { place = f; next = refl; body = λ y. refl; fbody = λ y. refl };
+            help = record {
+              ranged = let a = p.ranged in record { tags = a.tags; own = a.own; below = a.below; ready = a.ready; worn = a.worn; fits = a.fits };
+              keyed = let a = p.keyed in record { valid = a.valid; current = a.current; flushed = a.flushed; bare = a.bare; nameless = a.nameless; filled = a.filled; slots = a.slots };
+              naming = let a = p.naming in record { counted = a.counted; found = a.found; listed = a.listed; waiting = a.waiting };
+              stage = record {
+                settled = λ s1 q. let d : s1 ≢ s = λ z. q (ap Some (sym z)) in let a = gr.settled s1 (λ z. absurd cc) in (upd_else st.lead s s1 (suc (st.gone s)) d ∙ a.0, a.1);
+                holds = λ b q. gr.holds b q;
+                names = gr.names;
+                here = (record { root = gr.here.0.root; next = gr.here.0.next }, gr.here.1, upd_same st.lead s (suc (st.gone s)), (gr.settled s (λ z. absurd cc)).1);
+              };
+              short = p.short;
+            };
+            fgens = λ b. omega arith;
+          }
+          record { task_is = refl; directory = sv.directory; roots = sv.roots; books = λ b i. books_still l m st sr (Raised s r t) (Led s r t) v.server gr refl sv (λ s1. refl) b i },
+    )
 
   -- the store of its flushed copy
   module _ (s r t : ℕ) (e : v.server.task ≡ Led s r t) where
@@ -197,24 +232,35 @@ module _ (l : Pool) (m0 : Map) (used : List ℕ) (m : Mem) (vs : List View) (id 
     sf = record st { flead = upd st.flead s (st.lead s); task = Both s r t }
 
     pub store_flushed_whole : IsWhole l m0 used mf (renewed vs id (served_view l (StoreFlushedRoot s r t) v))
-    store_flushed_whole = let p = w.help in let sv = serves_of (Led s r t) e in (sf, h, whole l m0 used m vs st h w id v at role (StoreFlushedRoot s r t) mf sf
-        record {
-          core = core_copy mf (record st { flead = upd st.flead s (st.lead s) }) (flush_core m st s t ru.core (ap (tag_at st s) gd.here.2 ∙ gd.here.0.next)) m.body m.fbody m.key m.fkey m.short m.count st.keys st.first st.bindings (Both s r t) st.slot_named;
-          tale = tale_copy st m0 used h ru.tale st.place st.gone st.lead (upd st.flead s (st.lead s)) st.named st.bindings (Both s r t) st.slot_named;
-          bodies = ru.bodies; spent = λ y q. q; bound = ru.bound; keyed = ru.keyed;
-          grows = grow_refl m mf st sf h (λ a. refl) (λ a. refl) (λ a. refl) (λ a. refl) (prefix_self st.bindings) (omega arith);
-          leaves = λ j b f. record { place = f; next = refl; body = λ y. refl; fbody = λ y. refl };
-          help = record {
-            ranged = let a = p.ranged in record { tags = a.tags; own = a.own; below = a.below; ready = a.ready; worn = a.worn; fits = a.fits };
-            keyed = let a = p.keyed in record { valid = a.valid; current = a.current; flushed = a.flushed; bare = a.bare; nameless = a.nameless; filled = a.filled; slots = a.slots };
-            naming = let a = p.naming in record { counted = a.counted; found = a.found; listed = a.listed; waiting = a.waiting };
-            stage = record {
-              settled = λ s1 q. let d : s1 ≢ s = λ z. q (ap Some (sym z)) in let a = gd.settled s1 q in (a.0, upd_else st.flead s s1 (st.lead s) d ∙ a.1);
-              holds = λ b q. gd.holds b q; names = gd.names; here = (record { root = gd.here.0.root; next = gd.here.0.next }, gd.here.1, gd.here.2, upd_same st.flead s (st.lead s) ∙ gd.here.2) };
-            short = p.short };
-          fgens = λ b. omega arith
-        }
-        record { task_is = refl; directory = sv.directory; roots = sv.roots; books = λ b i. books_still l m st sf (Led s r t) (Both s r t) v.server gd refl sv (λ s1. refl) b i })
+    store_flushed_whole = let p = w.help in let sv = serves_of (Led s r t) e in (
+      sf,
+      h,
+      whole l m0 used m vs st h w id v at role (StoreFlushedRoot s r t) mf sf
+          record {
+            core = core_copy mf (record st { flead = upd st.flead s (st.lead s) }) (flush_core m st s t ru.core (ap (tag_at st s) gd.here.2 ∙ gd.here.0.next)) m.body m.fbody m.key m.fkey m.short m.count st.keys st.first st.bindings (Both s r t) st.slot_named;
+            tale = tale_copy st m0 used h ru.tale st.place st.gone st.lead (upd st.flead s (st.lead s)) st.named st.bindings (Both s r t) st.slot_named;
+            bodies = ru.bodies;
+            spent = λ y q. q;
+            bound = ru.bound;
+            keyed = ru.keyed;
+            grows = grow_refl m mf st sf h (λ a. refl) (λ a. refl) (λ a. refl) (λ a. refl) (prefix_self st.bindings) (omega arith);
+            leaves = λ j b f. record { place = f; next = refl; body = λ y. refl; fbody = λ y. refl };
+            help = record {
+              ranged = let a = p.ranged in record { tags = a.tags; own = a.own; below = a.below; ready = a.ready; worn = a.worn; fits = a.fits };
+              keyed = let a = p.keyed in record { valid = a.valid; current = a.current; flushed = a.flushed; bare = a.bare; nameless = a.nameless; filled = a.filled; slots = a.slots };
+              naming = let a = p.naming in record { counted = a.counted; found = a.found; listed = a.listed; waiting = a.waiting };
+              stage = record {
+                settled = λ s1 q. let d : s1 ≢ s = λ z. q (ap Some (sym z)) in let a = gd.settled s1 q in (a.0, upd_else st.flead s s1 (st.lead s) d ∙ a.1);
+                holds = λ b q. gd.holds b q;
+                names = gd.names;
+                here = (record { root = gd.here.0.root; next = gd.here.0.next }, gd.here.1, gd.here.2, upd_same st.flead s (st.lead s) ∙ gd.here.2);
+              };
+              short = p.short;
+            };
+            fgens = λ b. omega arith;
+          }
+          record { task_is = refl; directory = sv.directory; roots = sv.roots; books = λ b i. books_still l m st sf (Led s r t) (Both s r t) v.server gd refl sv (λ s1. refl) b i },
+    )
 
   -- a binding's store of the flushed root
   module _ (s : ℕ) (k : List ℕ) (t : ℕ) (e : v.server.task ≡ Rooted s k t) where
@@ -228,24 +274,35 @@ module _ (l : Pool) (m0 : Map) (used : List ℕ) (m : Mem) (vs : List View) (id 
     sb = record st { flead = upd st.flead s (st.lead s); task = Waiting s k t }
 
     pub bind_flushed_whole : IsWhole l m0 used mb (renewed vs id (served_view l (BindFlushedRoot s k t) v))
-    bind_flushed_whole = let p = w.help in let sv = serves_of (Rooted s k t) e in let a0 = gb.here.0 in (sb, h, whole l m0 used m vs st h w id v at role (BindFlushedRoot s k t) mb sb
-        record {
-          core = core_copy mb (record st { flead = upd st.flead s (st.lead s) }) (flush_core m st s t ru.core (ap (tag_at st s) ((gb.settled s (λ z. absurd cc)).0 ∙ a0.gone) ∙ a0.tag)) m.body m.fbody m.key m.fkey m.short m.count st.keys st.first st.bindings (Waiting s k t) st.slot_named;
-          tale = tale_copy st m0 used h ru.tale st.place st.gone st.lead (upd st.flead s (st.lead s)) st.named st.bindings (Waiting s k t) st.slot_named;
-          bodies = ru.bodies; spent = λ y q. q; bound = ru.bound; keyed = ru.keyed;
-          grows = grow_refl m mb st sb h (λ a. refl) (λ a. refl) (λ a. refl) (λ a. refl) (prefix_self st.bindings) (omega arith);
-          leaves = λ j b f. record { place = f; next = refl; body = λ y. refl; fbody = λ y. refl };
-          help = record {
-            ranged = let a = p.ranged in record { tags = a.tags; own = a.own; below = a.below; ready = a.ready; worn = a.worn; fits = a.fits };
-            keyed = let a = p.keyed in record { valid = a.valid; current = a.current; flushed = a.flushed; bare = a.bare; nameless = a.nameless; filled = a.filled; slots = a.slots };
-            naming = let a = p.naming in record { counted = a.counted; found = a.found; listed = a.listed; waiting = a.waiting };
-            stage = record {
-              settled = λ s1 q. let a = gb.settled s1 (λ z. absurd cc) in (a.0, ⊎_elim (λ d. d.1 ∙ ap st.lead (sym d.0) ∙ a.0) (λ d. d.1 ∙ a.1) (flead_cases m st s t ru.core (ap (tag_at st s) ((gb.settled s (λ z. absurd cc)).0 ∙ a0.gone) ∙ a0.tag) s1));
-              holds = λ b q. gb.holds b q; names = gb.names; here = (record { key = a0.key; unnamed = a0.unnamed; alone = a0.alone; tag = a0.tag; gone = a0.gone }, upd_same m.froot s (Some t)) };
-            short = p.short };
-          fgens = λ b. omega arith
-        }
-        record { task_is = refl; directory = sv.directory; roots = sv.roots; books = λ b i. books_still l m st sb (Rooted s k t) (Waiting s k t) v.server gb refl sv (λ s1. refl) b i })
+    bind_flushed_whole = let p = w.help in let sv = serves_of (Rooted s k t) e in let a0 = gb.here.0 in (
+      sb,
+      h,
+      whole l m0 used m vs st h w id v at role (BindFlushedRoot s k t) mb sb
+          record {
+            core = core_copy mb (record st { flead = upd st.flead s (st.lead s) }) (flush_core m st s t ru.core (ap (tag_at st s) ((gb.settled s (λ z. absurd cc)).0 ∙ a0.gone) ∙ a0.tag)) m.body m.fbody m.key m.fkey m.short m.count st.keys st.first st.bindings (Waiting s k t) st.slot_named;
+            tale = tale_copy st m0 used h ru.tale st.place st.gone st.lead (upd st.flead s (st.lead s)) st.named st.bindings (Waiting s k t) st.slot_named;
+            bodies = ru.bodies;
+            spent = λ y q. q;
+            bound = ru.bound;
+            keyed = ru.keyed;
+            grows = grow_refl m mb st sb h (λ a. refl) (λ a. refl) (λ a. refl) (λ a. refl) (prefix_self st.bindings) (omega arith);
+            leaves = λ j b f. record { place = f; next = refl; body = λ y. refl; fbody = λ y. refl };
+            help = record {
+              ranged = let a = p.ranged in record { tags = a.tags; own = a.own; below = a.below; ready = a.ready; worn = a.worn; fits = a.fits };
+              keyed = let a = p.keyed in record { valid = a.valid; current = a.current; flushed = a.flushed; bare = a.bare; nameless = a.nameless; filled = a.filled; slots = a.slots };
+              naming = let a = p.naming in record { counted = a.counted; found = a.found; listed = a.listed; waiting = a.waiting };
+              stage = record {
+                settled = λ s1 q. let a = gb.settled s1 (λ z. absurd cc) in (a.0, ⊎_elim (λ d. d.1 ∙ ap st.lead (sym d.0) ∙ a.0) (λ d. d.1 ∙ a.1) (flead_cases m st s t ru.core (ap (tag_at st s) ((gb.settled s (λ z. absurd cc)).0 ∙ a0.gone) ∙ a0.tag) s1));
+                holds = λ b q. gb.holds b q;
+                names = gb.names;
+                here = (record { key = a0.key; unnamed = a0.unnamed; alone = a0.alone; tag = a0.tag; gone = a0.gone }, upd_same m.froot s (Some t));
+              };
+              short = p.short;
+            };
+            fgens = λ b. omega arith;
+          }
+          record { task_is = refl; directory = sv.directory; roots = sv.roots; books = λ b i. books_still l m st sb (Rooted s k t) (Waiting s k t) v.server gb refl sv (λ s1. refl) b i },
+    )
 
   -- the store of the count
   module _ (s : ℕ) (k : List ℕ) (t : ℕ) (e : v.server.task ≡ Waiting s k t) where
@@ -268,35 +325,59 @@ module _ (l : Pool) (m0 : Map) (used : List ℕ) (m : Mem) (vs : List View) (id 
     unnamed_else s1 f z = true≢false (sym named_now ∙ ap sc.named (sym z) ∙ f)
 
     pub store_count_whole : IsWhole l m0 used mc (renewed vs id (served_view l (StoreCount s k t) v))
-    store_count_whole = let p = w.help in let sv = serves_of (Waiting s k t) e in let a0 = gc.here.0 in let c = ru.core in (sc, h, whole l m0 used m vs st h w id v at role (StoreCount s k t) mc sc
-        record {
-          core = record {
-            spotted = c.spotted;
-            passed = λ s1 i y f g. let x = c.passed s1 i y f g in record { later = x.later; safe = x.safe };
-            standing = λ s1 i y f g. let x = c.standing s1 i y f g in record { placed = x.placed; now = x.now; safe = x.safe };
-            sure_most = c.sure_most; sure_all = c.sure_all; rooted = c.rooted; bare = c.bare; led = c.led; root = c.root;
-            froot = λ s1. ⊎_elim inl (λ x. dite (ℕ_discrete s1 s) (λ d. absurd (cc (ap m.froot d, x.empty, gc.here.1))) (λ d. inr record { empty = x.empty; unnamed = named_else s1 d ∙ x.unnamed; alone = x.alone; dead = x.dead })) (c.froot s1);
-            loose = c.loose; held = c.held; chained = c.chained };
-          tale = tale_copy st m0 used h ru.tale st.place st.gone st.lead st.flead (upd st.named s true) (st.bindings ++ (s, k) ∷ []) Idle st.slot_named;
-          bodies = ru.bodies; spent = λ y q. q;
-          bound = λ s1 k1 q. ⊎_elim (λ b. let z = ru.bound s1 k1 b in (z.0, dite (ℕ_discrete s1 s) (λ d. ap sc.named d ∙ named_now) (λ d. named_else s1 d ∙ z.1))) (λ b. let z : s ≡ s1 = ap (λ (x : ℕ × List ℕ). x.0) b in let z1 : k ≡ k1 = ap (λ (x : ℕ × List ℕ). x.1) b in (ap st.keys (sym z) ∙ a0.key ∙ ap Some z1, ap sc.named (sym z) ∙ named_now)) (within_two (s1, k1) (s, k) st.bindings q);
-          keyed = ru.keyed;
-          grows = grow_refl m mc st sc h (λ a. refl) (λ a. refl) (λ a. refl) (λ a. refl) ((s, k) ∷ [], refl) (omega arith);
-          leaves = λ j b f. record { place = f; next = refl; body = λ y. refl; fbody = λ y. refl };
-          help = record {
-            ranged = let a = p.ranged in record { tags = a.tags; own = a.own; below = a.below; ready = a.ready; worn = a.worn; fits = a.fits };
-            keyed = let a = p.keyed in record { valid = a.valid; current = a.current; flushed = a.flushed; bare = a.bare; filled = a.filled; slots = a.slots;
-              nameless = λ s1 q. named_else s1 (λ z. absurd (cc (ap st.keys z, q, a0.key))) ∙ a.nameless s1 q };
-            naming = let a = p.naming in record {
-              counted = ap suc a.counted ∙ sym (let z : length (st.bindings ++ (s, k) ∷ []) ≡ suc (length st.bindings) = omega (arith, length-append st.bindings ((s, k) ∷ [])) in z);
-              found = a.found;
-              listed = λ s1 k1 q f. dite (ℕ_discrete s1 s) (λ d. let z : k1 ≡ k = cc (ap st.keys d, q, a0.key) in rw (d, z) (within_end (s, k) st.bindings)) (λ d. within_prefix (s1, k1) st.bindings ((s, k) ∷ []) (a.listed s1 k1 q (sym (named_else s1 d) ∙ f)));
-              waiting = λ s1 k1 q f. a.waiting s1 k1 q (sym (named_else s1 (unnamed_else s1 f)) ∙ f) };
-            stage = record {
-              settled = λ s1 q. gc.settled s1 (λ z. absurd cc); holds = λ b q. gc.holds b q;
-              names = λ s1 k1 q. inl (dite (ℕ_discrete s1 s) (λ d. ap sc.named d ∙ named_now) (λ d. named_else s1 d ∙ ⊎_elim (λ x. x) (λ x. absurd (d (let z : Some s ≡ Some s1 = x in cc))) (gc.names s1 k1 q)));
-              here = tt };
-            short = p.short };
-          fgens = λ b. omega arith
-        }
-        record { task_is = refl; directory = sv.directory ∙ sym (append-nil (st.bindings ++ (s, k) ∷ [])); roots = sv.roots; books = λ b i. books_still l m st sc (Waiting s k t) Idle v.server gc refl sv (λ s1. refl) b i })
+    store_count_whole = let p = w.help in let sv = serves_of (Waiting s k t) e in let a0 = gc.here.0 in let c = ru.core in (
+      sc,
+      h,
+      whole l m0 used m vs st h w id v at role (StoreCount s k t) mc sc
+          record {
+            core = record {
+              spotted = c.spotted;
+              passed = λ s1 i y f g. let x = c.passed s1 i y f g in record { later = x.later; safe = x.safe };
+              standing = λ s1 i y f g. let x = c.standing s1 i y f g in record { placed = x.placed; now = x.now; safe = x.safe };
+              sure_most = c.sure_most;
+              sure_all = c.sure_all;
+              rooted = c.rooted;
+              bare = c.bare;
+              led = c.led;
+              root = c.root;
+              froot = λ s1. ⊎_elim inl (λ x. dite (ℕ_discrete s1 s) (λ d. absurd (cc (ap m.froot d, x.empty, gc.here.1))) (λ d. inr record { empty = x.empty; unnamed = named_else s1 d ∙ x.unnamed; alone = x.alone; dead = x.dead })) (c.froot s1);
+              loose = c.loose;
+              held = c.held;
+              chained = c.chained;
+            };
+            tale = tale_copy st m0 used h ru.tale st.place st.gone st.lead st.flead (upd st.named s true) (st.bindings ++ (s, k) ∷ []) Idle st.slot_named;
+            bodies = ru.bodies;
+            spent = λ y q. q;
+            bound = λ s1 k1 q. ⊎_elim (λ b. let z = ru.bound s1 k1 b in (z.0, dite (ℕ_discrete s1 s) (λ d. ap sc.named d ∙ named_now) (λ d. named_else s1 d ∙ z.1))) (λ b. let z : s ≡ s1 = ap (λ (x : ℕ × List ℕ). x.0) b in let z1 : k ≡ k1 = ap (λ (x : ℕ × List ℕ). x.1) b in (ap st.keys (sym z) ∙ a0.key ∙ ap Some z1, ap sc.named (sym z) ∙ named_now)) (within_two (s1, k1) (s, k) st.bindings q);
+            keyed = ru.keyed;
+            grows = grow_refl m mc st sc h (λ a. refl) (λ a. refl) (λ a. refl) (λ a. refl) ((s, k) ∷ [], refl) (omega arith);
+            leaves = λ j b f. record { place = f; next = refl; body = λ y. refl; fbody = λ y. refl };
+            help = record {
+              ranged = let a = p.ranged in record { tags = a.tags; own = a.own; below = a.below; ready = a.ready; worn = a.worn; fits = a.fits };
+              keyed = let a = p.keyed in record {
+                valid = a.valid;
+                current = a.current;
+                flushed = a.flushed;
+                bare = a.bare;
+                filled = a.filled;
+                slots = a.slots;
+                nameless = λ s1 q. named_else s1 (λ z. absurd (cc (ap st.keys z, q, a0.key))) ∙ a.nameless s1 q;
+              };
+              naming = let a = p.naming in record {
+                counted = ap suc a.counted ∙ sym (let z : length (st.bindings ++ (s, k) ∷ []) ≡ suc (length st.bindings) = omega (arith, length-append st.bindings ((s, k) ∷ [])) in z);
+                found = a.found;
+                listed = λ s1 k1 q f. dite (ℕ_discrete s1 s) (λ d. let z : k1 ≡ k = cc (ap st.keys d, q, a0.key) in rw (d, z) (within_end (s, k) st.bindings)) (λ d. within_prefix (s1, k1) st.bindings ((s, k) ∷ []) (a.listed s1 k1 q (sym (named_else s1 d) ∙ f)));
+                waiting = λ s1 k1 q f. a.waiting s1 k1 q (sym (named_else s1 (unnamed_else s1 f)) ∙ f);
+              };
+              stage = record {
+                settled = λ s1 q. gc.settled s1 (λ z. absurd cc);
+                holds = λ b q. gc.holds b q;
+                names = λ s1 k1 q. inl (dite (ℕ_discrete s1 s) (λ d. ap sc.named d ∙ named_now) (λ d. named_else s1 d ∙ ⊎_elim (λ x. x) (λ x. absurd (d (let z : Some s ≡ Some s1 = x in cc))) (gc.names s1 k1 q)));
+                here = tt;
+              };
+              short = p.short;
+            };
+            fgens = λ b. omega arith;
+          }
+          record { task_is = refl; directory = sv.directory ∙ sym (append-nil (st.bindings ++ (s, k) ∷ [])); roots = sv.roots; books = λ b i. books_still l m st sc (Waiting s k t) Idle v.server gc refl sv (λ s1. refl) b i },
+    )

@@ -1,14 +1,13 @@
 -- Facts on standing versions.
-use Rattle.std.proofs.Common.{◌≡◌, ℕ, zero, suc, ◌+◌, ◌<◌, ◌≤◌, ◌≢◌, ◌⊎◌, List, [], ◌∷◌, ◌++◌, length, length-append, Bool, true, false, cond, eqb, ltb, refl, sym, ap, ◌∙◌, inl, inr, ⊎_elim, arith, subst, eq-eqb, ne_eqb, eqb-true, true≢false}
-use native.Mathlib.Decide.{ℕ_discrete, dec_le}
+use Rattle.std.proofs.Common.{◌≡◌, ℕ, suc, ◌<◌, ◌≤◌, length, Bool, true, false, ltb, refl, ap, arith}
+use native.Mathlib.Decide.{dec_le}
 use mathlib.Core.Logic.{dite}
 use Rattle.std.specs.Prelude.{Option, Some, None}
 use Rattle.std.proofs.lemmas.Bool.Decides.{nat_tests}
-use Rattle.clover_map.specs.declared.bytes.Value.{Value}
 use Rattle.clover_rule.specs.History.{Version}
 use Rattle.clover_rule.specs.Lists.{nth}
 use Rattle.clover_rule.specs.State.{home, age, Next, word, gen, link, Mem, Story, tag_in_version, tag_at, only, Core}
-use Rattle.clover_rule.proofs.Tools.{upd_same, upd_else, nth_snoc, nth_front, nth_last, nth_within, nth_past, nth_none}
+use Rattle.clover_rule.proofs.Tools.{nth_within, nth_past}
 
 -- a tag at a place, of the version there
 pub tag_there : (st : Story) (s i t : ℕ) → tag_at st s i ≡ Some t → (w : Version) × (nth (st.log s) i ≡ Some w) × (w.tag ≡ t)
@@ -44,7 +43,6 @@ only_none false = refl
 
 pub word_of : (n : Next) (a : ℕ) → gen n ≡ a → link n ≡ None → n ≡ word a None
 word_of (word b l) a g h = cc
-
 
 -- two standing versions in one buffer are one
 pub one_buffer : (m : Mem) (st : Story) → Core m st → (s i t s' i' t' : ℕ) → tag_at st s i ≡ Some t → st.gone s ≤ i → tag_at st s' i' ≡ Some t' → st.gone s' ≤ i' → home t' ≡ home t → (s' ≡ s) × (i' ≡ i) × (t' ≡ t)

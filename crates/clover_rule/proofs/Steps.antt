@@ -1,20 +1,16 @@
 -- What each step keeps: what is known stays known, and what another seat owns is left alone.
-use Rattle.std.proofs.Common.{◌≡◌, ℕ, zero, suc, ◌+◌, ◌<◌, ◌≤◌, ◌≢◌, ◌⊎◌, List, [], ◌∷◌, ◌++◌, length, set, append_assoc, append-nil, Bool, true, false, cond, eqb, ltb, refl, sym, ap, ◌∙◌, inl, inr, ⊎_elim, arith, subst, eq-eqb, ne_eqb, eqb-true, true≢false}
-use native.Mathlib.Decide.{ℕ_discrete, dec_le}
-use mathlib.Core.Logic.{dite}
-use Rattle.std.specs.Prelude.{Option, Some, None}
-use Rattle.clover_map.specs.declared.bytes.Value.{Value}
+use Rattle.std.proofs.Common.{◌≡◌, ℕ, zero, suc, ◌≤◌, ◌≢◌, ◌⊎◌, List, [], ◌∷◌, ◌++◌, set, append_assoc, append-nil, refl, sym, ap, ◌∙◌, inl, inr, ⊎_elim, arith, subst}
+use Rattle.std.specs.Prelude.{Some}
 use Rattle.clover_map.specs.declared.call.Entry.{Entry}
 use Rattle.clover_rule.specs.History.{Version, own}
 use Rattle.clover_rule.specs.Lists.{Each, nth, IsPart, Within, IsPrefix}
-use Rattle.clover_rule.specs.State.{home, Next, word, gen, link, Mem, Stocked, Story, tag_in_version, tag_at, Core, Durable}
+use Rattle.clover_rule.specs.State.{home, Next, word, gen, Mem, Stocked, Story, tag_in_version, tag_at, Durable}
 use Rattle.clover_rule.specs.Views.{IsLink, Past, IsCopied, Owned, OwnCalls, ViewOk}
 use Rattle.clover_rule.specs.declared.view.Content.{Content}
 use Rattle.clover_rule.specs.declared.view.Link.{Link}
 use Rattle.clover_rule.specs.declared.view.Role.{Role}
 use Rattle.clover_rule.specs.declared.view.Role.TheVariants.{Client, Serving, Granting, Noting, Joined}
 use Rattle.clover_rule.specs.declared.view.View.{View}
-use Rattle.clover_rule.proofs.Tools.{upd_same, upd_else, nth_within}
 use Rattle.clover_rule.proofs.Standings.{tag_there}
 
 pub each_map : {A : Type 0} {P Q : A → Type 0} → ((x : A) → P x → Q x) → (xs : List A) → Each P xs → Each Q xs
@@ -72,23 +68,24 @@ module _ (m : Mem) (st : Story) (h : List Entry) (m' : Mem) (st' : Story) (h' : 
 
   pub view_kept : (id : ℕ) (v : View) → ((b : ℕ) → st.place b ≡ Stocked id → Leaves m st m' st' id b) → ((c : ℕ) → v.pass.role ≡ Client c → own c h' ≡ own c h) → ViewOk m st h id v → ViewOk m' st' h' id v
   view_kept id v f o k = record {
-      stocked = each_map owned v.pass.stock k.stocked;
-      apart = k.apart;
-      durable = each_map (λ p d. durable_kept p.0 p.1 d) v.pass.durable k.durable;
-      links = each_map link_kept v.pass.links k.links;
-      words = each_map (λ p d. past_kept p.buffer (word p.own p.link) d) v.pass.words k.words;
-      written = each_map (λ c d. (owned c.tag d.0, (f (home c.tag) d.0.0).body c.place ∙ d.1)) v.pass.written k.written;
-      flushed = each_map (λ c d. (owned c.tag d.0, (f (home c.tag) d.0.0).fbody c.place ∙ d.1)) v.pass.flushed k.flushed;
-      copied = each_map copied_kept v.pass.copied k.copied;
-      names = prefix_trans v.pass.names st.bindings st'.bindings k.names g.names;
-      added = ⊎_elim inl (λ d. inr (part_kept v.pass.from v.pass.added st.bindings st'.bindings d g.names)) k.added;
-      most = let x = g.count in let y = k.most in omega arith;
-      history = prefix_trans v.pass.history h h' k.history g.history;
-      calls = called v.pass.role v.pass.calls o k.calls
-    }
+    stocked = each_map owned v.pass.stock k.stocked;
+    apart = k.apart;
+    durable = each_map (λ p d. durable_kept p.0 p.1 d) v.pass.durable k.durable;
+    links = each_map link_kept v.pass.links k.links;
+    words = each_map (λ p d. past_kept p.buffer (word p.own p.link) d) v.pass.words k.words;
+    written = each_map (λ c d. (owned c.tag d.0, (f (home c.tag) d.0.0).body c.place ∙ d.1)) v.pass.written k.written;
+    flushed = each_map (λ c d. (owned c.tag d.0, (f (home c.tag) d.0.0).fbody c.place ∙ d.1)) v.pass.flushed k.flushed;
+    copied = each_map copied_kept v.pass.copied k.copied;
+    names = prefix_trans v.pass.names st.bindings st'.bindings k.names g.names;
+    added = ⊎_elim inl (λ d. inr (part_kept v.pass.from v.pass.added st.bindings st'.bindings d g.names)) k.added;
+    most = let x = g.count in let y = k.most in omega arith;
+    history = prefix_trans v.pass.history h h' k.history g.history;
+    calls = called v.pass.role v.pass.calls o k.calls;
+  }
     where
       owned : (t : ℕ) → Owned m st id t → Owned m' st' id t
       owned t d = let x = f (home t) d.0 in (x.place, ap gen x.next ∙ d.1)
+
       called : (r : Role) (cs : List Entry) → ((c : ℕ) → r ≡ Client c → own c h' ≡ own c h) → OwnCalls r cs h → OwnCalls r cs h'
       called (Client c) cs o d = d ∙ sym (o c refl)
       called Serving cs o d = tt

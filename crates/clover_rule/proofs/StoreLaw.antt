@@ -1,16 +1,13 @@
 -- A client's store of a content word of its own stock.
-use Rattle.std.proofs.Common.{◌≡◌, ℕ, zero, suc, ◌+◌, ◌<◌, ◌≤◌, ◌≢◌, ◌⊎◌, List, [], ◌∷◌, ◌++◌, length, length-append, set, append_assoc, append-nil, Bool, true, false, cond, eqb, ltb, leb, refl, sym, ap, ◌∙◌, inl, inr, ⊎_elim, arith, subst, eq-eqb, ne_eqb, eqb-true, true≢false}
-use native.Mathlib.Decide.{ℕ_discrete, dec_le}
+use Rattle.std.proofs.Common.{◌≡◌, ℕ, ◌≢◌, List, [], ◌∷◌, Bool, true, false, cond, eqb, refl, sym, ap, ◌∙◌, ⊎_elim, arith, eq-eqb, true≢false}
+use native.Mathlib.Decide.{ℕ_discrete}
 use mathlib.Core.Logic.{dite}
-use Rattle.std.specs.Prelude.{Option, Some, None}
-use Rattle.std.proofs.lemmas.Bool.Decides.{nat_tests}
-use Rattle.clover_map.specs.declared.bytes.Value.{Value}
+use Rattle.std.specs.Prelude.{Some}
 use Rattle.clover_map.specs.declared.call.Entry.{Entry}
-use Rattle.clover_rule.specs.Content.{content}
-use Rattle.clover_rule.specs.History.{Map, own, used_by}
+use Rattle.clover_rule.specs.History.{Map, used_by}
 use Rattle.clover_rule.specs.Lists.{Each, nth, upd, Within}
-use Rattle.clover_rule.specs.Server.{unnamed, AtStage, Whole, dropped, stored_view, stored_mem}
-use Rattle.clover_rule.specs.State.{home, word, gen, Mem, Stocked, Story, tag_in_version, Core}
+use Rattle.clover_rule.specs.Server.{AtStage, Whole, dropped, stored_view, stored_mem}
+use Rattle.clover_rule.specs.State.{home, gen, Mem, Stocked, Story, tag_in_version}
 use Rattle.clover_rule.specs.Views.{Owned, ViewOk, Basis, renewed}
 use Rattle.clover_rule.specs.declared.view.Content.{Content}
 use Rattle.clover_rule.specs.declared.view.Role.TheVariants.{Client}
@@ -18,10 +15,9 @@ use Rattle.clover_rule.specs.declared.view.Task.{Task}
 use Rattle.clover_rule.specs.declared.view.Task.TheVariants.{Idle, Storing, Rooted, Waiting, Loaded, Raised, Led, Both, Exchanged}
 use Rattle.clover_rule.specs.declared.view.View.{View}
 use Rattle.clover_words.specs.declared.pool.Pool.{Pool}
-use Rattle.clover_rule.proofs.Tools.{upd_same, upd_else, nth_within, nth_snoc, nth_front, nth_last, nth_past, nth_none}
-use Rattle.clover_rule.proofs.Standings.{tag_there, tag_within, tag_past, same_tag, one_buffer}
-use Rattle.clover_rule.proofs.Steps.{each_map, each_within, prefix_trans, prefix_self, within_prefix, Grows, Leaves, view_kept, nth_set, set_here, set_away, link_kept, durable_kept, past_kept, copied_kept}
-
+use Rattle.clover_rule.proofs.Tools.{upd_same, upd_else}
+use Rattle.clover_rule.proofs.Standings.{same_tag}
+use Rattle.clover_rule.proofs.Steps.{each_map, each_within, prefix_self, Grows, view_kept, nth_set, set_here, set_away}
 use Rattle.std.specs.Prelude.{◌&&◌}
 use Rattle.clover_rule.proofs.ServerTools.{core_copy}
 use Rattle.clover_rule.proofs.ClientSteps.{client_whole}
@@ -31,7 +27,7 @@ other_place : (c t j k : ℕ) → c ≡ t → eqb c t && eqb k j ≡ false → k
 other_place c t j k e f = λ q. true≢false (sym (let a : eqb c t && eqb k j ≡ true = rw (eq-eqb c t e, eq-eqb k j q) refl in a) ∙ f)
 
 module _ (l : Pool) (m0 : Map) (used : List ℕ) (m : Mem) (vs : List View) (st : Story) (h : List Entry) (w : Whole l m0 used m vs st h) (id : ℕ) (v : View) (at : nth vs id ≡ Some v) (n : ℕ) (role : v.pass.role ≡ Client n)
-         (t j x : ℕ) (own : Within t v.pass.stock) where
+    (t j x : ℕ) (own : Within t v.pass.stock) where
   abbrev r : Basis m0 used m vs st h
   r = w.basis
 
@@ -57,10 +53,13 @@ module _ (l : Pool) (m0 : Map) (used : List ℕ) (m : Mem) (vs : List View) (st 
   Kept c = Owned m st id c.tag × (m1.body (home c.tag) c.place ≡ c.word)
 
   old_kept : (c : Content) → Owned m st id c.tag × (m.body (home c.tag) c.place ≡ c.word) → eqb c.tag t && eqb c.place j ≡ false → Owned m st id c.tag × (m1.body (home c.tag) c.place ≡ c.word)
-  old_kept c a e = (a.0, dite (ℕ_discrete (home c.tag) (home t))
-      (λ d. let same : c.tag ≡ t = same_tag c.tag t d (sym a.0.1 ∙ ap gen (ap m.next d) ∙ owned.1) in
-         ap (λ (b : ℕ). m1.body b c.place) d ∙ ap (λ (f : ℕ → ℕ). f c.place) body_here ∙ upd_else (m.body (home t)) j c.place x (other_place c.tag t j c.place same e) ∙ ap (λ (b : ℕ). m.body b c.place) (sym d) ∙ a.1)
-      (λ d. ap (λ (f : ℕ → ℕ). f c.place) (body_else (home c.tag) d) ∙ a.1))
+  old_kept c a e = (
+    a.0,
+    dite (ℕ_discrete (home c.tag) (home t))
+        (λ d. let same : c.tag ≡ t = same_tag c.tag t d (sym a.0.1 ∙ ap gen (ap m.next d) ∙ owned.1) in
+        ap (λ (b : ℕ). m1.body b c.place) d ∙ ap (λ (f : ℕ → ℕ). f c.place) body_here ∙ upd_else (m.body (home t)) j c.place x (other_place c.tag t j c.place same e) ∙ ap (λ (b : ℕ). m.body b c.place) (sym d) ∙ a.1)
+        (λ d. ap (λ (f : ℕ → ℕ). f c.place) (body_else (home c.tag) d) ∙ a.1),
+  )
 
   written' : (cs : List Content) → Each (λ (c : Content). Owned m st id c.tag × (m.body (home c.tag) c.place ≡ c.word)) cs → Each (λ (c : Content). Owned m st id c.tag × (m1.body (home c.tag) c.place ≡ c.word)) (dropped t j cs)
   written' [] a = tt
@@ -71,15 +70,32 @@ module _ (l : Pool) (m0 : Map) (used : List ℕ) (m : Mem) (vs : List View) (st 
       go false e q = (old_kept c a.0 e, q)
 
   ok' : ViewOk m1 st h id v'
-  ok' = record { stocked = ok.stocked; apart = ok.apart; durable = ok.durable; links = ok.links; words = ok.words;
-      written = ((owned, ap (λ (f : ℕ → ℕ). f j) body_here ∙ upd_same (m.body (home t)) j x), written' v.pass.written ok.written); flushed = ok.flushed; copied = ok.copied; names = ok.names; added = ok.added; most = ok.most; history = ok.history; calls = ok.calls }
+  ok' = record {
+    stocked = ok.stocked;
+    apart = ok.apart;
+    durable = ok.durable;
+    links = ok.links;
+    words = ok.words;
+    written = ((owned, ap (λ (f : ℕ → ℕ). f j) body_here ∙ upd_same (m.body (home t)) j x), written' v.pass.written ok.written);
+    flushed = ok.flushed;
+    copied = ok.copied;
+    names = ok.names;
+    added = ok.added;
+    most = ok.most;
+    history = ok.history;
+    calls = ok.calls;
+  }
 
   grows : Grows m st h m1 st h
   grows = grow_refl m m1 st st h (λ a. refl) (λ a. refl) (λ a. refl) (λ a. refl) (prefix_self st.bindings) (omega arith)
 
   views' : (i : ℕ) (y : View) → nth (renewed vs id v') i ≡ Some y → ViewOk m1 st h i y
-  views' i y q = ⊎_elim (λ a. rw (a.0, ← a.1) ok') (λ a. view_kept m st h m1 st h grows i y (λ b o. record { place = o; next = refl; fbody = λ z. refl;
-      body = λ z. ap (λ (f : ℕ → ℕ). f z) (body_else b (λ d. a.0 (let s1 : Stocked i ≡ Stocked id = sym o ∙ ap st.place d ∙ owned.0 in cc))) }) (λ c f. refl) (r.views i y a.1)) (nth_set vs id i v' y q)
+  views' i y q = ⊎_elim (λ a. rw (a.0, ← a.1) ok') (λ a. view_kept m st h m1 st h grows i y (λ b o. record {
+    place = o;
+    next = refl;
+    fbody = λ z. refl;
+    body = λ z. ap (λ (f : ℕ → ℕ). f z) (body_else b (λ d. a.0 (let s1 : Stocked i ≡ Stocked id = sym o ∙ ap st.place d ∙ owned.0 in cc)));
+  }) (λ c f. refl) (r.views i y a.1)) (nth_set vs id i v' y q)
 
   was : (i : ℕ) (a : View) → nth (renewed vs id v') i ≡ Some a → (y : View) × (nth vs i ≡ Some y) × (y.pass.role ≡ a.pass.role)
   was i a q = ⊎_elim {C = (y : View) × (nth vs i ≡ Some y) × (y.pass.role ≡ a.pass.role)} (λ d. (v, ap (nth vs) d.0 ∙ at, ap (λ (z : View). z.pass.role) d.1)) (λ d. (a, d.1, refl)) (nth_set vs id i v' a q)
@@ -93,19 +109,34 @@ module _ (l : Pool) (m0 : Map) (used : List ℕ) (m : Mem) (vs : List View) (st 
 
   rule' : Basis m0 used m1 (renewed vs id v') st h
   rule' = record {
-      core = core_copy m st r.core m1.body m.fbody m.key m.fkey m.short m.count st.keys st.first st.bindings st.task st.slot_named;
-      tale = r.tale;
-      bodies = λ s i y e g k z q. let a = r.bodies s i y e g k z q in (ap (λ (f : ℕ → ℕ). f k) (body_else (home y.tag) (λ d. absurd (cc (ap st.place d, (r.core.standing s i y.tag (ap tag_in_version e) g).placed, owned.0)))) ∙ a.0, a.1);
-      spent = each_map (λ y a. a) (used_by used h) r.spent;
-      bound = r.bound; keyed = r.keyed; views = views';
-      numbered = λ i1 j1 c a b qa qb ra rb. let x1 = was i1 a qa in let y1 = was j1 b qb in r.numbered i1 j1 c x1.0 y1.0 x1.1 y1.1 (x1.2 ∙ ra) (y1.2 ∙ rb);
-      longest = longest'
-    }
+    core = core_copy m st r.core m1.body m.fbody m.key m.fkey m.short m.count st.keys st.first st.bindings st.task st.slot_named;
+    tale = r.tale;
+    bodies = λ s i y e g k z q. let a = r.bodies s i y e g k z q in (ap (λ (f : ℕ → ℕ). f k) (body_else (home y.tag) (λ d. absurd (cc (ap st.place d, (r.core.standing s i y.tag (ap tag_in_version e) g).placed, owned.0)))) ∙ a.0, a.1);
+    spent = each_map (λ y a. a) (used_by used h) r.spent;
+    bound = r.bound;
+    keyed = r.keyed;
+    views = views';
+    numbered = λ i1 j1 c a b qa qb ra rb. let x1 = was i1 a qa in let y1 = was j1 b qb in r.numbered i1 j1 c x1.0 y1.0 x1.1 y1.1 (x1.2 ∙ ra) (y1.2 ∙ rb);
+    longest = longest';
+  }
 
   here : (T : Task) → AtStage l m st T → AtStage l m1 st T
   here Idle a = tt
-  here (Storing s1 k1 t1 n1) a = record { place = a.place; now = a.now; safe = a.safe; range = a.range; slot = a.slot; bare = a.bare; unnamed = a.unnamed; absent = a.absent; valid = a.valid;
-      body = λ q. ap (λ (f : ℕ → ℕ). f 0) (body_else (home t1) (λ d. absurd (cc (ap st.place d, a.place, owned.0)))) ∙ a.body q; fbody = a.fbody; key = a.key; fkey = a.fkey }
+  here (Storing s1 k1 t1 n1) a = record {
+    place = a.place;
+    now = a.now;
+    safe = a.safe;
+    range = a.range;
+    slot = a.slot;
+    bare = a.bare;
+    unnamed = a.unnamed;
+    absent = a.absent;
+    valid = a.valid;
+    body = λ q. ap (λ (f : ℕ → ℕ). f 0) (body_else (home t1) (λ d. absurd (cc (ap st.place d, a.place, owned.0)))) ∙ a.body q;
+    fbody = a.fbody;
+    key = a.key;
+    fkey = a.fkey;
+  }
   here (Rooted s1 k1 t1) a = (record { key = a.0.key; unnamed = a.0.unnamed; alone = a.0.alone; tag = a.0.tag; gone = a.0.gone }, a.1)
   here (Waiting s1 k1 t1) a = (record { key = a.0.key; unnamed = a.0.unnamed; alone = a.0.alone; tag = a.0.tag; gone = a.0.gone }, a.1)
   here (Loaded s1 r1 t1) a = a
@@ -121,5 +152,6 @@ module _ (l : Pool) (m0 : Map) (used : List ℕ) (m : Mem) (vs : List View) (st 
         keyed = let a = p.keyed in record { valid = a.valid; current = a.current; flushed = a.flushed; bare = a.bare; nameless = a.nameless; filled = a.filled; slots = a.slots };
         naming = let a = p.naming in record { counted = a.counted; found = a.found; listed = a.listed; waiting = a.waiting };
         stage = record { settled = p.stage.settled; holds = p.stage.holds; names = p.stage.names; here = here st.task p.stage.here };
-        short = p.short }
+        short = p.short;
+      }
       (λ sv e. record { task_is = e.task_is; directory = e.directory; roots = e.roots; books = e.books }) w.safe (λ cs a b. b)

@@ -10,7 +10,6 @@ use Rattle.std.specs.Cmp.Lexicographic.{slice_cmp, nat_list_cmp_total}
 use Rattle.std.specs.FinMap.{get, insert, remove, get-insert, get-remove}
 use Rattle.std.proofs.lemmas.List.Elements.{Contains-append_cases}
 use Rattle.clover_map.proofs.Kept.{exact_keys}
-use Rattle.clover_map.specs.declared.bytes.Value.{Value}
 use Rattle.clover_map.specs.declared.bytes.Held.{Held}
 use Rattle.clover_map.specs.declared.call.Call.{Call}
 use Rattle.clover_map.specs.declared.call.Call.TheVariants.{Get, Put, Delete, Swap}
@@ -22,7 +21,7 @@ use Rattle.clover_map.specs.Tags.{IsFresh, new_tags}
 use Rattle.clover_map.specs.Does.{held}
 use Rattle.clover_map.specs.Does as Theirs
 use Rattle.clover_map.specs.Legal as Runs
-use Rattle.clover_rule.specs.History.{Map, Version, same_key, at_key, Fresh, Does, Legal, leads, after, grown, commit_of, changed, named, committed, tag_in, shows}
+use Rattle.clover_rule.specs.History.{Map, Version, same_key, at_key, Fresh, Does, Legal, leads, grown, commit_of, changed, named, committed, tag_in, shows}
 use Rattle.clover_rule.proofs.Keys.{eq_key, ne_key, key_discrete}
 
 equal : (r : Ordering) → is_eq r ≡ true → r ≡ Equal
@@ -36,6 +35,7 @@ same_test k q = go (key_discrete k q)
     ties : (b : Bool) → eq_by_cmp (slice_cmp nat_cmp) q k ≡ b → k ≢ q → b ≡ false
     ties false e n = refl
     ties true e n = absurd (n (sym (exact_keys q k (equal (slice_cmp nat_cmp q k) e))))
+
     go : Dec (k ≡ q) → eq_by_cmp (slice_cmp nat_cmp) q k ≡ same_key k q
     go (yes e) = ap (λ (z : List ℕ). eq_by_cmp (slice_cmp nat_cmp) q z) e ∙ (eq_by_cmp_equiv nat_list_cmp_total).refl q ∙ sym (eq_key k q e)
     go (no n) = ties (eq_by_cmp (slice_cmp nat_cmp) q k) refl n ∙ sym (ne_key k q n)
@@ -83,9 +83,11 @@ used_after us vs c r x d f t g has = go (Contains-append_cases vs (new_tags r) t
   where
     one : (u : ℕ) → Contains (u ∷ []) t → u ≡ t
     one u h = let P : ℕ → Type 0 = λ k. slice_index_or (u ∷ []) k t ≡ t in let first : h.0 ≡ 0 = omega (arith, h.1) in subst P first h.2
+
     less : (o : Option Version) → Fresh t (grown us o) → Fresh t us
     less None a = a
     less (Some w) a = a.1
+
     apart : (c : Call) (r : Reply) → Does x us c r → Fresh t (grown us (committed c r)) → Contains (new_tags r) t → ⊥
     apart (Put k v) (Stored u) d a b = a.0 (one u b)
     apart (Delete k) (Deleted u) d a b = a.0 (one u b)
@@ -98,6 +100,7 @@ used_after us vs c r x d f t g has = go (Contains-append_cases vs (new_tags r) t
     apart c (Found u v) d a b = omega (arith, b.1)
     apart c Absent d a b = omega (arith, b.1)
     apart c (Differs u) d a b = omega (arith, b.1)
+
     go : (Contains vs t) ⊎ (Contains (new_tags r) t) → ⊥
     go (inl a) = f t (less (committed c r) g) a
     go (inr b) = apart c r d g b

@@ -1,16 +1,14 @@
 -- What the rule says of an actor, what a step tells it, and the law over a table.
-use Rattle.std.proofs.Common.{◌≡◌, ℕ, zero, suc, ◌+◌, ◌<◌, ◌≤◌, ◌≢◌, ◌⊎◌, List, [], ◌∷◌, ◌++◌, length, set, Bool, true, false, cond, refl, sym, ap, ◌∙◌, inl, inr, ⊎_elim, arith, subst}
-use Rattle.std.specs.Prelude.{Option, Some, None, slice_index, slice_set}
-use mathlib.Core.Option.{some, none, some-injective, some-ne-none}
+use Rattle.std.proofs.Common.{◌≡◌, ℕ, zero, suc, ◌<◌, ◌≤◌, List, [], ◌∷◌, Bool, refl, sym, ap, ◌∙◌, inl, inr, ⊎_elim, arith, subst}
+use Rattle.std.specs.Prelude.{Option, Some, None, slice_set}
+use mathlib.Core.Option.{some, some-injective, some-ne-none}
 use lib.ListN.{get_elem?}
-use Rattle.atomic_table.specs.Table.{State, Me, Allows, keeps as stay}
+use Rattle.atomic_table.specs.Table.{keeps as stay}
 use Rattle.clover_words.specs.declared.pool.Pool.{Pool}
-use Rattle.clover_words.specs.declared.word.Word.{Word}
-use Rattle.clover_words.specs.declared.word.Word.TheVariants.{Next as NextOf, Meta, Value as ValueOf, Root, Key, Short, Count}
+use Rattle.clover_words.specs.declared.word.Word.TheVariants.{Next as NextOf, Root, Short}
 use Rattle.clover_words.specs.declared.word.Side.{Side}
 use Rattle.clover_words.specs.declared.word.Side.TheVariants.{Current, Flushed}
-use Rattle.clover_words.specs.Place.{IsWithin, HasSide, address_of, copy_in}
-use Rattle.clover_words.proofs.Places.{has_current}
+use Rattle.clover_words.specs.Place.{IsWithin, HasSide, copy_in}
 use Rattle.clover_map.specs.declared.call.Entry.{Entry}
 use Rattle.clover_map.specs.Tagged.{Tagged}
 use Rattle.clover_rule.specs.Content.{InRange, IsKey}
@@ -18,12 +16,12 @@ use Rattle.clover_rule.specs.History.{shows}
 use Rattle.clover_rule.specs.Lists.{Each, Within, nth}
 use Rattle.clover_rule.specs.Meets.{Meets, IsMet}
 use Rattle.clover_rule.specs.Server.{Ready}
-use Rattle.clover_rule.specs.State.{Next, Story, Mem, Durable, gen, link, tag_at, word, home}
+use Rattle.clover_rule.specs.State.{Next, Story, Mem, Durable, gen, link, tag_at, home}
 use Rattle.clover_rule.specs.Steps.{Step, Asks, LoadNext, DecideNext, RaiseNext, LinkNext, StoreContent, FlushContent, LoadContent, ReadRoot, ReadShort, StoreShort, ReadCount, AbsentCount, word_of, side_of, next_view, next_history, found, words_after_step}
 use Rattle.clover_rule.specs.Told.{Facts, IsShown, Told, TableLaw}
 use Rattle.clover_rule.specs.Words.{buffer_at, content_at, mem_of}
 use Rattle.clover_rule.specs.declared.view.View.{View}
-use Rattle.clover_rule.proofs.Steps.{each_map, each_within, within_prefix, set_here}
+use Rattle.clover_rule.proofs.Steps.{each_map, within_prefix, set_here}
 use Rattle.clover_rule.proofs.Standings.{tag_within}
 use Rattle.clover_rule.proofs.TaggedMaps.{legal_history}
 use Rattle.clover_rule.proofs.Derived.{current_past}
@@ -92,7 +90,7 @@ module _ (p : Pool) (first : Tagged) (used : List ℕ) (ws : List ℕ) (vs : Lis
           links = each_map (λ l d. (slot_in l.slot d.0 l.from d.1, r.whole.help.ranged.tags l.slot d.0 l.from d.1, r.whole.help.ranged.tags l.slot (suc d.0) l.to d.2)) v.pass.links ok.links;
           names = each_list (λ (q : ℕ × List ℕ). (q.0 < p.slots) × IsKey q.1) v.pass.names (λ q w.
               let b = r.whole.basis.bound q.0 q.1 (subst (Within q) (sym ok.names.1) (within_prefix q v.pass.names ok.names.0 w)) in
-              (r.whole.help.keyed.slots q.0 q.1 b.0, r.whole.help.keyed.valid q.0 q.1 b.0))
+              (r.whole.help.keyed.slots q.0 q.1 b.0, r.whole.help.keyed.valid q.0 q.1 b.0));
         }
 
   -- what a copy of a word shows
@@ -130,9 +128,15 @@ module _ (p : Pool) (first : Tagged) (used : List ℕ) (ws : List ℕ) (vs : Lis
 pub told : (p : Pool) (first : Tagged) (used : List ℕ) (ws : List ℕ) (vs : List View) (h : List Entry) (id : ℕ) (v : View) → IsMet p first used ws vs h → nth vs id ≡ Some v → (a : Step) (b : Bool) → Asks p a v → Told p a b v (found p a ws) (next_view b a h v (found p a ws))
 told p first used ws vs h id v (st, r) at a b asks =
     let w : View = next_view b a h v (found p a ws) in
-    let after = keeps p first used ws vs st h r id v at a b asks in
-    (h, record { before = facts p first used ws vs st h r id v at; number = number_shown p first used ws vs st h r a asks.0; next = refl;
-      after = facts p first used (words_after_step p a ws) (slice_set vs id w) after.0 (next_history a h v (found p a ws)) after.1 id w (set_here vs id w v at) })
+    let after = keeps p first used ws vs st h r id v at a b asks in (
+      h,
+      record {
+        before = facts p first used ws vs st h r id v at;
+        number = number_shown p first used ws vs st h r a asks.0;
+        next = refl;
+        after = facts p first used (words_after_step p a ws) (slice_set vs id w) after.0 (next_history a h v (found p a ws)) after.1 id w (set_here vs id w v at);
+      },
+    )
 
 pub table_law : TableLaw
 table_law S p first used slots id me a b then asks tells s (h, met) len at fits =

@@ -1,10 +1,9 @@
 -- A write to one copy of a word changes the decoded words at that place alone.
-use Rattle.std.proofs.Common.{◌≡◌, ℕ, zero, suc, ◌+◌, ◌-◌, ◌*◌, ◌/◌, ◌%◌, ◌^◌, ◌<◌, ◌≤◌, ◌≢◌, ◌⊎◌, ◌&&◌, List, length, Bool, true, false, cond, refl, sym, ap, ◌∙◌, inl, inr, ⊎_elim, arith, subst, eq-eqb, ne_eqb, nat_lt}
+use Rattle.std.proofs.Common.{◌≡◌, ℕ, zero, suc, ◌+◌, ◌-◌, ◌*◌, ◌/◌, ◌%◌, ◌<◌, ◌≢◌, ◌⊎◌, ◌&&◌, List, length, Bool, true, false, cond, refl, sym, ap, ◌∙◌, inl, inr, ⊎_elim, arith, nat_lt}
 use native.Mathlib.Decide.{ℕ_discrete}
 use Rattle.std.specs.Prelude.{Option, Some, None, slice_set}
 use Rattle.std.proofs.lemmas.Bool.Decides.{nat_tests}
 use Rattle.clover_words.specs.declared.pool.Pool.{Pool}
-use Rattle.clover_words.specs.declared.word.Buffer.{Buffer}
 use Rattle.clover_words.specs.declared.word.Word.{Word}
 use Rattle.clover_words.specs.declared.word.Word.TheVariants.{Next as NextOf, Meta, Value as ValueOf, Root, Key, Short, Count}
 use Rattle.clover_words.specs.declared.word.Side.{Side}
@@ -13,7 +12,7 @@ use Rattle.clover_words.specs.Place.{IsBuffer, IsWithin, HasSide, address_of, co
 use Rattle.clover_words.proofs.Places.{copy_set, copy_kept}
 use Rattle.clover_rule.specs.Content.{inside}
 use Rattle.clover_rule.specs.Lists.{upd}
-use Rattle.clover_rule.specs.State.{Next, word, Mem}
+use Rattle.clover_rule.specs.State.{word, Mem}
 use Rattle.clover_rule.specs.Words.{root_code, next_code, root_of, next_of, buffer_at, content_at, guarded, mem_of}
 use Rattle.clover_rule.proofs.Tools.{upd_same, upd_else}
 
@@ -181,17 +180,17 @@ module _ (p : Pool) (ws : List ℕ) (w : Word) (s0 : Side) (n : ℕ) (hw : IsWit
 module _ (p : Pool) (ws : List ℕ) (n : ℕ) where
   pub write_next : (b0 : ℕ) → inside p b0 ≡ true → address_of p (NextOf (buffer_at b0)) Current < length ws → mem_of p (slice_set ws (address_of p (NextOf (buffer_at b0)) Current) n) ≡ record (mem_of p ws) { next = upd (mem_of p ws).next b0 (next_of n) }
   write_next b0 hb hl = mem_path _ _ record {
-      fnext = fnext_kept p ws (NextOf (buffer_at b0)) Current n (buffer_in p b0 hb) tt (inr flushed_side);
-      body = body_kept p ws (NextOf (buffer_at b0)) Current n (buffer_in p b0 hb) tt (inl (λ (e : kind_of (NextOf (buffer_at b0)) ≡ 1). omega arith));
-      fbody = fbody_kept p ws (NextOf (buffer_at b0)) Current n (buffer_in p b0 hb) tt (inl (λ (e : kind_of (NextOf (buffer_at b0)) ≡ 1). omega arith));
-      root = root_kept p ws (NextOf (buffer_at b0)) Current n (buffer_in p b0 hb) tt (inl (λ (e : kind_of (NextOf (buffer_at b0)) ≡ 2). omega arith));
-      froot = froot_kept p ws (NextOf (buffer_at b0)) Current n (buffer_in p b0 hb) tt (inl (λ (e : kind_of (NextOf (buffer_at b0)) ≡ 2). omega arith));
-      short = short_kept p ws (NextOf (buffer_at b0)) Current n (buffer_in p b0 hb) tt (inl (λ (e : kind_of (NextOf (buffer_at b0)) ≡ 4). omega arith));
-      count = count_kept p ws (NextOf (buffer_at b0)) Current n (buffer_in p b0 hb) tt (inl (λ (e : kind_of (NextOf (buffer_at b0)) ≡ 5). omega arith));
-      key = key_kept p ws (NextOf (buffer_at b0)) Current n (buffer_in p b0 hb) tt (inl (λ (e : kind_of (NextOf (buffer_at b0)) ≡ 3). omega arith));
-      fkey = fkey_kept p ws (NextOf (buffer_at b0)) Current n (buffer_in p b0 hb) tt (inl (λ (e : kind_of (NextOf (buffer_at b0)) ≡ 3). omega arith));
-      next = λ b. here b (ℕ_discrete b b0)
-    }
+    fnext = fnext_kept p ws (NextOf (buffer_at b0)) Current n (buffer_in p b0 hb) tt (inr flushed_side);
+    body = body_kept p ws (NextOf (buffer_at b0)) Current n (buffer_in p b0 hb) tt (inl (λ (e : kind_of (NextOf (buffer_at b0)) ≡ 1). omega arith));
+    fbody = fbody_kept p ws (NextOf (buffer_at b0)) Current n (buffer_in p b0 hb) tt (inl (λ (e : kind_of (NextOf (buffer_at b0)) ≡ 1). omega arith));
+    root = root_kept p ws (NextOf (buffer_at b0)) Current n (buffer_in p b0 hb) tt (inl (λ (e : kind_of (NextOf (buffer_at b0)) ≡ 2). omega arith));
+    froot = froot_kept p ws (NextOf (buffer_at b0)) Current n (buffer_in p b0 hb) tt (inl (λ (e : kind_of (NextOf (buffer_at b0)) ≡ 2). omega arith));
+    short = short_kept p ws (NextOf (buffer_at b0)) Current n (buffer_in p b0 hb) tt (inl (λ (e : kind_of (NextOf (buffer_at b0)) ≡ 4). omega arith));
+    count = count_kept p ws (NextOf (buffer_at b0)) Current n (buffer_in p b0 hb) tt (inl (λ (e : kind_of (NextOf (buffer_at b0)) ≡ 5). omega arith));
+    key = key_kept p ws (NextOf (buffer_at b0)) Current n (buffer_in p b0 hb) tt (inl (λ (e : kind_of (NextOf (buffer_at b0)) ≡ 3). omega arith));
+    fkey = fkey_kept p ws (NextOf (buffer_at b0)) Current n (buffer_in p b0 hb) tt (inl (λ (e : kind_of (NextOf (buffer_at b0)) ≡ 3). omega arith));
+    next = λ b. here b (ℕ_discrete b b0);
+  }
     where
       here : (b : ℕ) → Dec (b ≡ b0) → (mem_of p (slice_set ws (address_of p (NextOf (buffer_at b0)) Current) n)).next b ≡ upd (mem_of p ws).next b0 (next_of n) b
       here b (yes e) = rw e (guard_true (inside p b0) _ _ (word 0 None) hb (ap next_of (copy_set p ws (NextOf (buffer_at b0)) Current n hl)) ∙ sym (upd_same (mem_of p ws).next b0 (next_of n)))
@@ -199,17 +198,17 @@ module _ (p : Pool) (ws : List ℕ) (n : ℕ) where
 
   pub write_fnext : (b0 : ℕ) → inside p b0 ≡ true → address_of p (NextOf (buffer_at b0)) Flushed < length ws → mem_of p (slice_set ws (address_of p (NextOf (buffer_at b0)) Flushed) n) ≡ record (mem_of p ws) { fnext = upd (mem_of p ws).fnext b0 (next_of n) }
   write_fnext b0 hb hl = mem_path _ _ record {
-      next = next_kept p ws (NextOf (buffer_at b0)) Flushed n (buffer_in p b0 hb) tt (inr current_side);
-      body = body_kept p ws (NextOf (buffer_at b0)) Flushed n (buffer_in p b0 hb) tt (inl (λ (e : kind_of (NextOf (buffer_at b0)) ≡ 1). omega arith));
-      fbody = fbody_kept p ws (NextOf (buffer_at b0)) Flushed n (buffer_in p b0 hb) tt (inl (λ (e : kind_of (NextOf (buffer_at b0)) ≡ 1). omega arith));
-      root = root_kept p ws (NextOf (buffer_at b0)) Flushed n (buffer_in p b0 hb) tt (inl (λ (e : kind_of (NextOf (buffer_at b0)) ≡ 2). omega arith));
-      froot = froot_kept p ws (NextOf (buffer_at b0)) Flushed n (buffer_in p b0 hb) tt (inl (λ (e : kind_of (NextOf (buffer_at b0)) ≡ 2). omega arith));
-      short = short_kept p ws (NextOf (buffer_at b0)) Flushed n (buffer_in p b0 hb) tt (inl (λ (e : kind_of (NextOf (buffer_at b0)) ≡ 4). omega arith));
-      count = count_kept p ws (NextOf (buffer_at b0)) Flushed n (buffer_in p b0 hb) tt (inl (λ (e : kind_of (NextOf (buffer_at b0)) ≡ 5). omega arith));
-      key = key_kept p ws (NextOf (buffer_at b0)) Flushed n (buffer_in p b0 hb) tt (inl (λ (e : kind_of (NextOf (buffer_at b0)) ≡ 3). omega arith));
-      fkey = fkey_kept p ws (NextOf (buffer_at b0)) Flushed n (buffer_in p b0 hb) tt (inl (λ (e : kind_of (NextOf (buffer_at b0)) ≡ 3). omega arith));
-      fnext = λ b. here b (ℕ_discrete b b0)
-    }
+    next = next_kept p ws (NextOf (buffer_at b0)) Flushed n (buffer_in p b0 hb) tt (inr current_side);
+    body = body_kept p ws (NextOf (buffer_at b0)) Flushed n (buffer_in p b0 hb) tt (inl (λ (e : kind_of (NextOf (buffer_at b0)) ≡ 1). omega arith));
+    fbody = fbody_kept p ws (NextOf (buffer_at b0)) Flushed n (buffer_in p b0 hb) tt (inl (λ (e : kind_of (NextOf (buffer_at b0)) ≡ 1). omega arith));
+    root = root_kept p ws (NextOf (buffer_at b0)) Flushed n (buffer_in p b0 hb) tt (inl (λ (e : kind_of (NextOf (buffer_at b0)) ≡ 2). omega arith));
+    froot = froot_kept p ws (NextOf (buffer_at b0)) Flushed n (buffer_in p b0 hb) tt (inl (λ (e : kind_of (NextOf (buffer_at b0)) ≡ 2). omega arith));
+    short = short_kept p ws (NextOf (buffer_at b0)) Flushed n (buffer_in p b0 hb) tt (inl (λ (e : kind_of (NextOf (buffer_at b0)) ≡ 4). omega arith));
+    count = count_kept p ws (NextOf (buffer_at b0)) Flushed n (buffer_in p b0 hb) tt (inl (λ (e : kind_of (NextOf (buffer_at b0)) ≡ 5). omega arith));
+    key = key_kept p ws (NextOf (buffer_at b0)) Flushed n (buffer_in p b0 hb) tt (inl (λ (e : kind_of (NextOf (buffer_at b0)) ≡ 3). omega arith));
+    fkey = fkey_kept p ws (NextOf (buffer_at b0)) Flushed n (buffer_in p b0 hb) tt (inl (λ (e : kind_of (NextOf (buffer_at b0)) ≡ 3). omega arith));
+    fnext = λ b. here b (ℕ_discrete b b0);
+  }
     where
       here : (b : ℕ) → Dec (b ≡ b0) → (mem_of p (slice_set ws (address_of p (NextOf (buffer_at b0)) Flushed) n)).fnext b ≡ upd (mem_of p ws).fnext b0 (next_of n) b
       here b (yes e) = rw e (guard_true (inside p b0) _ _ (word 0 None) hb (ap next_of (copy_set p ws (NextOf (buffer_at b0)) Flushed n hl)) ∙ sym (upd_same (mem_of p ws).fnext b0 (next_of n)))
@@ -217,20 +216,21 @@ module _ (p : Pool) (ws : List ℕ) (n : ℕ) where
 
   pub write_body : (b0 k0 : ℕ) → inside p b0 ≡ true → k0 < 1 + p.words → address_of p (content_at b0 k0) Current < length ws → mem_of p (slice_set ws (address_of p (content_at b0 k0) Current) n) ≡ record (mem_of p ws) { body = upd (mem_of p ws).body b0 (upd ((mem_of p ws).body b0) k0 n) }
   write_body b0 k0 hb hk hl = mem_path _ _ record {
-      next = next_kept p ws (content_at b0 k0) Current n (content_in p b0 k0 hb hk) (content_side b0 k0 Current) (inl (λ (e : kind_of (content_at b0 k0) ≡ 0). let z = content_kind b0 k0 in omega arith));
-      fnext = fnext_kept p ws (content_at b0 k0) Current n (content_in p b0 k0 hb hk) (content_side b0 k0 Current) (inl (λ (e : kind_of (content_at b0 k0) ≡ 0). let z = content_kind b0 k0 in omega arith));
-      fbody = fbody_kept p ws (content_at b0 k0) Current n (content_in p b0 k0 hb hk) (content_side b0 k0 Current) (inr flushed_side);
-      root = root_kept p ws (content_at b0 k0) Current n (content_in p b0 k0 hb hk) (content_side b0 k0 Current) (inl (λ (e : kind_of (content_at b0 k0) ≡ 2). let z = content_kind b0 k0 in omega arith));
-      froot = froot_kept p ws (content_at b0 k0) Current n (content_in p b0 k0 hb hk) (content_side b0 k0 Current) (inl (λ (e : kind_of (content_at b0 k0) ≡ 2). let z = content_kind b0 k0 in omega arith));
-      short = short_kept p ws (content_at b0 k0) Current n (content_in p b0 k0 hb hk) (content_side b0 k0 Current) (inl (λ (e : kind_of (content_at b0 k0) ≡ 4). let z = content_kind b0 k0 in omega arith));
-      count = count_kept p ws (content_at b0 k0) Current n (content_in p b0 k0 hb hk) (content_side b0 k0 Current) (inl (λ (e : kind_of (content_at b0 k0) ≡ 5). let z = content_kind b0 k0 in omega arith));
-      key = key_kept p ws (content_at b0 k0) Current n (content_in p b0 k0 hb hk) (content_side b0 k0 Current) (inl (λ (e : kind_of (content_at b0 k0) ≡ 3). let z = content_kind b0 k0 in omega arith));
-      fkey = fkey_kept p ws (content_at b0 k0) Current n (content_in p b0 k0 hb hk) (content_side b0 k0 Current) (inl (λ (e : kind_of (content_at b0 k0) ≡ 3). let z = content_kind b0 k0 in omega arith));
-      body = λ b k. here b k (ℕ_discrete b b0) (ℕ_discrete k k0)
-    }
+    next = next_kept p ws (content_at b0 k0) Current n (content_in p b0 k0 hb hk) (content_side b0 k0 Current) (inl (λ (e : kind_of (content_at b0 k0) ≡ 0). let z = content_kind b0 k0 in omega arith));
+    fnext = fnext_kept p ws (content_at b0 k0) Current n (content_in p b0 k0 hb hk) (content_side b0 k0 Current) (inl (λ (e : kind_of (content_at b0 k0) ≡ 0). let z = content_kind b0 k0 in omega arith));
+    fbody = fbody_kept p ws (content_at b0 k0) Current n (content_in p b0 k0 hb hk) (content_side b0 k0 Current) (inr flushed_side);
+    root = root_kept p ws (content_at b0 k0) Current n (content_in p b0 k0 hb hk) (content_side b0 k0 Current) (inl (λ (e : kind_of (content_at b0 k0) ≡ 2). let z = content_kind b0 k0 in omega arith));
+    froot = froot_kept p ws (content_at b0 k0) Current n (content_in p b0 k0 hb hk) (content_side b0 k0 Current) (inl (λ (e : kind_of (content_at b0 k0) ≡ 2). let z = content_kind b0 k0 in omega arith));
+    short = short_kept p ws (content_at b0 k0) Current n (content_in p b0 k0 hb hk) (content_side b0 k0 Current) (inl (λ (e : kind_of (content_at b0 k0) ≡ 4). let z = content_kind b0 k0 in omega arith));
+    count = count_kept p ws (content_at b0 k0) Current n (content_in p b0 k0 hb hk) (content_side b0 k0 Current) (inl (λ (e : kind_of (content_at b0 k0) ≡ 5). let z = content_kind b0 k0 in omega arith));
+    key = key_kept p ws (content_at b0 k0) Current n (content_in p b0 k0 hb hk) (content_side b0 k0 Current) (inl (λ (e : kind_of (content_at b0 k0) ≡ 3). let z = content_kind b0 k0 in omega arith));
+    fkey = fkey_kept p ws (content_at b0 k0) Current n (content_in p b0 k0 hb hk) (content_side b0 k0 Current) (inl (λ (e : kind_of (content_at b0 k0) ≡ 3). let z = content_kind b0 k0 in omega arith));
+    body = λ b k. here b k (ℕ_discrete b b0) (ℕ_discrete k k0);
+  }
     where
       off : (b k : ℕ) → ((b ≡ b0) → (k ≡ k0) → ⊥) → (mem_of p (slice_set ws (address_of p (content_at b0 k0) Current) n)).body b k ≡ (mem_of p ws).body b k
       off b k d = guard (inside p b && nat_lt k (1 + p.words)) _ _ 0 (λ h. copy_kept p ws (content_at b0 k0) Current (content_at b k) Current n (content_in p b0 k0 hb hk) (content_side b0 k0 Current) (let q = both (inside p b) (nat_lt k (1 + p.words)) h in content_in p b k q.0 (below k (1 + p.words) q.1)) (content_side b k Current) (λ e z. let q = content_same b k b0 k0 e in d q.0 q.1))
+
       here : (b k : ℕ) → Dec (b ≡ b0) → Dec (k ≡ k0) → (mem_of p (slice_set ws (address_of p (content_at b0 k0) Current) n)).body b k ≡ upd (mem_of p ws).body b0 (upd ((mem_of p ws).body b0) k0 n) b k
       here b k (yes e) (yes f) = rw (e, f) (guard_true (inside p b0 && nat_lt k0 (1 + p.words)) _ _ 0 (and_true (inside p b0) (nat_lt k0 (1 + p.words)) hb (test_below k0 (1 + p.words) hk)) (copy_set p ws (content_at b0 k0) Current n hl) ∙ sym (ap (λ (g : ℕ → ℕ). g k0) (upd_same (mem_of p ws).body b0 (upd ((mem_of p ws).body b0) k0 n)) ∙ upd_same ((mem_of p ws).body b0) k0 n))
       here b k (yes e) (no f) = off b k (λ x y. f y) ∙ rw e (sym (ap (λ (g : ℕ → ℕ). g k) (upd_same (mem_of p ws).body b0 (upd ((mem_of p ws).body b0) k0 n)) ∙ upd_else ((mem_of p ws).body b0) k0 k n f))
@@ -238,20 +238,21 @@ module _ (p : Pool) (ws : List ℕ) (n : ℕ) where
 
   pub write_fbody : (b0 k0 : ℕ) → inside p b0 ≡ true → k0 < 1 + p.words → address_of p (content_at b0 k0) Flushed < length ws → mem_of p (slice_set ws (address_of p (content_at b0 k0) Flushed) n) ≡ record (mem_of p ws) { fbody = upd (mem_of p ws).fbody b0 (upd ((mem_of p ws).fbody b0) k0 n) }
   write_fbody b0 k0 hb hk hl = mem_path _ _ record {
-      next = next_kept p ws (content_at b0 k0) Flushed n (content_in p b0 k0 hb hk) (content_side b0 k0 Flushed) (inl (λ (e : kind_of (content_at b0 k0) ≡ 0). let z = content_kind b0 k0 in omega arith));
-      fnext = fnext_kept p ws (content_at b0 k0) Flushed n (content_in p b0 k0 hb hk) (content_side b0 k0 Flushed) (inl (λ (e : kind_of (content_at b0 k0) ≡ 0). let z = content_kind b0 k0 in omega arith));
-      body = body_kept p ws (content_at b0 k0) Flushed n (content_in p b0 k0 hb hk) (content_side b0 k0 Flushed) (inr current_side);
-      root = root_kept p ws (content_at b0 k0) Flushed n (content_in p b0 k0 hb hk) (content_side b0 k0 Flushed) (inl (λ (e : kind_of (content_at b0 k0) ≡ 2). let z = content_kind b0 k0 in omega arith));
-      froot = froot_kept p ws (content_at b0 k0) Flushed n (content_in p b0 k0 hb hk) (content_side b0 k0 Flushed) (inl (λ (e : kind_of (content_at b0 k0) ≡ 2). let z = content_kind b0 k0 in omega arith));
-      short = short_kept p ws (content_at b0 k0) Flushed n (content_in p b0 k0 hb hk) (content_side b0 k0 Flushed) (inl (λ (e : kind_of (content_at b0 k0) ≡ 4). let z = content_kind b0 k0 in omega arith));
-      count = count_kept p ws (content_at b0 k0) Flushed n (content_in p b0 k0 hb hk) (content_side b0 k0 Flushed) (inl (λ (e : kind_of (content_at b0 k0) ≡ 5). let z = content_kind b0 k0 in omega arith));
-      key = key_kept p ws (content_at b0 k0) Flushed n (content_in p b0 k0 hb hk) (content_side b0 k0 Flushed) (inl (λ (e : kind_of (content_at b0 k0) ≡ 3). let z = content_kind b0 k0 in omega arith));
-      fkey = fkey_kept p ws (content_at b0 k0) Flushed n (content_in p b0 k0 hb hk) (content_side b0 k0 Flushed) (inl (λ (e : kind_of (content_at b0 k0) ≡ 3). let z = content_kind b0 k0 in omega arith));
-      fbody = λ b k. here b k (ℕ_discrete b b0) (ℕ_discrete k k0)
-    }
+    next = next_kept p ws (content_at b0 k0) Flushed n (content_in p b0 k0 hb hk) (content_side b0 k0 Flushed) (inl (λ (e : kind_of (content_at b0 k0) ≡ 0). let z = content_kind b0 k0 in omega arith));
+    fnext = fnext_kept p ws (content_at b0 k0) Flushed n (content_in p b0 k0 hb hk) (content_side b0 k0 Flushed) (inl (λ (e : kind_of (content_at b0 k0) ≡ 0). let z = content_kind b0 k0 in omega arith));
+    body = body_kept p ws (content_at b0 k0) Flushed n (content_in p b0 k0 hb hk) (content_side b0 k0 Flushed) (inr current_side);
+    root = root_kept p ws (content_at b0 k0) Flushed n (content_in p b0 k0 hb hk) (content_side b0 k0 Flushed) (inl (λ (e : kind_of (content_at b0 k0) ≡ 2). let z = content_kind b0 k0 in omega arith));
+    froot = froot_kept p ws (content_at b0 k0) Flushed n (content_in p b0 k0 hb hk) (content_side b0 k0 Flushed) (inl (λ (e : kind_of (content_at b0 k0) ≡ 2). let z = content_kind b0 k0 in omega arith));
+    short = short_kept p ws (content_at b0 k0) Flushed n (content_in p b0 k0 hb hk) (content_side b0 k0 Flushed) (inl (λ (e : kind_of (content_at b0 k0) ≡ 4). let z = content_kind b0 k0 in omega arith));
+    count = count_kept p ws (content_at b0 k0) Flushed n (content_in p b0 k0 hb hk) (content_side b0 k0 Flushed) (inl (λ (e : kind_of (content_at b0 k0) ≡ 5). let z = content_kind b0 k0 in omega arith));
+    key = key_kept p ws (content_at b0 k0) Flushed n (content_in p b0 k0 hb hk) (content_side b0 k0 Flushed) (inl (λ (e : kind_of (content_at b0 k0) ≡ 3). let z = content_kind b0 k0 in omega arith));
+    fkey = fkey_kept p ws (content_at b0 k0) Flushed n (content_in p b0 k0 hb hk) (content_side b0 k0 Flushed) (inl (λ (e : kind_of (content_at b0 k0) ≡ 3). let z = content_kind b0 k0 in omega arith));
+    fbody = λ b k. here b k (ℕ_discrete b b0) (ℕ_discrete k k0);
+  }
     where
       off : (b k : ℕ) → ((b ≡ b0) → (k ≡ k0) → ⊥) → (mem_of p (slice_set ws (address_of p (content_at b0 k0) Flushed) n)).fbody b k ≡ (mem_of p ws).fbody b k
       off b k d = guard (inside p b && nat_lt k (1 + p.words)) _ _ 0 (λ h. copy_kept p ws (content_at b0 k0) Flushed (content_at b k) Flushed n (content_in p b0 k0 hb hk) (content_side b0 k0 Flushed) (let q = both (inside p b) (nat_lt k (1 + p.words)) h in content_in p b k q.0 (below k (1 + p.words) q.1)) (content_side b k Flushed) (λ e z. let q = content_same b k b0 k0 e in d q.0 q.1))
+
       here : (b k : ℕ) → Dec (b ≡ b0) → Dec (k ≡ k0) → (mem_of p (slice_set ws (address_of p (content_at b0 k0) Flushed) n)).fbody b k ≡ upd (mem_of p ws).fbody b0 (upd ((mem_of p ws).fbody b0) k0 n) b k
       here b k (yes e) (yes f) = rw (e, f) (guard_true (inside p b0 && nat_lt k0 (1 + p.words)) _ _ 0 (and_true (inside p b0) (nat_lt k0 (1 + p.words)) hb (test_below k0 (1 + p.words) hk)) (copy_set p ws (content_at b0 k0) Flushed n hl) ∙ sym (ap (λ (g : ℕ → ℕ). g k0) (upd_same (mem_of p ws).fbody b0 (upd ((mem_of p ws).fbody b0) k0 n)) ∙ upd_same ((mem_of p ws).fbody b0) k0 n))
       here b k (yes e) (no f) = off b k (λ x y. f y) ∙ rw e (sym (ap (λ (g : ℕ → ℕ). g k) (upd_same (mem_of p ws).fbody b0 (upd ((mem_of p ws).fbody b0) k0 n)) ∙ upd_else ((mem_of p ws).fbody b0) k0 k n f))
@@ -259,17 +260,17 @@ module _ (p : Pool) (ws : List ℕ) (n : ℕ) where
 
   pub write_root : (s1 : ℕ) → s1 < p.slots → address_of p (Root s1) Current < length ws → mem_of p (slice_set ws (address_of p (Root s1) Current) n) ≡ record (mem_of p ws) { root = upd (mem_of p ws).root s1 (root_of n) }
   write_root s1 hb hl = mem_path _ _ record {
-      next = next_kept p ws (Root s1) Current n hb tt (inl (λ (e : kind_of (Root s1) ≡ 0). omega arith));
-      fnext = fnext_kept p ws (Root s1) Current n hb tt (inl (λ (e : kind_of (Root s1) ≡ 0). omega arith));
-      body = body_kept p ws (Root s1) Current n hb tt (inl (λ (e : kind_of (Root s1) ≡ 1). omega arith));
-      fbody = fbody_kept p ws (Root s1) Current n hb tt (inl (λ (e : kind_of (Root s1) ≡ 1). omega arith));
-      froot = froot_kept p ws (Root s1) Current n hb tt (inr flushed_side);
-      short = short_kept p ws (Root s1) Current n hb tt (inl (λ (e : kind_of (Root s1) ≡ 4). omega arith));
-      count = count_kept p ws (Root s1) Current n hb tt (inl (λ (e : kind_of (Root s1) ≡ 5). omega arith));
-      key = key_kept p ws (Root s1) Current n hb tt (inl (λ (e : kind_of (Root s1) ≡ 3). omega arith));
-      fkey = fkey_kept p ws (Root s1) Current n hb tt (inl (λ (e : kind_of (Root s1) ≡ 3). omega arith));
-      root = λ s. here s (ℕ_discrete s s1)
-    }
+    next = next_kept p ws (Root s1) Current n hb tt (inl (λ (e : kind_of (Root s1) ≡ 0). omega arith));
+    fnext = fnext_kept p ws (Root s1) Current n hb tt (inl (λ (e : kind_of (Root s1) ≡ 0). omega arith));
+    body = body_kept p ws (Root s1) Current n hb tt (inl (λ (e : kind_of (Root s1) ≡ 1). omega arith));
+    fbody = fbody_kept p ws (Root s1) Current n hb tt (inl (λ (e : kind_of (Root s1) ≡ 1). omega arith));
+    froot = froot_kept p ws (Root s1) Current n hb tt (inr flushed_side);
+    short = short_kept p ws (Root s1) Current n hb tt (inl (λ (e : kind_of (Root s1) ≡ 4). omega arith));
+    count = count_kept p ws (Root s1) Current n hb tt (inl (λ (e : kind_of (Root s1) ≡ 5). omega arith));
+    key = key_kept p ws (Root s1) Current n hb tt (inl (λ (e : kind_of (Root s1) ≡ 3). omega arith));
+    fkey = fkey_kept p ws (Root s1) Current n hb tt (inl (λ (e : kind_of (Root s1) ≡ 3). omega arith));
+    root = λ s. here s (ℕ_discrete s s1);
+  }
     where
       here : (s : ℕ) → Dec (s ≡ s1) → (mem_of p (slice_set ws (address_of p (Root s1) Current) n)).root s ≡ upd (mem_of p ws).root s1 (root_of n) s
       here s (yes e) = rw e (guard_true (nat_lt s1 p.slots) _ _ None (test_below s1 p.slots hb) (ap root_of (copy_set p ws (Root s1) Current n hl)) ∙ sym (upd_same (mem_of p ws).root s1 (root_of n)))
@@ -280,17 +281,17 @@ module _ (p : Pool) (ws : List ℕ) (n : ℕ) where
 
   pub write_froot : (s1 : ℕ) → s1 < p.slots → address_of p (Root s1) Flushed < length ws → mem_of p (slice_set ws (address_of p (Root s1) Flushed) n) ≡ record (mem_of p ws) { froot = upd (mem_of p ws).froot s1 (root_of n) }
   write_froot s1 hb hl = mem_path _ _ record {
-      next = next_kept p ws (Root s1) Flushed n hb tt (inl (λ (e : kind_of (Root s1) ≡ 0). omega arith));
-      fnext = fnext_kept p ws (Root s1) Flushed n hb tt (inl (λ (e : kind_of (Root s1) ≡ 0). omega arith));
-      body = body_kept p ws (Root s1) Flushed n hb tt (inl (λ (e : kind_of (Root s1) ≡ 1). omega arith));
-      fbody = fbody_kept p ws (Root s1) Flushed n hb tt (inl (λ (e : kind_of (Root s1) ≡ 1). omega arith));
-      root = root_kept p ws (Root s1) Flushed n hb tt (inr current_side);
-      short = short_kept p ws (Root s1) Flushed n hb tt (inl (λ (e : kind_of (Root s1) ≡ 4). omega arith));
-      count = count_kept p ws (Root s1) Flushed n hb tt (inl (λ (e : kind_of (Root s1) ≡ 5). omega arith));
-      key = key_kept p ws (Root s1) Flushed n hb tt (inl (λ (e : kind_of (Root s1) ≡ 3). omega arith));
-      fkey = fkey_kept p ws (Root s1) Flushed n hb tt (inl (λ (e : kind_of (Root s1) ≡ 3). omega arith));
-      froot = λ s. here s (ℕ_discrete s s1)
-    }
+    next = next_kept p ws (Root s1) Flushed n hb tt (inl (λ (e : kind_of (Root s1) ≡ 0). omega arith));
+    fnext = fnext_kept p ws (Root s1) Flushed n hb tt (inl (λ (e : kind_of (Root s1) ≡ 0). omega arith));
+    body = body_kept p ws (Root s1) Flushed n hb tt (inl (λ (e : kind_of (Root s1) ≡ 1). omega arith));
+    fbody = fbody_kept p ws (Root s1) Flushed n hb tt (inl (λ (e : kind_of (Root s1) ≡ 1). omega arith));
+    root = root_kept p ws (Root s1) Flushed n hb tt (inr current_side);
+    short = short_kept p ws (Root s1) Flushed n hb tt (inl (λ (e : kind_of (Root s1) ≡ 4). omega arith));
+    count = count_kept p ws (Root s1) Flushed n hb tt (inl (λ (e : kind_of (Root s1) ≡ 5). omega arith));
+    key = key_kept p ws (Root s1) Flushed n hb tt (inl (λ (e : kind_of (Root s1) ≡ 3). omega arith));
+    fkey = fkey_kept p ws (Root s1) Flushed n hb tt (inl (λ (e : kind_of (Root s1) ≡ 3). omega arith));
+    froot = λ s. here s (ℕ_discrete s s1);
+  }
     where
       here : (s : ℕ) → Dec (s ≡ s1) → (mem_of p (slice_set ws (address_of p (Root s1) Flushed) n)).froot s ≡ upd (mem_of p ws).froot s1 (root_of n) s
       here s (yes e) = rw e (guard_true (nat_lt s1 p.slots) _ _ None (test_below s1 p.slots hb) (ap root_of (copy_set p ws (Root s1) Flushed n hl)) ∙ sym (upd_same (mem_of p ws).froot s1 (root_of n)))
@@ -301,17 +302,17 @@ module _ (p : Pool) (ws : List ℕ) (n : ℕ) where
 
   pub write_short : (s1 : ℕ) → s1 < p.slots → address_of p (Short s1) Current < length ws → mem_of p (slice_set ws (address_of p (Short s1) Current) n) ≡ record (mem_of p ws) { short = upd (mem_of p ws).short s1 (root_of n) }
   write_short s1 hb hl = mem_path _ _ record {
-      next = next_kept p ws (Short s1) Current n hb tt (inl (λ (e : kind_of (Short s1) ≡ 0). omega arith));
-      fnext = fnext_kept p ws (Short s1) Current n hb tt (inl (λ (e : kind_of (Short s1) ≡ 0). omega arith));
-      body = body_kept p ws (Short s1) Current n hb tt (inl (λ (e : kind_of (Short s1) ≡ 1). omega arith));
-      fbody = fbody_kept p ws (Short s1) Current n hb tt (inl (λ (e : kind_of (Short s1) ≡ 1). omega arith));
-      root = root_kept p ws (Short s1) Current n hb tt (inl (λ (e : kind_of (Short s1) ≡ 2). omega arith));
-      froot = froot_kept p ws (Short s1) Current n hb tt (inl (λ (e : kind_of (Short s1) ≡ 2). omega arith));
-      count = count_kept p ws (Short s1) Current n hb tt (inl (λ (e : kind_of (Short s1) ≡ 5). omega arith));
-      key = key_kept p ws (Short s1) Current n hb tt (inl (λ (e : kind_of (Short s1) ≡ 3). omega arith));
-      fkey = fkey_kept p ws (Short s1) Current n hb tt (inl (λ (e : kind_of (Short s1) ≡ 3). omega arith));
-      short = λ s. here s (ℕ_discrete s s1)
-    }
+    next = next_kept p ws (Short s1) Current n hb tt (inl (λ (e : kind_of (Short s1) ≡ 0). omega arith));
+    fnext = fnext_kept p ws (Short s1) Current n hb tt (inl (λ (e : kind_of (Short s1) ≡ 0). omega arith));
+    body = body_kept p ws (Short s1) Current n hb tt (inl (λ (e : kind_of (Short s1) ≡ 1). omega arith));
+    fbody = fbody_kept p ws (Short s1) Current n hb tt (inl (λ (e : kind_of (Short s1) ≡ 1). omega arith));
+    root = root_kept p ws (Short s1) Current n hb tt (inl (λ (e : kind_of (Short s1) ≡ 2). omega arith));
+    froot = froot_kept p ws (Short s1) Current n hb tt (inl (λ (e : kind_of (Short s1) ≡ 2). omega arith));
+    count = count_kept p ws (Short s1) Current n hb tt (inl (λ (e : kind_of (Short s1) ≡ 5). omega arith));
+    key = key_kept p ws (Short s1) Current n hb tt (inl (λ (e : kind_of (Short s1) ≡ 3). omega arith));
+    fkey = fkey_kept p ws (Short s1) Current n hb tt (inl (λ (e : kind_of (Short s1) ≡ 3). omega arith));
+    short = λ s. here s (ℕ_discrete s s1);
+  }
     where
       here : (s : ℕ) → Dec (s ≡ s1) → (mem_of p (slice_set ws (address_of p (Short s1) Current) n)).short s ≡ upd (mem_of p ws).short s1 (root_of n) s
       here s (yes e) = rw e (guard_true (nat_lt s1 p.slots) _ _ None (test_below s1 p.slots hb) (ap root_of (copy_set p ws (Short s1) Current n hl)) ∙ sym (upd_same (mem_of p ws).short s1 (root_of n)))
@@ -322,34 +323,35 @@ module _ (p : Pool) (ws : List ℕ) (n : ℕ) where
 
   pub write_count : address_of p Count Current < length ws → mem_of p (slice_set ws (address_of p Count Current) n) ≡ record (mem_of p ws) { count = n }
   write_count hl = mem_path _ _ record {
-      next = next_kept p ws Count Current n tt tt (inl (λ (e : kind_of Count ≡ 0). omega arith));
-      fnext = fnext_kept p ws Count Current n tt tt (inl (λ (e : kind_of Count ≡ 0). omega arith));
-      body = body_kept p ws Count Current n tt tt (inl (λ (e : kind_of Count ≡ 1). omega arith));
-      fbody = fbody_kept p ws Count Current n tt tt (inl (λ (e : kind_of Count ≡ 1). omega arith));
-      root = root_kept p ws Count Current n tt tt (inl (λ (e : kind_of Count ≡ 2). omega arith));
-      froot = froot_kept p ws Count Current n tt tt (inl (λ (e : kind_of Count ≡ 2). omega arith));
-      short = short_kept p ws Count Current n tt tt (inl (λ (e : kind_of Count ≡ 4). omega arith));
-      key = key_kept p ws Count Current n tt tt (inl (λ (e : kind_of Count ≡ 3). omega arith));
-      fkey = fkey_kept p ws Count Current n tt tt (inl (λ (e : kind_of Count ≡ 3). omega arith));
-      count = copy_set p ws Count Current n hl
-    }
+    next = next_kept p ws Count Current n tt tt (inl (λ (e : kind_of Count ≡ 0). omega arith));
+    fnext = fnext_kept p ws Count Current n tt tt (inl (λ (e : kind_of Count ≡ 0). omega arith));
+    body = body_kept p ws Count Current n tt tt (inl (λ (e : kind_of Count ≡ 1). omega arith));
+    fbody = fbody_kept p ws Count Current n tt tt (inl (λ (e : kind_of Count ≡ 1). omega arith));
+    root = root_kept p ws Count Current n tt tt (inl (λ (e : kind_of Count ≡ 2). omega arith));
+    froot = froot_kept p ws Count Current n tt tt (inl (λ (e : kind_of Count ≡ 2). omega arith));
+    short = short_kept p ws Count Current n tt tt (inl (λ (e : kind_of Count ≡ 4). omega arith));
+    key = key_kept p ws Count Current n tt tt (inl (λ (e : kind_of Count ≡ 3). omega arith));
+    fkey = fkey_kept p ws Count Current n tt tt (inl (λ (e : kind_of Count ≡ 3). omega arith));
+    count = copy_set p ws Count Current n hl;
+  }
 
   pub write_key : (b0 k0 : ℕ) → b0 < p.slots → k0 < 32 → address_of p (Key b0 k0) Current < length ws → mem_of p (slice_set ws (address_of p (Key b0 k0) Current) n) ≡ record (mem_of p ws) { key = upd (mem_of p ws).key b0 (upd ((mem_of p ws).key b0) k0 n) }
   write_key b0 k0 hb hk hl = mem_path _ _ record {
-      next = next_kept p ws (Key b0 k0) Current n (hb, hk) tt (inl (λ (e : kind_of (Key b0 k0) ≡ 0). omega arith));
-      fnext = fnext_kept p ws (Key b0 k0) Current n (hb, hk) tt (inl (λ (e : kind_of (Key b0 k0) ≡ 0). omega arith));
-      body = body_kept p ws (Key b0 k0) Current n (hb, hk) tt (inl (λ (e : kind_of (Key b0 k0) ≡ 1). omega arith));
-      fbody = fbody_kept p ws (Key b0 k0) Current n (hb, hk) tt (inl (λ (e : kind_of (Key b0 k0) ≡ 1). omega arith));
-      root = root_kept p ws (Key b0 k0) Current n (hb, hk) tt (inl (λ (e : kind_of (Key b0 k0) ≡ 2). omega arith));
-      froot = froot_kept p ws (Key b0 k0) Current n (hb, hk) tt (inl (λ (e : kind_of (Key b0 k0) ≡ 2). omega arith));
-      short = short_kept p ws (Key b0 k0) Current n (hb, hk) tt (inl (λ (e : kind_of (Key b0 k0) ≡ 4). omega arith));
-      count = count_kept p ws (Key b0 k0) Current n (hb, hk) tt (inl (λ (e : kind_of (Key b0 k0) ≡ 5). omega arith));
-      fkey = fkey_kept p ws (Key b0 k0) Current n (hb, hk) tt (inr flushed_side);
-      key = λ b k. here b k (ℕ_discrete b b0) (ℕ_discrete k k0)
-    }
+    next = next_kept p ws (Key b0 k0) Current n (hb, hk) tt (inl (λ (e : kind_of (Key b0 k0) ≡ 0). omega arith));
+    fnext = fnext_kept p ws (Key b0 k0) Current n (hb, hk) tt (inl (λ (e : kind_of (Key b0 k0) ≡ 0). omega arith));
+    body = body_kept p ws (Key b0 k0) Current n (hb, hk) tt (inl (λ (e : kind_of (Key b0 k0) ≡ 1). omega arith));
+    fbody = fbody_kept p ws (Key b0 k0) Current n (hb, hk) tt (inl (λ (e : kind_of (Key b0 k0) ≡ 1). omega arith));
+    root = root_kept p ws (Key b0 k0) Current n (hb, hk) tt (inl (λ (e : kind_of (Key b0 k0) ≡ 2). omega arith));
+    froot = froot_kept p ws (Key b0 k0) Current n (hb, hk) tt (inl (λ (e : kind_of (Key b0 k0) ≡ 2). omega arith));
+    short = short_kept p ws (Key b0 k0) Current n (hb, hk) tt (inl (λ (e : kind_of (Key b0 k0) ≡ 4). omega arith));
+    count = count_kept p ws (Key b0 k0) Current n (hb, hk) tt (inl (λ (e : kind_of (Key b0 k0) ≡ 5). omega arith));
+    fkey = fkey_kept p ws (Key b0 k0) Current n (hb, hk) tt (inr flushed_side);
+    key = λ b k. here b k (ℕ_discrete b b0) (ℕ_discrete k k0);
+  }
     where
       off : (b k : ℕ) → ((b ≡ b0) → (k ≡ k0) → ⊥) → (mem_of p (slice_set ws (address_of p (Key b0 k0) Current) n)).key b k ≡ (mem_of p ws).key b k
       off b k d = guard (nat_lt b p.slots && nat_lt k 32) _ _ 0 (λ h. copy_kept p ws (Key b0 k0) Current (Key b k) Current n (hb, hk) tt (let q = both (nat_lt b p.slots) (nat_lt k 32) h in (below b p.slots q.0, below k 32 q.1)) tt (λ e z. let q = key_same b k b0 k0 e in d q.0 q.1))
+
       here : (b k : ℕ) → Dec (b ≡ b0) → Dec (k ≡ k0) → (mem_of p (slice_set ws (address_of p (Key b0 k0) Current) n)).key b k ≡ upd (mem_of p ws).key b0 (upd ((mem_of p ws).key b0) k0 n) b k
       here b k (yes e) (yes f) = rw (e, f) (guard_true (nat_lt b0 p.slots && nat_lt k0 32) _ _ 0 (and_true (nat_lt b0 p.slots) (nat_lt k0 32) (test_below b0 p.slots hb) (test_below k0 32 hk)) (copy_set p ws (Key b0 k0) Current n hl) ∙ sym (ap (λ (g : ℕ → ℕ). g k0) (upd_same (mem_of p ws).key b0 (upd ((mem_of p ws).key b0) k0 n)) ∙ upd_same ((mem_of p ws).key b0) k0 n))
       here b k (yes e) (no f) = off b k (λ x y. f y) ∙ rw e (sym (ap (λ (g : ℕ → ℕ). g k) (upd_same (mem_of p ws).key b0 (upd ((mem_of p ws).key b0) k0 n)) ∙ upd_else ((mem_of p ws).key b0) k0 k n f))
@@ -357,22 +359,22 @@ module _ (p : Pool) (ws : List ℕ) (n : ℕ) where
 
   pub write_fkey : (b0 k0 : ℕ) → b0 < p.slots → k0 < 32 → address_of p (Key b0 k0) Flushed < length ws → mem_of p (slice_set ws (address_of p (Key b0 k0) Flushed) n) ≡ record (mem_of p ws) { fkey = upd (mem_of p ws).fkey b0 (upd ((mem_of p ws).fkey b0) k0 n) }
   write_fkey b0 k0 hb hk hl = mem_path _ _ record {
-      next = next_kept p ws (Key b0 k0) Flushed n (hb, hk) tt (inl (λ (e : kind_of (Key b0 k0) ≡ 0). omega arith));
-      fnext = fnext_kept p ws (Key b0 k0) Flushed n (hb, hk) tt (inl (λ (e : kind_of (Key b0 k0) ≡ 0). omega arith));
-      body = body_kept p ws (Key b0 k0) Flushed n (hb, hk) tt (inl (λ (e : kind_of (Key b0 k0) ≡ 1). omega arith));
-      fbody = fbody_kept p ws (Key b0 k0) Flushed n (hb, hk) tt (inl (λ (e : kind_of (Key b0 k0) ≡ 1). omega arith));
-      root = root_kept p ws (Key b0 k0) Flushed n (hb, hk) tt (inl (λ (e : kind_of (Key b0 k0) ≡ 2). omega arith));
-      froot = froot_kept p ws (Key b0 k0) Flushed n (hb, hk) tt (inl (λ (e : kind_of (Key b0 k0) ≡ 2). omega arith));
-      short = short_kept p ws (Key b0 k0) Flushed n (hb, hk) tt (inl (λ (e : kind_of (Key b0 k0) ≡ 4). omega arith));
-      count = count_kept p ws (Key b0 k0) Flushed n (hb, hk) tt (inl (λ (e : kind_of (Key b0 k0) ≡ 5). omega arith));
-      key = key_kept p ws (Key b0 k0) Flushed n (hb, hk) tt (inr current_side);
-      fkey = λ b k. here b k (ℕ_discrete b b0) (ℕ_discrete k k0)
-    }
+    next = next_kept p ws (Key b0 k0) Flushed n (hb, hk) tt (inl (λ (e : kind_of (Key b0 k0) ≡ 0). omega arith));
+    fnext = fnext_kept p ws (Key b0 k0) Flushed n (hb, hk) tt (inl (λ (e : kind_of (Key b0 k0) ≡ 0). omega arith));
+    body = body_kept p ws (Key b0 k0) Flushed n (hb, hk) tt (inl (λ (e : kind_of (Key b0 k0) ≡ 1). omega arith));
+    fbody = fbody_kept p ws (Key b0 k0) Flushed n (hb, hk) tt (inl (λ (e : kind_of (Key b0 k0) ≡ 1). omega arith));
+    root = root_kept p ws (Key b0 k0) Flushed n (hb, hk) tt (inl (λ (e : kind_of (Key b0 k0) ≡ 2). omega arith));
+    froot = froot_kept p ws (Key b0 k0) Flushed n (hb, hk) tt (inl (λ (e : kind_of (Key b0 k0) ≡ 2). omega arith));
+    short = short_kept p ws (Key b0 k0) Flushed n (hb, hk) tt (inl (λ (e : kind_of (Key b0 k0) ≡ 4). omega arith));
+    count = count_kept p ws (Key b0 k0) Flushed n (hb, hk) tt (inl (λ (e : kind_of (Key b0 k0) ≡ 5). omega arith));
+    key = key_kept p ws (Key b0 k0) Flushed n (hb, hk) tt (inr current_side);
+    fkey = λ b k. here b k (ℕ_discrete b b0) (ℕ_discrete k k0);
+  }
     where
       off : (b k : ℕ) → ((b ≡ b0) → (k ≡ k0) → ⊥) → (mem_of p (slice_set ws (address_of p (Key b0 k0) Flushed) n)).fkey b k ≡ (mem_of p ws).fkey b k
       off b k d = guard (nat_lt b p.slots && nat_lt k 32) _ _ 0 (λ h. copy_kept p ws (Key b0 k0) Flushed (Key b k) Flushed n (hb, hk) tt (let q = both (nat_lt b p.slots) (nat_lt k 32) h in (below b p.slots q.0, below k 32 q.1)) tt (λ e z. let q = key_same b k b0 k0 e in d q.0 q.1))
+
       here : (b k : ℕ) → Dec (b ≡ b0) → Dec (k ≡ k0) → (mem_of p (slice_set ws (address_of p (Key b0 k0) Flushed) n)).fkey b k ≡ upd (mem_of p ws).fkey b0 (upd ((mem_of p ws).fkey b0) k0 n) b k
       here b k (yes e) (yes f) = rw (e, f) (guard_true (nat_lt b0 p.slots && nat_lt k0 32) _ _ 0 (and_true (nat_lt b0 p.slots) (nat_lt k0 32) (test_below b0 p.slots hb) (test_below k0 32 hk)) (copy_set p ws (Key b0 k0) Flushed n hl) ∙ sym (ap (λ (g : ℕ → ℕ). g k0) (upd_same (mem_of p ws).fkey b0 (upd ((mem_of p ws).fkey b0) k0 n)) ∙ upd_same ((mem_of p ws).fkey b0) k0 n))
       here b k (yes e) (no f) = off b k (λ x y. f y) ∙ rw e (sym (ap (λ (g : ℕ → ℕ). g k) (upd_same (mem_of p ws).fkey b0 (upd ((mem_of p ws).fkey b0) k0 n)) ∙ upd_else ((mem_of p ws).fkey b0) k0 k n f))
       here b k (no e) f = off b k (λ x y. e x) ∙ sym (ap (λ (g : ℕ → ℕ). g k) (upd_else (mem_of p ws).fkey b0 b (upd ((mem_of p ws).fkey b0) k0 n) e))
-

@@ -1,7 +1,6 @@
 -- Lists read by place, and functions changed at one place.
-use Rattle.std.proofs.Common.{◌≡◌, ℕ, zero, suc, ◌+◌, ◌<◌, ◌≤◌, ◌≢◌, ◌⊎◌, List, [], ◌∷◌, ◌++◌, length, Bool, true, false, cond, eqb, refl, sym, ap, ◌∙◌, inl, inr, ⊎_elim, arith, subst, eq-eqb, ne_eqb, eqb-true}
-use native.Mathlib.Decide.{ℕ_discrete}
-use Rattle.std.specs.Prelude.{Option, Some, None}
+use Rattle.std.proofs.Common.{◌≡◌, ℕ, zero, suc, ◌<◌, ◌≤◌, ◌≢◌, ◌⊎◌, List, [], ◌∷◌, ◌++◌, length, refl, sym, ap, inl, inr, ⊎_elim, arith, eq-eqb, ne_eqb}
+use Rattle.std.specs.Prelude.{Some, None}
 use Rattle.clover_rule.specs.Lists.{nth, upd}
 
 module _ {A : Type 0} where

@@ -1,40 +1,36 @@
 -- The twelve parts follow from the helping facts.
-use Rattle.std.proofs.Common.{◌≡◌, ℕ, zero, suc, ◌+◌, ◌-◌, ◌*◌, ◌/◌, ◌%◌, ◌<◌, ◌≤◌, ◌≢◌, ◌⊎◌, List, [], ◌∷◌, ◌++◌, length, drop, map, append-nil, Bool, true, false, cond, eqb, ltb, leb, refl, sym, ap, ◌∙◌, inl, inr, ⊎_elim, arith, subst, eq-eqb, ne_eqb, eqb-true, true≢false}
+use Rattle.std.proofs.Common.{◌≡◌, ℕ, zero, suc, ◌+◌, ◌<◌, ◌≤◌, ◌≢◌, ◌⊎◌, List, [], ◌∷◌, ◌++◌, length, drop, Bool, true, false, cond, eqb, ltb, refl, sym, ap, ◌∙◌, inl, inr, ⊎_elim, arith, subst, eq-eqb, ne_eqb, eqb-true, true≢false}
 use native.Mathlib.Decide.{ℕ_discrete, dec_le}
 use mathlib.Core.Logic.{dite}
 use Rattle.std.specs.Prelude.{Option, Some, None}
-use Rattle.std.specs.FinMap.{get}
 use Rattle.std.proofs.lemmas.Bool.Decides.{nat_tests}
 use Rattle.clover_map.specs.declared.bytes.Value.{Value}
 use Rattle.clover_map.specs.declared.bytes.Held.{Held}
 use Rattle.clover_map.specs.declared.call.Entry.{Entry}
 use Rattle.clover_map.specs.Tagged.{Tagged}
-use Rattle.clover_map.specs.Legal as Runs
 use Rattle.clover_words.specs.declared.pool.Pool.{Pool}
 use Rattle.clover_map.specs.declared.bytes.Held.{Held}
 use Rattle.clover_rule.specs.Content.{content}
-use Rattle.clover_rule.specs.History.{Version, commits, commit_of, key_of, leads, ends, pair_of, paired, used_by, Map, shows}
+use Rattle.clover_rule.specs.History.{Version, commits, commit_of, key_of, leads, ends, paired, used_by, Map, shows}
 use Rattle.clover_rule.specs.Image.{tags}
 use Rattle.clover_rule.specs.Lists.{nth, Within, Each}
 use Rattle.clover_rule.specs.Meets.{Meets}
-use Rattle.clover_rule.specs.Parts.{Falls, IsKnown, IsTarget, HasPassed}
+use Rattle.clover_rule.specs.Parts.{Falls}
 use Rattle.clover_rule.specs.Rule.{held_by, BuffersInOnePlace, ChainsAndContents, Rule, LinksAndRootsFlushed, NextWordsRise, StocksAtRest, AtRest, DurableTagsKnown, TargetsStand, CopiesAreWhole, ShortcutsKnown, NamesAndCount, tail_pair, HistoryAndMap, ViewsAndHistory}
 use Rattle.clover_rule.specs.Server.{IsWaiting, waiting_name, moving, holding, AtStage, root_in, is_home, book_of}
-use Rattle.clover_rule.specs.State.{Waits, Loose, tag_in_version, age, Next, word, gen, link, home, Durable, Passed, only, order, Mem, Place, Chained, Stocked, Free, Worn, Taken, Story, tag_at, Core}
-use Rattle.clover_rule.specs.Views.{Owned, book_at, book, Spent, IsCopied, Past, IsLink, Holds}
+use Rattle.clover_rule.specs.State.{Waits, Loose, tag_in_version, age, Next, word, gen, link, home, only, order, Mem, Place, Chained, Stocked, Free, Worn, Taken, Story, tag_at, Core}
+use Rattle.clover_rule.specs.Views.{Owned, book, Spent, Past, IsLink, Holds}
 use Rattle.clover_rule.specs.Words.{mem_of}
-use Rattle.clover_rule.specs.declared.view.BufferState.TheVariants.{Free as IsFree, Worn as IsWorn, Bound as IsBound, Out as IsOut}
-use Rattle.clover_rule.specs.declared.view.Content.{Content}
+use Rattle.clover_rule.specs.declared.view.BufferState.TheVariants.{Worn as IsWorn, Bound as IsBound, Out as IsOut}
 use Rattle.clover_rule.specs.declared.view.Link.{Link}
-use Rattle.clover_rule.specs.declared.view.Role.TheVariants.{Client, Serving}
 use Rattle.clover_rule.specs.declared.view.Shown.{Shown}
 use Rattle.clover_rule.specs.declared.view.Task.{Task}
 use Rattle.clover_rule.specs.declared.view.Task.TheVariants.{Idle, Storing, Rooted, Waiting, Loaded, Raised, Led, Both, Exchanged}
 use Rattle.clover_rule.specs.declared.view.View.{View}
-use Rattle.clover_rule.proofs.Tools.{nth_within, nth_past, nth_none}
-use Rattle.clover_rule.proofs.Standings.{tag_there, tag_within, tag_past, same_tag, one_buffer, word_of}
+use Rattle.clover_rule.proofs.Tools.{nth_past}
+use Rattle.clover_rule.proofs.Standings.{tag_there, tag_within, tag_past, one_buffer, word_of}
 use Rattle.clover_rule.proofs.Steps.{each_map, each_within}
-use Rattle.clover_rule.proofs.Histories.{leads_commits, ends_more, ends_last}
+use Rattle.clover_rule.proofs.Histories.{leads_commits, ends_more}
 use Rattle.clover_rule.proofs.Snocs.{within_nth, within_commits, within_back}
 use Rattle.clover_rule.proofs.TaggedMaps.{legal_history}
 use Rattle.clover_rule.proofs.Keys.{key_discrete}
@@ -124,8 +120,8 @@ module _ (p : Pool) (first : Tagged) (used : List ℕ) (ws : List ℕ) (vs : Lis
       let x = chain_at s t w in
       let e : st.place (home t) ≡ Chained s = (c.standing s x.at t x.tag x.stands).placed in
       let off : is_home (recycled_of st s) (home t) ≡ false = not_true (is_home (recycled_of st s) (home t)) (λ q.
-          let z = is_home_some (recycled_of st s) (home t) q in let y = recycled_at s z.0 z.1 in
-          let o = one_buffer m st c s x.at t s (st.gone s) z.0 x.tag x.stands y.1 (omega arith) z.2 in let f = o.1 in let g = x.late in let k = y.0 in omega arith) in
+      let z = is_home_some (recycled_of st s) (home t) q in let y = recycled_at s z.0 z.1 in
+      let o = one_buffer m st c s x.at t s (st.gone s) z.0 x.tag x.stands y.1 (omega arith) z.2 in let f = o.1 in let g = x.late in let k = y.0 in omega arith) in
       ap (λ (q : Place). moved q (home t)) e ∙ ap (λ (b : Bool). cond b Taken (Chained s)) off
 
   chained_back : (b s : ℕ) → place_at b ≡ Chained s → (t : ℕ) × Within t (chain_of st s) × (home t ≡ b)
@@ -138,8 +134,9 @@ module _ (p : Pool) (first : Tagged) (used : List ℕ) (ws : List ℕ) (vs : Lis
           let same : s1 ≡ s = let z : Chained s1 ≡ Chained s = g in cc in
           let a = c.chained b s1 f in
           dite (dec_le (st.lead s1) a.0)
-            (λ d. (a.1, subst (λ (j : ℕ). Within a.1 (chain_of st j)) same (on_chain m st c s1 a.0 a.1 a.2 d), a.4))
-            (λ d. absurd (true≢false (sym (is_home_yes (recycled_of st s1) a.1 b (is_held m st c s1 a.0 a.1 a.2 a.3 (omega arith)) a.4) ∙ q)))
+          (λ d. (a.1, subst (λ (j : ℕ). Within a.1 (chain_of st j)) same (on_chain m st c s1 a.0 a.1 a.2 d), a.4))
+          (λ d. absurd (true≢false (sym (is_home_yes (recycled_of st s1) a.1 b (is_held m st c s1 a.0 a.1 a.2 a.3 (omega arith)) a.4) ∙ q)))
+
       go : (q : Place) → st.place b ≡ q → moved q b ≡ Chained s → (t : ℕ) × Within t (chain_of st s) × (home t ≡ b)
       go (Chained s1) f g = test s1 (is_home (recycled_of st s1) b) refl f g
       go (Stocked i) f g = absurd (let z : Stocked i ≡ Chained s = g in cc)
@@ -190,19 +187,19 @@ module _ (p : Pool) (first : Tagged) (used : List ℕ) (ws : List ℕ) (vs : Lis
   part_1 : BuffersInOnePlace p vs (chain_of st) place_at
   unfolding moved
   part_1 = record {
-      chained = chained_here;
-      on_chain = chained_back;
-      stocked = λ i v e. let ok = r.whole.basis.views i v e in (each_map (λ t q. ap (λ (z : Place). moved z (home t)) q.0) v.pass.stock ok.stocked, ok.apart);
-      free = λ v sv b g i e. let s = r.whole.serves sv.0 v sv.1 sv.2 in ap (λ (z : Place). moved z b) (free_place st.task st (st.place b) (gen (m.next b)) b g (sym (s.books b i) ∙ e)).0;
-      worn = λ v sv b g i e. let s = r.whole.serves sv.0 v sv.1 sv.2 in ap (λ (z : Place). moved z b) (worn_place st.task (st.place b) (gen (m.next b)) b g (sym (s.books b i) ∙ e));
-      taken = λ v sv b e. let s = r.whole.serves sv.0 v sv.1 sv.2 in taken_here st.task r.whole.help.stage.here b (sym (ap held_by s.task_is) ∙ e)
-    }
+    chained = chained_here;
+    on_chain = chained_back;
+    stocked = λ i v e. let ok = r.whole.basis.views i v e in (each_map (λ t q. ap (λ (z : Place). moved z (home t)) q.0) v.pass.stock ok.stocked, ok.apart);
+    free = λ v sv b g i e. let s = r.whole.serves sv.0 v sv.1 sv.2 in ap (λ (z : Place). moved z b) (free_place st.task st (st.place b) (gen (m.next b)) b g (sym (s.books b i) ∙ e)).0;
+    worn = λ v sv b g i e. let s = r.whole.serves sv.0 v sv.1 sv.2 in ap (λ (z : Place). moved z b) (worn_place st.task (st.place b) (gen (m.next b)) b g (sym (s.books b i) ∙ e));
+    taken = λ v sv b e. let s = r.whole.serves sv.0 v sv.1 sv.2 in taken_here st.task r.whole.help.stage.here b (sym (ap held_by s.task_is) ∙ e);
+  }
 
   holds_at : (s i t : ℕ) → tag_at st s i ≡ Some t → st.gone s ≤ i → Holds m (record { tag = t; value = value_by st t })
   holds_at s i t e g = let w = tag_there st s i t e in
       let same : value_by st t ≡ w.0.value = ap (value_by st) (sym w.2) ∙ value_at s i w.0 w.1 in
       λ j y q. let a = r.whole.basis.bodies s i w.0 w.1 g j y (ap (λ (o : Option Value). nth (content o) j) (sym same) ∙ q) in
-        (ap (λ (z : ℕ). m.body (home z) j) (sym w.2) ∙ a.0, ap (λ (z : ℕ). m.fbody (home z) j) (sym w.2) ∙ a.1)
+      (ap (λ (z : ℕ). m.body (home z) j) (sym w.2) ∙ a.0, ap (λ (z : ℕ). m.fbody (home z) j) (sym w.2) ∙ a.1)
 
   -- the commits of a history stand in the log of their key's slot
   in_log : (e : Entry) (w : Version) → Within e h → commit_of e ≡ Some w → (s : ℕ) → st.keys s ≡ Some (key_of e) → Within w (st.log s)
@@ -213,8 +210,10 @@ module _ (p : Pool) (first : Tagged) (used : List ℕ) (ws : List ℕ) (vs : Lis
     where
       k : List ℕ
       k = key_of e
+
       unbound : ((s : ℕ) → st.keys s ≢ Some (key_of e)) → ⊥
       unbound f = subst (Within w) (r.whole.basis.tale.unbound (key_of e) f).1 (within_commits h e w a b)
+
       go : (x : Option (List ℕ)) → st.keys (st.slot_named (key_of e)) ≡ x → value_by st w.tag ≡ w.value
       go None q = absurd (unbound (λ s z. let f = r.whole.help.naming.found s (key_of e) z in absurd (let y : ◌≡◌ {A = Option (List ℕ)} None (Some (key_of e)) = sym q ∙ ap st.keys f ∙ z in cc)))
       go (Some j) q = dite (key_discrete j (key_of e))
@@ -223,11 +222,11 @@ module _ (p : Pool) (first : Tagged) (used : List ℕ) (ws : List ℕ) (vs : Lis
 
   part_2 : ChainsAndContents m (chain_of st) (recycled_of st) (value_by st) h
   part_2 = record {
-      chains = chains m st c;
-      contents = λ s t w. let x = chain_at s t w in holds_at s x.at t x.tag x.stands;
-      leaving = λ s t e. let x = recycled_at s t e in holds_at s (st.gone s) t x.1 (omega arith);
-      committed = committed_here
-    }
+    chains = chains m st c;
+    contents = λ s t w. let x = chain_at s t w in holds_at s x.at t x.tag x.stands;
+    leaving = λ s t e. let x = recycled_at s t e in holds_at s (st.gone s) t x.1 (omega arith);
+    committed = committed_here;
+  }
 
   -- a next word that is unlinked has no link in its generation
   top_bare : (b : ℕ) → link (m.next b) ≡ None → linked_to st (tag_of b (gen (m.next b))) ≡ None
@@ -236,18 +235,23 @@ module _ (p : Pool) (first : Tagged) (used : List ℕ) (ws : List ℕ) (vs : Lis
     where
       small : gen (m.next b) < 1048576
       small = let a = r.whole.help.ranged.own b in let w = p.wear_fits in omega arith
+
       hm : home (tag_of b (gen (m.next b))) ≡ b
       hm = let a = small in omega arith
+
       ag : age (tag_of b (gen (m.next b))) ≡ gen (m.next b)
       ag = let a = small in omega arith
+
       no_link : (t s i : ℕ) → home t ≡ b → age t ≡ gen (m.next b) → tag_at st s i ≡ Some t → (o : Option ℕ) → tag_at st s (suc i) ≡ o → tag_at st s (suc i) ≡ None
       no_link t s i hb ab f None q = q
       no_link t s i hb ab f (Some u) q = dite (dec_le (st.gone s) i)
           (λ g. absurd (let x = (c.standing s i t f g).now in let z : ◌≡◌ {A = Option ℕ} None (Some u) = sym e ∙ ap (λ (y : ℕ). link (m.next y)) (sym hb) ∙ ap link x ∙ q in cc))
           (λ g. absurd (let x = (c.passed s i t f (omega arith)).later in let y = ap (λ (z : ℕ). gen (m.next z)) hb in omega arith))
+
       chosen : (t u : ℕ) → tag_at st (st.slot_of t) (st.rank t) ≡ Some u → home t ≡ b → age t ≡ gen (m.next b) → Dec (u ≡ t) → cond (eqb u t) (tag_at st (st.slot_of t) (suc (st.rank t))) None ≡ None
       chosen t u f hb ab (yes d) = ap (λ (z : Bool). cond z (tag_at st (st.slot_of t) (suc (st.rank t))) None) (eq-eqb u t d) ∙ no_link t (st.slot_of t) (st.rank t) hb ab (f ∙ ap Some d) (tag_at st (st.slot_of t) (suc (st.rank t))) refl
       chosen t u f hb ab (no n) = ap (λ (z : Bool). cond z (tag_at st (st.slot_of t) (suc (st.rank t))) None) (ne_eqb u t n)
+
       go : (o : Option ℕ) → tag_at st (st.slot_of (tag_of b (gen (m.next b)))) (st.rank (tag_of b (gen (m.next b)))) ≡ o → chosen_of st (tag_of b (gen (m.next b))) o ≡ None
       go None f = refl
       go (Some u) f = chosen (tag_of b (gen (m.next b))) u f hm ag (ℕ_discrete u (tag_of b (gen (m.next b))))
@@ -270,8 +274,10 @@ module _ (p : Pool) (first : Tagged) (used : List ℕ) (ws : List ℕ) (vs : Lis
       at s i t e g q false f o k = inl (ap link f)
       at s i t e g q true f None k = inl (ap link f ∙ k)
       at s i t e g q true f (Some u) k = inr (record { slot = s; from = t; to = u }, (i, e, k), q, sym (ap gen f), ap link f ∙ k)
+
       bare : m.fnext b ≡ m.next b → link (m.next b) ≡ None → link (m.fnext b) ≡ None
       bare e f = ap link e ∙ f
+
       held_here : (T : Task) → AtStage p m st T → holding T ≡ Some b → (link (m.fnext b) ≡ None) ⊎ ((l : Link) × IsLink st l × (home l.from ≡ b) × (age l.from ≡ gen (m.fnext b)) × (link (m.fnext b) ≡ Some l.to))
       held_here (Storing s k t n) a e = let q = some_nat (home t) b e in inl (ap (λ (z : ℕ). link (m.fnext z)) (sym q) ∙ ap link a.safe)
       held_here (Exchanged s y t) a e = exchanged_link s y t a (some_nat (home y) b e)
@@ -285,6 +291,7 @@ module _ (p : Pool) (first : Tagged) (used : List ℕ) (ws : List ℕ) (vs : Lis
       held_here (Raised s k t) a e = absurd cc
       held_here (Led s k t) a e = absurd cc
       held_here (Both s k t) a e = absurd cc
+
       by_place : (q : Place) → st.place b ≡ q → (link (m.fnext b) ≡ None) ⊎ ((l : Link) × IsLink st l × (home l.from ≡ b) × (age l.from ≡ gen (m.fnext b)) × (link (m.fnext b) ≡ Some l.to))
       by_place (Chained s) e = let x = c.chained b s e in at s x.0 x.1 x.2 x.3 x.4 (ltb (suc x.0) (st.sure s)) (ap m.fnext (sym x.4) ∙ (c.standing s x.0 x.1 x.2 x.3).safe) (tag_at st s (suc x.0)) refl
       by_place (Stocked j) e = let o = c.loose b (subst Loose (sym e) tt) in inl (bare o.1 o.0)
@@ -294,12 +301,12 @@ module _ (p : Pool) (first : Tagged) (used : List ℕ) (ws : List ℕ) (vs : Lis
 
   part_3 : NextWordsRise m vs
   part_3 b = record {
-      values = values st b (gen (m.next b));
-      falls = rises b;
-      current = past_there m st c b (m.next b) (current_past m st c b);
-      flushed = past_there m st c b (m.fnext b) (flushed_past b);
-      seen = λ v w. let x = within_there vs v w in each_map {P = λ (q : Shown). Past m st q.buffer (word q.own q.link)} {Q = λ (q : Shown). q.buffer ≡ b → Within (word q.own q.link) (values st b (gen (m.next b)))} (λ q d e. past_there m st c b (word q.own q.link) (subst (λ (z : ℕ). Past m st z (word q.own q.link)) e d)) v.pass.words (r.whole.basis.views x.0 v x.1).words
-    }
+    values = values st b (gen (m.next b));
+    falls = rises b;
+    current = past_there m st c b (m.next b) (current_past m st c b);
+    flushed = past_there m st c b (m.fnext b) (flushed_past b);
+    seen = λ v w. let x = within_there vs v w in each_map {P = λ (q : Shown). Past m st q.buffer (word q.own q.link)} {Q = λ (q : Shown). q.buffer ≡ b → Within (word q.own q.link) (values st b (gen (m.next b)))} (λ q d e. past_there m st c b (word q.own q.link) (subst (λ (z : ℕ). Past m st z (word q.own q.link)) e d)) v.pass.words (r.whole.basis.views x.0 v x.1).words;
+  }
 
   part_4 : LinksAndRootsFlushed m (chain_of st) (recycled_of st) (value_by st)
   part_4 = record { links = flushed_links m st c; roots = λ s. go s (c.froot s) }
@@ -319,11 +326,18 @@ module _ (p : Pool) (first : Tagged) (used : List ℕ) (ws : List ℕ) (vs : Lis
           let a = tag_within st s (st.flead s) y f in
           let sure : suc (st.flead s) < st.sure s = let x = c.rooted s (omega arith) in omega arith in
           let x = (c.standing s (st.flead s) y f (omega arith)).safe in
-          inr (inr (y, t, is_held m st c s (st.flead s) y f (omega arith) (omega arith), e ∙ f, c.root s ∙ k,
-            x ∙ ap (λ (b : Bool). word (age y) (only b (tag_at st s (suc (st.flead s))))) (test (suc (st.flead s)) (st.sure s) sure) ∙ ap (word (age y)) (ap (tag_at st s) (sym le) ∙ k)))
+          inr (inr (
+            y,
+            t,
+            is_held m st c s (st.flead s) y f (omega arith) (omega arith),
+            e ∙ f,
+            c.root s ∙ k,
+            x ∙ ap (λ (b : Bool). word (age y) (only b (tag_at st s (suc (st.flead s))))) (test (suc (st.flead s)) (st.sure s) sure) ∙ ap (word (age y)) (ap (tag_at st s) (sym le) ∙ k),
+          ))
         where
           test : (i n : ℕ) → i < n → ltb i n ≡ true
           test i n h = grind (arith, nat_tests)
+
       go : (s : ℕ) → (m.froot s ≡ tag_at st s (st.flead s)) ⊎ Waits m st s → (m.froot s ≡ m.root s) ⊎ ((m.froot s ≡ None) × (t : ℕ) × (chain_of st s ≡ t ∷ []) × (value_by st t ≡ None)) ⊎ ((y t : ℕ) × (recycled_of st s ≡ Some y) × (m.froot s ≡ Some y) × (m.root s ≡ Some t) × (m.fnext (home y) ≡ word (age y) (Some t)))
       go s (inl e) = dite (ℕ_discrete (st.flead s) (st.lead s)) (λ d. inl (e ∙ ap (tag_at st s) d ∙ sym (c.root s))) (λ n. let d = c.led s in moving_root s e (omega arith) (tag_at st s (st.flead s)) refl (tag_at st s (st.lead s)) refl)
       go s (inr w) = inr (inl (waits s w (nth (st.log s) 0) refl))
@@ -337,9 +351,9 @@ module _ (p : Pool) (first : Tagged) (used : List ℕ) (ws : List ℕ) (vs : Lis
 
   part_5 : StocksAtRest p m vs
   part_5 = record {
-      stocks = λ v w. let x = within_there vs v w in each_map (λ t q. rest_word (home t) (age t) (subst Loose (sym q.0) tt) q.1) v.pass.stock (r.whole.basis.views x.0 v x.1).stocked;
-      free = λ v sv b g i e. let s = r.whole.serves sv.0 v sv.1 sv.2 in let f = free_place st.task st (st.place b) (gen (m.next b)) b g (sym (s.books b i) ∙ e) in rest_word b g (subst Loose (sym f.0) tt) f.1
-    }
+    stocks = λ v w. let x = within_there vs v w in each_map (λ t q. rest_word (home t) (age t) (subst Loose (sym q.0) tt) q.1) v.pass.stock (r.whole.basis.views x.0 v x.1).stocked;
+    free = λ v sv b g i e. let s = r.whole.serves sv.0 v sv.1 sv.2 in let f = free_place st.task st (st.place b) (gen (m.next b)) b g (sym (s.books b i) ∙ e) in rest_word b g (subst Loose (sym f.0) tt) f.1;
+  }
 
   part_6 : DurableTagsKnown m vs (chain_of st) (recycled_of st)
   part_6 v w = let x = within_there vs v w in each_map (λ q d. known m st c q.0 q.1 d) v.pass.durable (r.whole.basis.views x.0 v x.1).durable
@@ -359,9 +373,17 @@ module _ (p : Pool) (first : Tagged) (used : List ℕ) (ws : List ℕ) (vs : Lis
   binding_waits s k t a n =
       let z = r.whole.help.stage.settled s n in
       let lead : st.lead s ≡ 0 = z.0 ∙ a.gone in
-      let w = tag_there st s 0 t a.tag in
-      (((λ q. true≢false (sym (r.whole.basis.bound s k q).1 ∙ a.unnamed)), (t, ap (λ (i : ℕ). tags (drop i (st.log s))) lead ∙ single (st.log s) t a.alone a.tag,
-        ap (value_by st) (sym w.2) ∙ value_at s 0 w.0 w.1 ∙ r.whole.help.naming.waiting s k a.key a.unnamed 0 w.0 w.1)), tt)
+      let w = tag_there st s 0 t a.tag in (
+        (
+          (λ q. true≢false (sym (r.whole.basis.bound s k q).1 ∙ a.unnamed)),
+          (
+            t,
+            ap (λ (i : ℕ). tags (drop i (st.log s))) lead ∙ single (st.log s) t a.alone a.tag,
+            ap (value_by st) (sym w.2) ∙ value_at s 0 w.0 w.1 ∙ r.whole.help.naming.waiting s k a.key a.unnamed 0 w.0 w.1,
+          ),
+        ),
+        tt,
+      )
 
   waiting_here : (T : Task) → st.task ≡ T → AtStage p m st T → Each (λ (q : ℕ × List ℕ). (Within q st.bindings → ⊥) × ((u : ℕ) × (chain_of st q.0 ≡ u ∷ []) × (value_by st u ≡ None))) (waiting_name T)
   waiting_here (Rooted s k t) e a = binding_waits s k t a.0 (λ q. absurd (let z : ◌≡◌ {A = Option ℕ} None (Some s) = ap moving (sym e) ∙ q in cc))
@@ -376,13 +398,13 @@ module _ (p : Pool) (first : Tagged) (used : List ℕ) (ws : List ℕ) (vs : Lis
 
   part_10 : NamesAndCount m vs (chain_of st) (value_by st) st.bindings
   part_10 = record {
-      count = r.whole.help.naming.counted;
-      directory = λ v sv. let s = r.whole.serves sv.0 v sv.1 sv.2 in s.directory ∙ ap (λ (T : Task). st.bindings ++ waiting_name T) (sym s.task_is);
-      names = λ v w. let x = within_there vs v w in (r.whole.basis.views x.0 v x.1).names;
-      added = λ v w. let x = within_there vs v w in (r.whole.basis.views x.0 v x.1).added;
-      most = λ v w. let x = within_there vs v w in (r.whole.basis.views x.0 v x.1).most;
-      waiting = λ v sv. let s = r.whole.serves sv.0 v sv.1 sv.2 in subst (λ (T : Task). Each (λ (q : ℕ × List ℕ). (Within q st.bindings → ⊥) × ((u : ℕ) × (chain_of st q.0 ≡ u ∷ []) × (value_by st u ≡ None))) (waiting_name T)) (sym s.task_is) (waiting_here st.task refl r.whole.help.stage.here)
-    }
+    count = r.whole.help.naming.counted;
+    directory = λ v sv. let s = r.whole.serves sv.0 v sv.1 sv.2 in s.directory ∙ ap (λ (T : Task). st.bindings ++ waiting_name T) (sym s.task_is);
+    names = λ v w. let x = within_there vs v w in (r.whole.basis.views x.0 v x.1).names;
+    added = λ v w. let x = within_there vs v w in (r.whole.basis.views x.0 v x.1).added;
+    most = λ v w. let x = within_there vs v w in (r.whole.basis.views x.0 v x.1).most;
+    waiting = λ v sv. let s = r.whole.serves sv.0 v sv.1 sv.2 in subst (λ (T : Task). Each (λ (q : ℕ × List ℕ). (Within q st.bindings → ⊥) × ((u : ℕ) × (chain_of st q.0 ≡ u ∷ []) × (value_by st u ≡ None))) (waiting_name T)) (sym s.task_is) (waiting_here st.task refl r.whole.help.stage.here);
+  }
 
   map_bound : (s : ℕ) (k : List ℕ) → st.keys s ≡ Some k → leads (shows first) h k ≡ tail_pair (value_by st) (chain_of st s)
   map_bound s k e =
@@ -400,26 +422,26 @@ module _ (p : Pool) (first : Tagged) (used : List ℕ) (ws : List ℕ) (vs : Lis
 
   part_11 : HistoryAndMap p first used m vs (chain_of st) (value_by st) st.keys h
   part_11 = let l = legal_history first used h r.whole.basis.tale.legal in record {
-      legal = l.2;
-      map = (l.0, l.1, (λ s k e. ap (λ (f : Map). f k) l.3 ∙ map_bound s k e), (λ k f. ap (λ (g : Map). g k) l.3 ∙ map_unbound k f));
-      old = each_map (λ t d. let b = r.whole.help.ranged.below (home t) in let a = d.1 in omega arith) (used_by used h) r.whole.safe;
-      unstocked = λ v w. let x = within_there vs v w in each_map (λ t sp q. not_stocked x.0 t sp v.pass.stock (r.whole.basis.views x.0 v x.1).stocked q) (used_by used h) r.whole.basis.spent;
-      unfree = λ v sv. let s = r.whole.serves sv.0 v sv.1 sv.2 in each_map (λ t sp i e. let f = free_place st.task st (st.place (home t)) (gen (m.next (home t))) (home t) (age t) (sym (s.books (home t) i) ∙ e) in
-          ⊎_elim {C = ⊥} (λ a. let b = f.1 in omega arith) (λ a. let z : Free ≡ Chained a.0 = sym f.0 ∙ a.1 in cc) sp) (used_by used h) r.whole.basis.spent
-    }
+    legal = l.2;
+    map = (l.0, l.1, (λ s k e. ap (λ (f : Map). f k) l.3 ∙ map_bound s k e), (λ k f. ap (λ (g : Map). g k) l.3 ∙ map_unbound k f));
+    old = each_map (λ t d. let b = r.whole.help.ranged.below (home t) in let a = d.1 in omega arith) (used_by used h) r.whole.safe;
+    unstocked = λ v w. let x = within_there vs v w in each_map (λ t sp q. not_stocked x.0 t sp v.pass.stock (r.whole.basis.views x.0 v x.1).stocked q) (used_by used h) r.whole.basis.spent;
+    unfree = λ v sv. let s = r.whole.serves sv.0 v sv.1 sv.2 in each_map (λ t sp i e. let f = free_place st.task st (st.place (home t)) (gen (m.next (home t))) (home t) (age t) (sym (s.books (home t) i) ∙ e) in
+        ⊎_elim {C = ⊥} (λ a. let b = f.1 in omega arith) (λ a. let z : Free ≡ Chained a.0 = sym f.0 ∙ a.1 in cc) sp) (used_by used h) r.whole.basis.spent;
+  }
     where
       not_stocked : (i t : ℕ) → Spent m st t → (us : List ℕ) → Each (Owned m st i) us → Within t us → ⊥
       not_stocked i t sp us o w = (not_owned i t t sp (each_within (Owned m st i) t us o w) refl)
 
   part_12 : ViewsAndHistory vs h
   part_12 = record {
-      longest = let a = r.whole.basis.longest in (a.1, nth_in vs a.0 a.1 a.2, a.3);
-      begins = λ v w. let x = within_there vs v w in (r.whole.basis.views x.0 v x.1).history;
-      calls = λ v w. let x = within_there vs v w in (r.whole.basis.views x.0 v x.1).calls;
-      numbers = r.whole.basis.numbered;
-      made = λ y sv v w n e. let x = within_there vs v w in r.whole.made sv.0 x.0 n y v sv.1 x.1 sv.2 e;
-      entered = λ y sv. r.whole.entered sv.0 y sv.1 sv.2
-    }
+    longest = let a = r.whole.basis.longest in (a.1, nth_in vs a.0 a.1 a.2, a.3);
+    begins = λ v w. let x = within_there vs v w in (r.whole.basis.views x.0 v x.1).history;
+    calls = λ v w. let x = within_there vs v w in (r.whole.basis.views x.0 v x.1).calls;
+    numbers = r.whole.basis.numbered;
+    made = λ y sv v w n e. let x = within_there vs v w in r.whole.made sv.0 x.0 n y v sv.1 x.1 sv.2 e;
+    entered = λ y sv. r.whole.entered sv.0 y sv.1 sv.2;
+  }
     where
       nth_in : (l : List View) (i : ℕ) (v : View) → nth l i ≡ Some v → Within v l
       nth_in [] i v e = absurd cc
@@ -429,8 +451,24 @@ module _ (p : Pool) (first : Tagged) (used : List ℕ) (ws : List ℕ) (vs : Lis
   -- the rule
   pub rule_holds : Rule p first used ws vs h
   rule_holds = record {
-      chain = chain_of st; recycled = recycled_of st; value = value_by st; place = place_at; bindings = st.bindings; keys = st.keys;
-      buffers_in_one_place = part_1; chains_and_contents = part_2; next_words_rise = part_3; links_and_roots_flushed = part_4; stocks_at_rest = part_5; durable_tags_known = part_6;
-      targets_stand = part_7; copies_are_whole = part_8; shortcuts_known = part_9; names_and_count = part_10; history_and_map = part_11; views_and_history = part_12;
-      story = st; helped = r
-    }
+    chain = chain_of st;
+    recycled = recycled_of st;
+    value = value_by st;
+    place = place_at;
+    bindings = st.bindings;
+    keys = st.keys;
+    buffers_in_one_place = part_1;
+    chains_and_contents = part_2;
+    next_words_rise = part_3;
+    links_and_roots_flushed = part_4;
+    stocks_at_rest = part_5;
+    durable_tags_known = part_6;
+    targets_stand = part_7;
+    copies_are_whole = part_8;
+    shortcuts_known = part_9;
+    names_and_count = part_10;
+    history_and_map = part_11;
+    views_and_history = part_12;
+    story = st;
+    helped = r;
+  }

@@ -1,9 +1,8 @@
 -- Lists of accesses: what it means that they replay from given words, and that they decide an entry.
 use prog.Atomic.{either}
-use Rattle.std.specs.Prelude.{◌≡◌, ◌≢◌, ℕ, ◌+◌, ◌<◌, ◌≤◌, ◌^◌, ◌⊎◌, ◌==◌, max, length, slice_set, List, [], ◌∷◌, ◌++◌, Bool, cond, Option, Some, None}
+use Rattle.std.specs.Prelude.{◌≡◌, ◌≢◌, ℕ, ◌<◌, ◌≤◌, ◌^◌, ◌⊎◌, ◌==◌, max, length, slice_set, List, [], ◌∷◌, ◌++◌, cond, Option, Some}
 use Rattle.clover_words.specs.declared.pool.Pool.{Pool}
 use Rattle.clover_words.specs.declared.meta.Kind.TheVariants.{Value as IsValue}
-use Rattle.clover_words.specs.declared.word.Word.{Word}
 use Rattle.clover_words.specs.declared.word.Word.TheVariants.{Next as NextOf, Meta, Value as ValueOf, Count}
 use Rattle.clover_words.specs.declared.word.Side.TheVariants.{Current, Flushed}
 use Rattle.clover_words.specs.Meta.{meta_word}
@@ -14,7 +13,6 @@ use Rattle.clover_map.specs.declared.call.Call.{Call}
 use Rattle.clover_map.specs.declared.call.Call.TheVariants.{Get, Put, Delete, Swap}
 use Rattle.clover_map.specs.declared.call.Reply.{Reply}
 use Rattle.clover_map.specs.declared.call.Reply.TheVariants.{Stored, Found, Absent, Deleted, Differs}
-use Rattle.clover_map.specs.declared.call.Entry.{Entry}
 use Rattle.clover_rule.specs.Content.{content, tombstone, value_meta, Spells}
 use Rattle.clover_rule.specs.History.{named}
 use Rattle.clover_rule.specs.Lists.{nth, Within}

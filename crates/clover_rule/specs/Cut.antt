@@ -1,5 +1,5 @@
 -- Power cuts: the images that may be left, what each is, and which histories survive.
-use Rattle.std.specs.Prelude.{◌≡◌, ◌≢◌, ℕ, ◌+◌, ◌⊎◌, ◌&&◌, nat_lt, List, length, slice_index, Bool, true, Option, Some, None}
+use Rattle.std.specs.Prelude.{◌≡◌, ℕ, ◌+◌, ◌⊎◌, ◌&&◌, nat_lt, List, length, slice_index, Bool, true, Some, None}
 use Rattle.std.specs.FinMap.{get}
 use Rattle.clover_words.specs.declared.pool.Pool.{Pool}
 use Rattle.clover_words.specs.declared.word.Word.{Word}
@@ -28,11 +28,11 @@ pub record IsCut (p : Pool) (ws im : List ℕ) : Type 0 where
 -- the decoded image
 abbrev pub image_of : Pool → List ℕ → Image
 image_of p im = record {
-    next = λ (b : ℕ). guarded (inside p b) (next_of (slice_index im (place p (NextOf (buffer_at b))))) (word 0 None);
-    root = λ (s : ℕ). guarded (nat_lt s p.slots) (root_of (slice_index im (place p (Root s)))) None;
-    body = λ (b k : ℕ). guarded (inside p b && nat_lt k (1 + p.words)) (slice_index im (place p (content_at b k))) 0;
-    key = λ (s k : ℕ). guarded (nat_lt s p.slots && nat_lt k 32) (slice_index im (place p (Key s k))) 0
-  }
+  next = λ (b : ℕ). guarded (inside p b) (next_of (slice_index im (place p (NextOf (buffer_at b))))) (word 0 None);
+  root = λ (s : ℕ). guarded (nat_lt s p.slots) (root_of (slice_index im (place p (Root s)))) None;
+  body = λ (b k : ℕ). guarded (inside p b && nat_lt k (1 + p.words)) (slice_index im (place p (content_at b k))) 0;
+  key = λ (s k : ℕ). guarded (nat_lt s p.slots && nat_lt k 32) (slice_index im (place p (Key s k))) 0;
+}
 
 -- each number is one that its word may have
 abbrev pub ImageDecodes : Pool → List ℕ → Type 0

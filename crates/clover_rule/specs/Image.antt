@@ -1,8 +1,6 @@
 -- Images of a power cut, and the chains that are read from them.
 use Prim.Native.Nat.{zero, suc}
-use Rattle.std.specs.Prelude.{◌≡◌, ℕ, ◌+◌, ◌-◌, ◌<◌, ◌≤◌, ◌≢◌, ◌⊎◌, List, [], ◌∷◌, ◌++◌, length, map, drop, Bool, true, false, cond, eqb, ltb, leb, ◌&&◌, Option, Some, None}
-use Rattle.clover_map.specs.declared.bytes.Value.{Value}
-use Rattle.clover_map.specs.declared.call.Entry.{Entry}
+use Rattle.std.specs.Prelude.{◌≡◌, ℕ, ◌≢◌, ◌⊎◌, List, [], ◌∷◌, map, Bool, true, false, cond, ◌&&◌, Option, Some, None}
 use Rattle.clover_map.specs.declared.bytes.Held.{Held}
 use Rattle.clover_rule.specs.History.{Version, Map, ends}
 use Rattle.clover_rule.specs.State.{Mem, Next, gen, link, home, age, Story, tag_at, unsure}

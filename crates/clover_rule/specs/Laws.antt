@@ -1,7 +1,7 @@
 -- The laws that the crate's functions promise.
-use Rattle.std.specs.Prelude.{◌≡◌, ◌≢◌, ℕ, ◌+◌, ◌≤◌, List, [], ◌∷◌, ◌++◌, slice_set, Bool, Some, None}
+use Rattle.std.specs.Prelude.{◌≡◌, ℕ, List, slice_set, Bool, Some}
 use Rattle.clover_words.specs.declared.pool.Pool.{Pool}
-use Rattle.clover_words.specs.Place.{IsWithin, address_of}
+use Rattle.clover_words.specs.Place.{address_of}
 use Rattle.clover_map.specs.declared.call.Call.{Call}
 use Rattle.clover_map.specs.declared.call.Reply.{Reply}
 use Rattle.clover_map.specs.declared.call.Entry.{Entry}
@@ -12,9 +12,8 @@ use Rattle.clover_rule.specs.History.{named}
 use Rattle.clover_rule.specs.Lists.{nth}
 use Rattle.clover_rule.specs.Meets.{Meets}
 use Rattle.clover_rule.specs.Rule.{Rule}
-use Rattle.clover_rule.specs.Server.{ServerStep, ServerLaw}
 use Rattle.clover_rule.specs.State.{Story}
-use Rattle.clover_rule.specs.Steps.{Step, Asks, word_of, side_of, becomes, act_of, found, words_after_step, next_view, next_history, MayDecide, DecideNext, unlinked}
+use Rattle.clover_rule.specs.Steps.{Step, Asks, word_of, side_of, becomes, act_of, found, words_after_step, next_view, next_history, DecideNext, unlinked}
 use Rattle.clover_rule.specs.Told.{Told, TableHolds}
 use Rattle.clover_rule.specs.Words.{mem_of}
 use Rattle.clover_rule.specs.declared.view.View.{View}

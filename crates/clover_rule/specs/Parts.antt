@@ -1,6 +1,6 @@
 -- Parts of the rule in words of the pool alone, with the chains as lists.
-use Prim.Native.Nat.{zero, suc}
-use Rattle.std.specs.Prelude.{◌≡◌, ℕ, ◌+◌, ◌*◌, ◌<◌, ◌≤◌, ◌≢◌, ◌⊎◌, List, [], ◌∷◌, ◌++◌, length, map, drop, Bool, true, false, cond, eqb, Option, Some, None}
+use Prim.Native.Nat.{suc}
+use Rattle.std.specs.Prelude.{◌≡◌, ℕ, ◌<◌, List, [], ◌∷◌, Option, Some, None}
 use Rattle.clover_rule.specs.Lists.{Each, Within}
 use Rattle.clover_rule.specs.State.{Mem, Next, word, gen, link, home, age, order}
 use Rattle.clover_rule.specs.declared.view.Shown.{Shown}

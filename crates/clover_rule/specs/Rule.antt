@@ -1,16 +1,14 @@
 -- The rule: what the words, the views of all actors and one history have to do with each other between any two steps. Its twelve parts, and the helping facts.
-use Prim.Native.Nat.{zero, suc}
-use Rattle.std.specs.Prelude.{◌≡◌, ◌≢◌, ℕ, ◌+◌, ◌<◌, ◌≤◌, ◌⊎◌, ◌↔◌, List, [], ◌∷◌, ◌++◌, length, Bool, true, false, cond, eqb, Option, Some, None}
+use Rattle.std.specs.Prelude.{◌≡◌, ◌≢◌, ℕ, ◌≤◌, ◌⊎◌, List, [], ◌∷◌, ◌++◌, length, true, Option, Some, None}
 use Rattle.clover_words.specs.declared.pool.Pool.{Pool}
 use Rattle.clover_map.specs.declared.bytes.Value.{Value}
 use Rattle.clover_map.specs.declared.bytes.Held.{Held}
 use Rattle.clover_map.specs.declared.call.Entry.{Entry}
 use Rattle.clover_map.specs.Tagged.{Tagged}
-use Rattle.clover_map.specs.Does.{held}
 use Rattle.clover_map.specs.Legal.{Legal, Leads}
 use Rattle.std.specs.FinMap.{get}
 use Rattle.clover_rule.specs.Content.{content, inside}
-use Rattle.clover_rule.specs.History.{Version, own, used_by, commit_of, paired}
+use Rattle.clover_rule.specs.History.{Version, used_by, commit_of, paired}
 use Rattle.clover_rule.specs.Lists.{Each, nth, Within, IsPrefix, IsPart}
 use Rattle.clover_rule.specs.Meets.{Meets}
 use Rattle.clover_rule.specs.Parts.{ChainsStand, AllButLast, HasPassed, IsKnown, IsTarget, HasValues}

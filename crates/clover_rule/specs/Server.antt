@@ -1,12 +1,12 @@
 -- The helping facts beside the core: ranges, keys, stages, names, and what the view of the server says.
 use Prim.Native.Nat.{zero, suc}
-use Rattle.std.specs.Prelude.{◌≡◌, ℕ, ◌+◌, ◌-◌, ◌^◌, ◌<◌, ◌≤◌, ◌≢◌, ◌⊎◌, ◌&&◌, List, [], ◌∷◌, ◌++◌, length, map, set, Bool, true, false, cond, eqb, Option, Some, None}
+use Rattle.std.specs.Prelude.{◌≡◌, ℕ, ◌+◌, ◌^◌, ◌<◌, ◌≤◌, ◌≢◌, ◌⊎◌, ◌&&◌, List, [], ◌∷◌, ◌++◌, length, Bool, true, false, cond, eqb, Option, Some, None}
 use Rattle.clover_map.specs.declared.bytes.Value.{Value}
 use Rattle.clover_map.specs.declared.call.Call.{Call}
 use Rattle.clover_map.specs.declared.call.Reply.{Reply}
 use Rattle.clover_map.specs.declared.call.Entry.{Entry}
 use Rattle.clover_rule.specs.Content.{value_meta, Unpacks, inside, tombstone, spelling, IsKey, InRange, Spells, Fits, content}
-use Rattle.clover_rule.specs.History.{ends, Version, Map, used_by, own}
+use Rattle.clover_rule.specs.History.{ends, Version, Map, used_by}
 use Rattle.clover_rule.specs.Image.{Image, Chain}
 use Rattle.clover_rule.specs.Lists.{Each, nth, upd, Within}
 use Rattle.clover_rule.specs.State.{Mem, word, gen, link, home, age, Place, Chained, Stocked, Free, Worn, Taken, Story, tag_at, greater, raised_mem, recycled_mem, Durable}
@@ -276,15 +276,17 @@ abbrev pub link_entry : View → ℕ → Call → Reply → Entry
 link_entry v n call reply = record { client = n; number = suc (length v.pass.calls); call = call; reply = reply }
 
 abbrev pub link_view : View → List Entry → ℕ → ℕ → ℕ → ℕ → Call → Reply → List ℕ → View
-link_view v h n s u t call reply rest = record v { pass = record v.pass {
+link_view v h n s u t call reply rest = record v {
+  pass = record v.pass {
     stock = rest;
     links = record { slot = s; from = u; to = t } ∷ v.pass.links;
     words = shown (home u) (age u) (Some t) ∷ v.pass.words;
     written = without t v.pass.written;
     flushed = without t v.pass.flushed;
     calls = v.pass.calls ++ link_entry v n call reply ∷ [];
-    history = h ++ link_entry v n call reply ∷ []
-  } }
+    history = h ++ link_entry v n call reply ∷ [];
+  };
+}
 
 -- the copied meta word of a tag was a tombstone's
 abbrev pub SawTombstone : View → ℕ → ℕ → Type 0

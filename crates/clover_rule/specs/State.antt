@@ -1,7 +1,6 @@
 -- The words of a pool as decoded values, the story behind them, and the facts that hold of both.
-use Prim.Native.Nat.{zero, suc}
-use Rattle.std.specs.Prelude.{◌≡◌, ℕ, ◌/◌, ◌%◌, ◌+◌, ◌-◌, ◌*◌, ◌<◌, ◌≤◌, ◌≢◌, ◌⊎◌, List, [], ◌∷◌, ◌++◌, length, drop, Bool, true, false, cond, eqb, ltb, leb, Option, Some, None}
-use Rattle.clover_map.specs.declared.bytes.Value.{Value}
+use Prim.Native.Nat.{suc}
+use Rattle.std.specs.Prelude.{◌≡◌, ℕ, ◌/◌, ◌%◌, ◌+◌, ◌<◌, ◌≤◌, ◌≢◌, ◌⊎◌, List, [], ◌∷◌, ◌++◌, length, Bool, true, false, cond, ltb, leb, Option, Some, None}
 use Rattle.clover_map.specs.declared.call.Entry.{Entry}
 use Rattle.clover_rule.specs.History.{Version, Map, Legal, commits, ends, Unread}
 use Rattle.clover_rule.specs.Lists.{nth, upd}
@@ -140,8 +139,8 @@ linked_story st s w = record st {
   log = upd st.log s (st.log s ++ w ∷ []);
   slot_of = upd st.slot_of w.tag s;
   rank = upd st.rank w.tag (length (st.log s));
-  place = upd st.place (home w.tag) (Chained s)
-  }
+  place = upd st.place (home w.tag) (Chained s);
+}
 
 -- the greater of two values of one next word
 abbrev pub order : Next → ℕ

@@ -1,7 +1,7 @@
 -- The steps of a client: on which word, what the word becomes, what the client must know, and what it knows and the history is afterwards.
-use Prim.Native.Nat.{zero, suc}
+use Prim.Native.Nat.{suc}
 use prog.Atomic.{either}
-use Rattle.std.specs.Prelude.{◌≡◌, ◌≢◌, ℕ, ◌+◌, ◌<◌, ◌==◌, max, length, slice_index, slice_set, List, [], ◌∷◌, ◌++◌, Bool, true, false, cond, eqb, Option, Some, None}
+use Rattle.std.specs.Prelude.{◌≡◌, ◌≢◌, ℕ, ◌+◌, ◌==◌, max, length, slice_index, slice_set, List, [], ◌∷◌, ◌++◌, Bool, cond, eqb, Option, Some, None}
 use Rattle.clover_words.specs.declared.pool.Pool.{Pool}
 use Rattle.clover_words.specs.declared.word.Word.{Word}
 use Rattle.clover_words.specs.declared.word.Word.TheVariants.{Next as NextOf, Root, Short, Count}
@@ -228,12 +228,14 @@ turn_of _ x = 0
 
 -- one access more, the first of its call or a later one
 abbrev pub counted : Bool → Act → ℕ → View → View
-counted first act n v = record v { pass = record v.pass {
+counted first act n v = record v {
+  pass = record v.pass {
     since = cond first [] v.pass.since ++ act ∷ [];
     turns = cond first 0 v.pass.turns + n;
     all_turns = v.pass.all_turns + n;
-    made = suc v.pass.made
-  } }
+    made = suc v.pass.made;
+  };
+}
 
 -- the view after the step
 abbrev pub next_view : Bool → Step → List Entry → View → ℕ → View

@@ -1,13 +1,7 @@
 -- What each seat's view holds, and the rule over words, views and one history.
-use Prim.Native.Nat.{zero, suc}
-use Rattle.std.specs.Prelude.{◌≡◌, ℕ, ◌+◌, ◌-◌, ◌<◌, ◌≤◌, ◌≢◌, ◌⊎◌, List, [], ◌∷◌, ◌++◌, length, map, set, Bool, true, false, cond, eqb, Option, Some, None}
-use Rattle.clover_map.specs.declared.bytes.Value.{Value}
-use Rattle.clover_map.specs.declared.call.Call.{Call}
-use Rattle.clover_map.specs.declared.call.Reply.{Reply}
+use Prim.Native.Nat.{suc}
+use Rattle.std.specs.Prelude.{◌≡◌, ℕ, ◌<◌, ◌≤◌, ◌≢◌, ◌⊎◌, List, [], ◌∷◌, ◌++◌, length, set, true, false, cond, eqb, Option, Some, None}
 use Rattle.clover_map.specs.declared.call.Entry.{Entry}
-use Rattle.clover_map.specs.declared.call.Call.TheVariants.{Get, Put, Delete, Swap}
-use Rattle.clover_map.specs.declared.call.Reply.TheVariants.{Stored, Found, Deleted}
-use Rattle.clover_map.specs.declared.bytes.Held.{Held}
 use Rattle.clover_rule.specs.Content.{content}
 use Rattle.clover_rule.specs.History.{Version, Map, used_by, own}
 use Rattle.clover_rule.specs.Lists.{Within, IsPrefix, IsPart, Each, nth, upd}
@@ -155,9 +149,29 @@ no_server = record { books = []; directory = []; roots = []; task = Idle; unlink
 -- the pass of an actor that knows the run's beginning alone
 abbrev pub start_pass : Pool → Tagged → List ℕ → Role → Pass
 start_pass p first used ro = record {
-    pool = p; map = first; used = used; role = ro; stock = []; durable = []; links = []; words = []; written = []; flushed = [];
-    copied = []; names = []; most = 0; calls = []; history = []; since = []; turns = 0; all_turns = 0; made = 0; refusals = []; from = 0; added = []
-  }
+  pool = p;
+  map = first;
+  used = used;
+  role = ro;
+  stock = [];
+  durable = [];
+  links = [];
+  words = [];
+  written = [];
+  flushed = [];
+  copied = [];
+  names = [];
+  most = 0;
+  calls = [];
+  history = [];
+  since = [];
+  turns = 0;
+  all_turns = 0;
+  made = 0;
+  refusals = [];
+  from = 0;
+  added = [];
+}
 
 -- the pass of another actor of the same run
 abbrev pub empty_pass : Pass → Role → Pass

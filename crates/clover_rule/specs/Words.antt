@@ -1,11 +1,10 @@
 -- The words of a pool as numbers, and what they decode to: by buffer, by buffer and place, by slot.
 use Prim.Native.Nat.{zero, suc}
-use Rattle.std.specs.Prelude.{◌≡◌, ℕ, ◌+◌, ◌-◌, ◌*◌, ◌/◌, ◌%◌, ◌^◌, ◌<◌, ◌≤◌, ◌&&◌, nat_lt, List, Bool, true, false, cond, Option, Some, None}
+use Rattle.std.specs.Prelude.{ℕ, ◌+◌, ◌-◌, ◌*◌, ◌/◌, ◌%◌, ◌^◌, ◌&&◌, nat_lt, List, Bool, true, false, cond, Option, Some, None}
 use Rattle.clover_words.specs.declared.pool.Pool.{Pool}
 use Rattle.clover_words.specs.declared.word.Buffer.{Buffer}
 use Rattle.clover_words.specs.declared.word.Word.{Word}
 use Rattle.clover_words.specs.declared.word.Word.TheVariants.{Next as NextOf, Meta, Value as ValueOf, Root, Key, Short, Count}
-use Rattle.clover_words.specs.declared.word.Side.{Side}
 use Rattle.clover_words.specs.declared.word.Side.TheVariants.{Current, Flushed}
 use Rattle.clover_words.specs.Place.{copy_in}
 use Rattle.clover_rule.specs.Content.{inside}
@@ -43,14 +42,14 @@ guarded false x y = y
 -- the decoded words
 abbrev pub mem_of : Pool → List ℕ → Mem
 mem_of p ws = record {
-    next = λ (b : ℕ). guarded (inside p b) (next_of (copy_in p ws (NextOf (buffer_at b)) Current)) (word 0 None);
-    fnext = λ (b : ℕ). guarded (inside p b) (next_of (copy_in p ws (NextOf (buffer_at b)) Flushed)) (word 0 None);
-    body = λ (b k : ℕ). guarded (inside p b && nat_lt k (1 + p.words)) (copy_in p ws (content_at b k) Current) 0;
-    fbody = λ (b k : ℕ). guarded (inside p b && nat_lt k (1 + p.words)) (copy_in p ws (content_at b k) Flushed) 0;
-    root = λ (s : ℕ). guarded (nat_lt s p.slots) (root_of (copy_in p ws (Root s) Current)) None;
-    froot = λ (s : ℕ). guarded (nat_lt s p.slots) (root_of (copy_in p ws (Root s) Flushed)) None;
-    short = λ (s : ℕ). guarded (nat_lt s p.slots) (root_of (copy_in p ws (Short s) Current)) None;
-    count = copy_in p ws Count Current;
-    key = λ (s k : ℕ). guarded (nat_lt s p.slots && nat_lt k 32) (copy_in p ws (Key s k) Current) 0;
-    fkey = λ (s k : ℕ). guarded (nat_lt s p.slots && nat_lt k 32) (copy_in p ws (Key s k) Flushed) 0
-  }
+  next = λ (b : ℕ). guarded (inside p b) (next_of (copy_in p ws (NextOf (buffer_at b)) Current)) (word 0 None);
+  fnext = λ (b : ℕ). guarded (inside p b) (next_of (copy_in p ws (NextOf (buffer_at b)) Flushed)) (word 0 None);
+  body = λ (b k : ℕ). guarded (inside p b && nat_lt k (1 + p.words)) (copy_in p ws (content_at b k) Current) 0;
+  fbody = λ (b k : ℕ). guarded (inside p b && nat_lt k (1 + p.words)) (copy_in p ws (content_at b k) Flushed) 0;
+  root = λ (s : ℕ). guarded (nat_lt s p.slots) (root_of (copy_in p ws (Root s) Current)) None;
+  froot = λ (s : ℕ). guarded (nat_lt s p.slots) (root_of (copy_in p ws (Root s) Flushed)) None;
+  short = λ (s : ℕ). guarded (nat_lt s p.slots) (root_of (copy_in p ws (Short s) Current)) None;
+  count = copy_in p ws Count Current;
+  key = λ (s k : ℕ). guarded (nat_lt s p.slots && nat_lt k 32) (copy_in p ws (Key s k) Current) 0;
+  fkey = λ (s k : ℕ). guarded (nat_lt s p.slots && nat_lt k 32) (copy_in p ws (Key s k) Flushed) 0;
+}

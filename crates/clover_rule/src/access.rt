@@ -15,13 +15,29 @@ pub enum Actor {
 /// What an access did to its word, what it was given and what came back.
 pub enum Act {
     /// The current copy was read.
-    Load { word: Word, got: u64 },
+    Load {
+        word: Word,
+        got: u64,
+    },
     /// A copy was written.
-    Store { word: Word, side: Side, value: u64 },
+    Store {
+        word: Word,
+        side: Side,
+        value: u64,
+    },
     /// The current copy was `old`, and is `new` exactly where it was `expected`.
-    Exchange { word: Word, expected: u64, new: u64, old: u64 },
+    Exchange {
+        word: Word,
+        expected: u64,
+        new: u64,
+        old: u64,
+    },
     /// The flushed copy was `old`, and is the greater of the two.
-    Raise { word: Word, value: u64, old: u64 },
+    Raise {
+        word: Word,
+        value: u64,
+        old: u64,
+    },
 }
 
 /// An access of an actor. A refused one did nothing, and its `got` or `old` is 0.

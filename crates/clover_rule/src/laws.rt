@@ -5,41 +5,34 @@ ghost use Rattle.clover_rule.specs.Laws.{PartsLaw, StepLaw, ToldLaw, TableStepLa
 /// The twelve parts of the rule follow from the helping facts.
 pub fn parts_law()
     ensures { PartsLaw }
-{
-}
+{}
 
 /// Each step that a client may make keeps the rule.
 pub fn step_law()
     ensures { StepLaw }
-{
-}
+{}
 
 /// Each step tells its actor what the rule says of it, before and after.
 pub fn told_law()
     ensures { ToldLaw }
-{
-}
+{}
 
 /// Each step is one that a table whose rule is this one allows.
 pub fn table_step_law()
     ensures { TableStepLaw }
-{
-}
+{}
 
 /// The access of a step comes back with what the words give.
 pub fn access_law()
     ensures { AccessLaw }
-{
-}
+{}
 
 /// What a deciding load shows unlinked is the tail of the call's key.
 pub fn tail_law()
     ensures { TailLaw }
-{
-}
+{}
 
 /// Each image of a power cut is sound and stands for the map of a history that survived.
 pub fn cut_law()
     ensures { CutLaw }
-{
-}
+{}

@@ -73,21 +73,54 @@ pub enum Task {
     /// Nothing.
     Idle,
     /// A binding of which so many stores were made, none of them the root's.
-    Storing { slot: u64, key: Key, tag: u64, stored: u64 },
+    Storing {
+        slot: u64,
+        key: Key,
+        tag: u64,
+        stored: u64,
+    },
     /// A binding whose root is stored.
-    Rooted { slot: u64, key: Key, tag: u64 },
+    Rooted {
+        slot: u64,
+        key: Key,
+        tag: u64,
+    },
     /// A binding whose root is flushed, and which waits for the count.
-    Waiting { slot: u64, key: Key, tag: u64 },
+    Waiting {
+        slot: u64,
+        key: Key,
+        tag: u64,
+    },
     /// A recycling that loaded the link from the root version to the next one.
-    Loaded { slot: u64, root: u64, next: u64 },
+    Loaded {
+        slot: u64,
+        root: u64,
+        next: u64,
+    },
     /// A recycling whose link is flushed.
-    Raised { slot: u64, root: u64, next: u64 },
+    Raised {
+        slot: u64,
+        root: u64,
+        next: u64,
+    },
     /// A recycling whose new root is stored.
-    Led { slot: u64, root: u64, next: u64 },
+    Led {
+        slot: u64,
+        root: u64,
+        next: u64,
+    },
     /// A recycling whose new root is flushed.
-    Both { slot: u64, root: u64, next: u64 },
+    Both {
+        slot: u64,
+        root: u64,
+        next: u64,
+    },
     /// A recycling whose old root version has its next generation.
-    Exchanged { slot: u64, root: u64, next: u64 },
+    Exchanged {
+        slot: u64,
+        root: u64,
+        next: u64,
+    },
 }
 
 /// What one actor knows, the server's own part aside.
