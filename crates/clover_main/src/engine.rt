@@ -1,0 +1,111 @@
+// The private engine: the calls of one client, each answered on a list of the words of the preset pool,
+// one copy of each. It has no map of values: what it knows stands in the words.
+ghost use Rattle.std.specs.Prelude.{◌≡◌, ◌≤◌, ◌+◌, ◌++◌, ℕ, List, [], ◌∷◌, length, slice_get, Option, Some, IfOk, OnOk};
+ghost use Rattle.std.specs.FinMap as finite;
+ghost use Rattle.clover_words.specs.Place.{IsBuffer};
+ghost use Rattle.clover_words.specs.Preset.{buffers_total, HasDealt};
+ghost use Rattle.clover_words.specs.Tag.{tag_number};
+ghost use Rattle.clover_map.specs.Legal.{Does, IsFresh, held, new_tags};
+ghost use Rattle.clover_map.specs.Tagged.{Tagged};
+ghost use Rattle.clover_map.specs.declared.bytes.Held.{Held};
+ghost use Rattle.clover_script.specs.Naming.{key_of};
+ghost use Rattle.clover_script.specs.Script.{room};
+ghost use Rattle.clover_main.specs.Stands.{IsAt, IsServed, AreDistinct};
+
+mod version;
+mod words;
+
+use clover_map::{Call, Key, OutOfMemory, Reply, Value};
+use clover_words::{Setup, Tag, dealt, tombstone};
+use std::alloc::Global;
+use version::{bind, link, read_version, tag_of, write_value};
+
+/// The words of a pool, and what spares walking and counting: the last tag of each slot's chain, and how
+/// many puts were made.
+#[derive(Drop)]
+pub struct Engine {
+    setup: Setup,
+    words: Vec<u64>,
+    cursors: Vec<Tag>,
+    puts: u32,
+}
+
+impl Engine {
+    /// The preset pool: each key has the slot of its number, whose chain is one tombstone.
+    pub fn make(alloc: Global, setup: &Setup, keys: &[Key]) -> Result<Engine, OutOfMemory>
+        requires buffers { setup.now.pool.slots ≤ buffers_total setup.now.pool }
+        requires slots { length keys.now ≤ setup.now.pool.slots }
+        requires distinct { AreDistinct keys.now }
+        ensures at { IfOk result (λ engine. IsAt engine keys.now [] finite.empty) }
+        ensures parts { IfOk result (λ engine. (engine.setup ≡ setup.now) × (engine.puts ≡ 0)) }
+    {
+        let pool = &setup.pool;
+        let Ok(mut words) = zeros(alloc, pool) else {
+            return Err(OutOfMemory);
+        };
+        let mut cursors = Vec::new(alloc);
+        for (slot, key) in keys.iter().enumerate() {
+            let buffer = tombstone(setup, slot as u32);
+            bind(pool, &mut words, slot as u32, key, buffer);
+            if cursors.push(tag_of(pool, buffer)).is_err() {
+                return Err(OutOfMemory);
+            }
+        }
+        Ok(Engine {
+            setup: *setup,
+            words,
+            cursors,
+            puts: 0,
+        })
+    }
+
+    /// Answers a get or a put on the key of a slot. Err for want of memory alone.
+    pub fn answer(&mut self, alloc: Global, slot: u32, call: &Call) -> Result<Reply, OutOfMemory>
+        requires served { IsServed self.old.setup self.old.puts call.now }
+        requires at { (keys : List (List ℕ)) × (used : List ℕ) × (m : Tagged) × IsAt self.old keys used m × (slice_get keys slot ≡ Some (key_of call.now)) }
+        ensures answered { IfOk result (λ reply. (keys : List (List ℕ)) (used : List ℕ) (m : Tagged) → IsAt self.old keys used m → slice_get keys slot ≡ Some (key_of call.now)
+            → (n : Tagged) × Does m used call.now reply n × IsAt self.new keys (used ++ new_tags reply) n) }
+        ensures setup { self.new.setup ≡ self.old.setup }
+        ensures puts { OnOk result (self.new.puts ≡ self.old.puts + puts (call.now ∷ [])) }
+    {
+        match call {
+            Call::Get { .. } => self.get(alloc, slot),
+            Call::Put { value, .. } => Ok(Reply::Stored {
+                tag: self.put(slot, value).number(),
+            }),
+            Call::Delete { .. } | Call::Swap { .. } => unreachable!(),
+        }
+    }
+
+    fn get(&self, alloc: Global, slot: u32) -> Result<Reply, OutOfMemory> {
+        let tag = self.cursors[slot as usize];
+        match read_version(alloc, &self.setup.pool, &self.words, tag)? {
+            None => Ok(Reply::Absent),
+            Some(held) => Ok(Reply::Found {
+                tag: held.tag,
+                value: held.value,
+            }),
+        }
+    }
+
+    fn put(&mut self, slot: u32, value: &Value) -> Tag {
+        let Some(buffer) = dealt(&self.setup, 1, self.puts) else {
+            unreachable!()
+        };
+        let tag = tag_of(&self.setup.pool, buffer);
+        write_value(&self.setup.pool, &mut self.words, buffer, value);
+        link(
+            &self.setup.pool,
+            &mut self.words,
+            self.cursors[slot as usize],
+            tag,
+        );
+        self.cursors[slot as usize] = tag;
+        self.puts += 1;
+        tag
+    }
+}
+
+fn zeros(alloc: Global, pool: &Pool) -> Result<Vec<u64>, AllocError> {
+    Ok(vec![in alloc; 0; pool.durable() as usize]?)
+}
