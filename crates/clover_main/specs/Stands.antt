@@ -17,6 +17,8 @@ use Rattle.clover_words.specs.Tag.{TagParts, tag_number}
 use Rattle.clover_map.specs.declared.bytes.Held.{Held}
 use Rattle.clover_map.specs.declared.call.Call.{Call}
 use Rattle.clover_map.specs.declared.call.Call.TheVariants.{Get, Put, Delete, Swap}
+use Rattle.clover_map.specs.declared.call.Reply.{Reply}
+use Rattle.clover_map.specs.declared.call.Reply.TheVariants.{Absent, Found}
 use Rattle.clover_map.specs.Tagged.{Tagged}
 use Rattle.clover_map.specs.Legal.{IsFresh}
 use Rattle.clover_script.specs.Script.{room}
@@ -161,3 +163,8 @@ IsKeyOf s w = ⊥
 -- each durable word but these is as before
 abbrev pub KeepsBut : (Word → Type 0) → Pool → List ℕ → List ℕ → Type 0
 KeepsBut Changes p old new = (w : Word) → IsDurable p w → (Changes w → ⊥) → word_in p new w ≡ word_in p old w
+
+-- the reply to a get
+abbrev pub reply_of : Option Held → Reply
+reply_of None = Absent
+reply_of (Some h) = Found h.tag h.value

@@ -1,22 +1,22 @@
 // The private engine: the calls of one client, each answered on a list of the words of the preset pool,
 // one copy of each. It has no map of values: what it knows stands in the words.
-ghost use Rattle.std.specs.Prelude.{◌≡◌, ◌≤◌, ◌+◌, ◌++◌, ℕ, List, [], ◌∷◌, length, slice_get, Option, Some, IfOk, OnOk};
+ghost use Rattle.std.specs.Prelude.{◌≡◌, ◌≤◌, ◌+◌, ◌++◌, ℕ, List, [], ◌∷◌, length, slice_get, replicate, Option, Some, IfOk, OnOk};
 ghost use Rattle.std.specs.FinMap as finite;
-ghost use Rattle.clover_words.specs.Place.{IsBuffer};
+ghost use Rattle.clover_words.specs.Place.{IsBuffer, durable_words};
 ghost use Rattle.clover_words.specs.Preset.{buffers_total, HasDealt};
 ghost use Rattle.clover_words.specs.Tag.{tag_number};
 ghost use Rattle.clover_map.specs.Legal.{Does, IsFresh, held, new_tags};
 ghost use Rattle.clover_map.specs.Tagged.{Tagged};
 ghost use Rattle.clover_map.specs.declared.bytes.Held.{Held};
-ghost use Rattle.clover_script.specs.Naming.{key_of};
+ghost use Rattle.clover_script.specs.Naming.{key_of, puts};
 ghost use Rattle.clover_script.specs.Script.{room};
-ghost use Rattle.clover_main.specs.Stands.{IsAt, IsServed, AreDistinct};
+ghost use Rattle.clover_main.specs.Stands.{IsAt, IsServed, AreDistinct, reply_of};
 
 mod version;
 mod words;
 
 use clover_map::{Call, Key, OutOfMemory, Reply, Value};
-use clover_words::{Setup, Tag, dealt, tombstone};
+use clover_words::{Pool, Setup, Tag, dealt, tombstone};
 use std::alloc::Global;
 use version::{bind, link, read_version, tag_of, write_value};
 
@@ -40,9 +40,7 @@ impl Engine {
         ensures parts { IfOk result (λ engine. (engine.setup ≡ setup.now) × (engine.puts ≡ 0)) }
     {
         let pool = &setup.pool;
-        let Ok(mut words) = zeros(alloc, pool) else {
-            return Err(OutOfMemory);
-        };
+        let mut words = zeros(alloc, pool)?;
         let mut cursors = Vec::new(alloc);
         for (slot, key) in keys.iter().enumerate() {
             let buffer = tombstone(setup, slot as u32);
@@ -77,7 +75,11 @@ impl Engine {
         }
     }
 
-    fn get(&self, alloc: Global, slot: u32) -> Result<Reply, OutOfMemory> {
+    // The reply to a get on the key of a slot.
+    fn get(&self, alloc: Global, slot: u32) -> Result<Reply, OutOfMemory>
+        requires { (keys : List (List ℕ)) × (used : List ℕ) × (m : Tagged) × (k : List ℕ) × IsAt self.now keys used m × (slice_get keys slot ≡ Some k) }
+        ensures { IfOk result (λ reply. (keys : List (List ℕ)) (used : List ℕ) (m : Tagged) (k : List ℕ) → IsAt self.now keys used m → slice_get keys slot ≡ Some k → reply ≡ reply_of (finite.get m k)) }
+    {
         let tag = self.cursors[slot as usize];
         match read_version(alloc, &self.setup.pool, &self.words, tag)? {
             None => Ok(Reply::Absent),
@@ -88,24 +90,39 @@ impl Engine {
         }
     }
 
-    fn put(&mut self, slot: u32, value: &Value) -> Tag {
-        let Some(buffer) = dealt(&self.setup, 1, self.puts) else {
+    // Puts a value under the key of a slot, by a version in the next buffer.
+    fn put(&mut self, slot: u32, value: &Value) -> Tag
+        requires room { length value.now.bytes ≤ room self.old.setup.pool }
+        requires dealt { HasDealt self.old.setup 1 self.old.puts }
+        requires at { (keys : List (List ℕ)) × (used : List ℕ) × (m : Tagged) × (k : List ℕ) × IsAt self.old keys used m × (slice_get keys slot ≡ Some k) }
+        ensures put { (keys : List (List ℕ)) (used : List ℕ) (m : Tagged) (k : List ℕ) → IsAt self.old keys used m → slice_get keys slot ≡ Some k
+            → IsFresh used (tag_number result) × IsAt self.new keys (used ++ tag_number result ∷ []) (finite.insert m k (held (tag_number result) value.now)) }
+        ensures setup { self.new.setup ≡ self.old.setup }
+        ensures puts { self.new.puts ≡ self.old.puts + 1 }
+    {
+        let setup = self.setup;
+        let Some(buffer) = dealt(&setup, 1, self.puts) else {
             unreachable!()
         };
-        let tag = tag_of(&self.setup.pool, buffer);
-        write_value(&self.setup.pool, &mut self.words, buffer, value);
-        link(
-            &self.setup.pool,
-            &mut self.words,
-            self.cursors[slot as usize],
-            tag,
-        );
+        let tag = tag_of(&setup.pool, buffer);
+        let tail = self.cursors[slot as usize];
+        write_value(&setup.pool, &mut self.words, buffer, value);
+        link(&setup.pool, &mut self.words, tail, tag);
         self.cursors[slot as usize] = tag;
         self.puts += 1;
         tag
     }
 }
 
-fn zeros(alloc: Global, pool: &Pool) -> Result<Vec<u64>, AllocError> {
-    Ok(vec![in alloc; 0; pool.durable() as usize]?)
+// The durable words' current copies, all 0.
+fn zeros(alloc: Global, pool: &Pool) -> Result<Vec<u64>, OutOfMemory>
+    ensures { IfOk result (λ words. words.items ≡ replicate (durable_words pool.now) 0) }
+{
+    // There are two copies of each durable word, the shortcuts and the count.
+    let durable = (pool.len() - u64::from(pool.slots) - 1) / 2;
+    match vec![in alloc; 0; durable as usize] {
+        Ok(words) => Ok(words),
+        Err(_) => Err(OutOfMemory),
+    }
 }
+

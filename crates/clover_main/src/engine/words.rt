@@ -50,17 +50,17 @@ pub fn store_bytes(words: &mut [u64], from: usize, bytes: &[u8])
 }
 
 /// So many bytes that the words from a place on have.
-pub fn load_bytes(words: &[u64], from: usize, length: u32) -> ValueBuf
-    requires few { length ≤ 1024 }
-    requires room { from + words_of length ≤ length words.now }
-    ensures length { result.length ≡ length }
-    ensures loaded { (k : ℕ) → k < words_of length → packed result.bytes k ≡ slice_index words.now (from + k) }
+pub fn load_bytes(words: &[u64], from: usize, count: u32) -> ValueBuf
+    requires few { count ≤ 1024 }
+    requires room { from + words_of count ≤ length words.now }
+    ensures length { result.length ≡ count }
+    ensures loaded { (k : ℕ) → k < words_of count → packed result.bytes k ≡ slice_index words.now (from + k) }
 {
     let mut into = ValueBuf {
         bytes: [0; 1024],
-        length,
+        length: count,
     };
-    for k in 0..length.div_ceil(8) {
+    for k in 0..count.div_ceil(8) {
         unpack(words[from + k as usize], k, &mut into);
     }
     into
