@@ -1,7 +1,7 @@
 -- bytes are what their words spell
 use Rattle.std.proofs.Common.{◌≡◌, ◌≢◌, ℕ, zero, suc, ◌+◌, ◌-◌, ◌*◌, ◌/◌, ◌%◌, ◌<◌, ◌≤◌, List, length, take, drop, ◌++◌, ◌⊎◌, inl, inr, refl, ap, sym, ◌∙◌, arith}
 use Rattle.std.specs.Prelude.{slice_index}
-use Rattle.std.specs.Int.{w64, from_be_bytes, to_be_bytes}
+use Rattle.std.specs.Int.{w64, to_be_bytes}
 use Rattle.std.proofs.lemmas.Nat.{be_bytes_8}
 use Rattle.std.proofs.lemmas.List.{ext_get_or, get_or-take, get_or-drop, get_or_append_left, get_or-append_right, drop-drop, append_assoc, length-append, length-take-le}
 use borrow.Rule.Slice.PartMut.{put_mid}
@@ -85,8 +85,8 @@ packed_kept bytes k j word fits ne =
     same_word (with_eight bytes k word) bytes j
     (λ i lt. other_byte bytes (to_be_bytes w64 word) k (8 * j + i) refl fits (outside j k i lt ne))
   where
-  outside : (j k i : ℕ) → i < 8 → j ≢ k → (8 * j + i < 8 * k) ⊎ (8 * k + 8 ≤ 8 * j + i)
-  outside j k i lt ne = grind arith
+    outside : (j k i : ℕ) → i < 8 → j ≢ k → (8 * j + i < 8 * k) ⊎ (8 * k + 8 ≤ 8 * j + i)
+    outside j k i lt ne = grind arith
 
 -- a write to bytes 8k to 8k + 7
 pub put_mid-eight : (bytes eight : List ℕ) (k n : ℕ) → n ≡ 8
