@@ -164,6 +164,13 @@ IsKeyOf s w = ⊥
 abbrev pub KeepsBut : (Word → Type 0) → Pool → List ℕ → List ℕ → Type 0
 KeepsBut Changes p old new = (w : Word) → IsDurable p w → (Changes w → ⊥) → word_in p new w ≡ word_in p old w
 
+-- The slot got this key, and the tombstone in this buffer as its chain's first version; no other word changed.
+pub record IsBound (p : Pool) (old new : List ℕ) (s : ℕ) (key : List ℕ) (b : Buffer) : Type 0 where
+  pub root : word_in p new (Root s) ≡ root_word (Some (first_tag b))
+  pub version : HasVersion p new (first_tag b) None
+  pub named : HasKey p new s key
+  pub kept : KeepsBut (IsBinding s b) p old new
+
 -- the reply to a get
 abbrev pub reply_of : Option Held → Reply
 reply_of None = Absent

@@ -1,15 +1,16 @@
 // Writing and reading versions, and the words of a slot. Nothing here follows a chain.
-ghost use Rattle.std.specs.Prelude.{◌≡◌, ◌<◌, ◌≤◌, ℕ, length, Option, Some, None, IfOk};
+ghost use Rattle.std.specs.Prelude.{◌≡◌, ◌<◌, ◌≤◌, ℕ, length, Option, Some, IfOk};
 ghost use Rattle.std.specs.Prelude.{slice_set};
-ghost use Rattle.clover_words.specs.Next.{root_word, next_word};
-ghost use Rattle.clover_words.specs.Place.{IsBuffer, place, word_in, durable_words};
+ghost use Rattle.clover_words.specs.Meta.{IsMeta};
+ghost use Rattle.clover_words.specs.Next.{next_word};
+ghost use Rattle.clover_words.specs.Place.{IsBuffer, place, durable_words};
 ghost use Rattle.clover_words.specs.Tag.{tag_number};
 ghost use Rattle.clover_map.specs.declared.bytes.Held.{Held};
 ghost use Rattle.clover_map.specs.Legal.{held};
 ghost use Rattle.clover_script.specs.Script.{room};
-ghost use Rattle.clover_main.specs.Stands.{IsIn, HasVersion, HasKey, IsContent, IsBinding, IsKeyOf, KeepsBut, first_tag, buffer_at};
+ghost use Rattle.clover_main.specs.Stands.{IsIn, HasVersion, HasKey, IsContent, IsBound, IsKeyOf, KeepsBut, first_tag, buffer_at};
 
-use crate::engine::words::{load, load_bytes, place_of, store, store_bytes};
+use crate::engine::words::{load, load_bytes, store, store_bytes};
 use clover_map::{Bytes, Held, Key, OutOfMemory, Value};
 use clover_words::{Buffer, Kind, Meta, NextWord, Pool, Tag, Word, root_encode};
 use std::alloc::Global;
@@ -35,6 +36,19 @@ fn buffer_of_tag(tag: Tag) -> Buffer
     }
 }
 
+// What the meta word of a value of so many bytes says.
+fn meta_of_value(flags: u32, bytes: u32) -> Meta
+    requires { bytes ≤ 1024 }
+    ensures meta { result ≡ record { kind = Kind.Value; flags = flags; length = bytes } }
+    ensures valid { IsMeta result }
+{
+    Meta {
+        kind: Kind::Value,
+        flags,
+        length: bytes,
+    }
+}
+
 /// Gives a buffer the version of this value.
 pub fn write_value(pool: &Pool, words: &mut [u64], buffer: Buffer, value: &Value)
     requires size { length words.old ≡ durable_words pool.now }
@@ -44,13 +58,9 @@ pub fn write_value(pool: &Pool, words: &mut [u64], buffer: Buffer, value: &Value
     ensures kept { KeepsBut (IsContent buffer) pool.now words.old words.new }
 {
     let bytes = value.bytes.items();
-    let meta = Meta {
-        kind: Kind::Value,
-        flags: value.flags,
-        length: bytes.len() as u32,
-    };
+    let meta = meta_of_value(value.flags, bytes.len() as u32);
     store(pool, words, Word::Meta(buffer), meta.encode());
-    store_bytes(words, place_of(pool, Word::Value(buffer, 0)), bytes);
+    store_bytes(pool, words, Word::Value(buffer, 0), bytes);
 }
 
 /// The pair that a version holds, or None for a tombstone.
@@ -69,19 +79,22 @@ pub fn read_version(
     let Some(meta) = Meta::decode(load(pool, words, Word::Meta(buffer))) else {
         unreachable!()
     };
-    if meta.kind == Kind::Tombstone {
-        return Ok(None);
-    }
-    let loaded = load_bytes(words, place_of(pool, Word::Value(buffer, 0)), meta.length);
-    match Bytes::of(alloc, &loaded.bytes[..meta.length as usize]) {
-        Ok(bytes) => Ok(Some(Held {
-            tag: tag.number(),
-            value: Value {
+    match meta.kind {
+        Kind::Tombstone => Ok(None),
+        Kind::Value => {
+            let loaded = load_bytes(pool, words, Word::Value(buffer, 0), meta.length);
+            let Ok(bytes) = Bytes::of(alloc, &loaded.bytes[..meta.length as usize]) else {
+                return Err(OutOfMemory);
+            };
+            let value = Value {
                 flags: meta.flags,
                 bytes,
-            },
-        })),
-        Err(_) => Err(OutOfMemory),
+            };
+            Ok(Some(Held {
+                tag: tag.number(),
+                value,
+            }))
+        }
     }
 }
 
@@ -103,10 +116,7 @@ pub fn bind(pool: &Pool, words: &mut [u64], slot: u32, key: &Key, buffer: Buffer
     requires size { length words.old ≡ durable_words pool.now }
     requires slot { slot < pool.now.slots }
     requires buffer { IsBuffer pool.now buffer }
-    ensures root { word_in pool.now words.new (Word.Root slot) ≡ root_word (Some (first_tag buffer)) }
-    ensures version { HasVersion pool.now words.new (first_tag buffer) None }
-    ensures named { HasKey pool.now words.new slot key.now }
-    ensures kept { KeepsBut (IsBinding slot buffer) pool.now words.old words.new }
+    ensures { IsBound pool.now words.old words.new slot key.now buffer }
 {
     let tombstone = Meta {
         kind: Kind::Tombstone,
@@ -129,8 +139,9 @@ fn store_key(pool: &Pool, words: &mut [u64], slot: u32, key: &Key)
     spelled[0] = bytes.len() as u8;
     spelled[1..1 + bytes.len()].copy_from_slice(bytes);
     store_bytes(
+        pool,
         words,
-        place_of(pool, Word::Key(slot, 0)),
+        Word::Key(slot, 0),
         &spelled[..1 + bytes.len()],
     );
 }

@@ -1,0 +1,4 @@
+pub mod Chains
+pub mod Frames
+pub mod Maps
+pub mod Versions
