@@ -1,4 +1,6 @@
+pub mod Begun
 pub mod Chains
 pub mod Frames
 pub mod Maps
+pub mod Standing
 pub mod Versions

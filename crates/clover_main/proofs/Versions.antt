@@ -113,3 +113,34 @@ value_read p words t (Some h) meta loaded bytes number b v here same full are si
     let tags : number ≡ h.tag = tag ∙ sym v.content.tag in
     let all : held number (pair meta.flags bytes) ≡ held h.tag (pair h.value.flags h.value.bytes) = cc in
     ap Some all
+
+-- a version stands as long as its words do
+pub version_kept : (p : Pool) (old new : List ℕ) (t : TagParts) (o : Option Held) → IsBuffer p (buffer_at t)
+    → ((w : Word) → IsDurable p w → IsContent (buffer_at t) w → word_in p new w ≡ word_in p old w)
+    → HasVersion p old t o → HasVersion p new t o
+version_kept p old new t None within kept v = record {
+    meta = kept (Meta (buffer_at t)) (within, tt) refl ∙ v.meta;
+    valid = v.valid;
+    content = tt
+  }
+version_kept p old new t (Some h) within kept v = record {
+    meta = kept (Meta (buffer_at t)) (within, tt) refl ∙ v.meta;
+    valid = v.valid;
+    content = record {
+      tag = v.content.tag;
+      bytes = v.content.bytes;
+      fits = v.content.fits;
+      spelled = λ k lt.
+        let fits = v.content.fits in
+        kept (Value (buffer_at t) k) ((within, omega arith), tt) refl ∙ v.content.spelled k lt
+    }
+  }
+
+-- a key stands as long as its words do
+pub named_kept : (p : Pool) (old new : List ℕ) (s : ℕ) (key : List ℕ) → s < p.slots
+    → ((w : Word) → IsDurable p w → IsKeyOf s w → word_in p new w ≡ word_in p old w)
+    → HasKey p old s key → HasKey p new s key
+named_kept p old new s key within kept h = record {
+    fits = h.fits;
+    spelled = λ k lt. let fits = h.fits in kept (Key s k) ((within, omega arith), tt) refl ∙ h.spelled k lt
+  }

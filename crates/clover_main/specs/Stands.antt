@@ -80,9 +80,10 @@ pub record HasVersion (p : Pool) (words : List ℕ) (t : TagParts) (o : Option H
   pub valid : IsMeta (meta_of o)
   pub content : HasContent p words t o
 
--- the key words of the slot are the length of the key and its bytes
-abbrev pub HasKey : Pool → List ℕ → ℕ → List ℕ → Type 0
-HasKey p words s key = (k : ℕ) → k < words_of (1 + length key) → word_in p words (Key s k) ≡ packed (length key ∷ key) k
+-- the slot's key words are the length of the key and its bytes
+pub record HasKey (p : Pool) (words : List ℕ) (s : ℕ) (key : List ℕ) : Type 0 where
+  pub fits : length key ≤ 250
+  pub spelled : (k : ℕ) → k < words_of (1 + length key) → word_in p words (Key s k) ≡ packed (length key ∷ key) k
 
 -- The slot has this key, and its root begins a chain that ends with the version t, which holds this.
 pub record SlotHas (p : Pool) (words : List ℕ) (s : ℕ) (key : List ℕ) (t : TagParts) (o : Option Held) : Type 0 where

@@ -1,0 +1,1 @@
+-- the engine's words as it begins
