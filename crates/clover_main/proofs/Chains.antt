@@ -8,7 +8,6 @@ use Rattle.clover_words.specs.declared.word.Word.TheVariants.{Next, Meta, Value,
 use Rattle.clover_words.specs.Next.{NextParts, IsNext, next_word}
 use Rattle.clover_words.specs.Place.{IsBuffer, IsWithin, place, word_in, durable_words}
 use Rattle.clover_words.specs.Tag.{TagParts, IsTag, tag_number}
-use Rattle.clover_words.proofs.Places.{durable_below, word_set, word_kept}
 use Rattle.clover_words.proofs.Spellings.{one_next}
 use Rattle.clover_main.specs.Stands.{IsIn, IsTail, IsLinked, Chain, last_of, buffer_at}
 
@@ -40,50 +39,31 @@ pub last_tail : (p : Pool) (words : List ℕ) (t : TagParts) (us : List TagParts
 last_tail p words t [] c = c
 last_tail p words t (u ∷ us) c = last_tail p words u us c.1
 
--- a chain stands as long as the next words do
-pub chain_kept : (p : Pool) (old new : List ℕ) (t : TagParts) (us : List TagParts)
-    → ((b : Buffer) → IsBuffer p b → word_in p new (Next b) ≡ word_in p old (Next b)) → Chain p old t us → Chain p new t us
-chain_kept p old new t [] kept c = record { within = c.within; next = kept (buffer_at t) c.within.place ∙ c.next }
-chain_kept p old new t (u ∷ us) kept c =
-    (record { within = c.0.within; next = kept (buffer_at t) c.0.within.place ∙ c.0.next }, chain_kept p old new u us kept c.1)
+-- the next words of all buffers but this one are as before
+abbrev pub KeepsLinks : Pool → List ℕ → List ℕ → Buffer → Type 0
+KeepsLinks p old new b = (c : Buffer) → IsBuffer p c → c ≢ b → word_in p new (Next c) ≡ word_in p old (Next c)
 
--- a tail other than the one of this chain may be linked
-pub other_linked : (p : Pool) (words : List ℕ) (v : TagParts) (n : ℕ) (t : TagParts) (us : List TagParts)
-    → IsTail p words v → (buffer_at (last_of t us) ≢ buffer_at v) → Chain p words t us → Chain p (slice_set words (place p (Next (buffer_at v))) n) t us
-other_linked p words v n t [] tail other c = record {
-    within = c.within;
-    next = word_kept p words (Next (buffer_at v)) (Next (buffer_at t)) n tail.within.place c.within.place (λ e. other cc) ∙ c.next
-  }
-other_linked p words v n t (u ∷ us) tail other c =
-    let apart : buffer_at t ≢ buffer_at v = λ e. not_both v.generation t.generation u tail.within.generation c.0.within.generation (is_tag p u (first_in p words u us c.1))
-        (sym tail.next ∙ ap (λ b. word_in p words (Next b)) (sym e) ∙ c.0.next) in
-    (record {
-      within = c.0.within;
-      next = word_kept p words (Next (buffer_at v)) (Next (buffer_at t)) n tail.within.place c.0.within.place (λ e. apart cc) ∙ c.0.next
-    }, other_linked p words v n u us tail other c.1)
+-- a tag that leads on has not the buffer of a tail
+leads_on : (p : Pool) (words : List ℕ) (t u v : TagParts) → IsLinked p words t u → IsIn p u → IsTail p words v → buffer_at t ≢ buffer_at v
+leads_on p words t u v leads within tail e =
+    not_both v.generation t.generation u tail.within.generation leads.within.generation (is_tag p u within)
+    (sym tail.next ∙ ap (λ b. word_in p words (Next b)) (sym e) ∙ leads.next)
 
--- a chain grows by a tail of another buffer
-pub chain_grown : (p : Pool) (words : List ℕ) (t : TagParts) (us : List TagParts) (v : TagParts)
-    → length words ≡ durable_words p → IsTail p words v → (buffer_at (last_of t us) ≢ buffer_at v) → Chain p words t us
-    → Chain p (slice_set words (place p (Next (buffer_at (last_of t us)))) (next_word (linked (last_of t us).generation v))) t (us ++ v ∷ [])
-chain_grown p words t [] v size tail other c =
-    let n = next_word (linked t.generation v) in
-    (record {
-      within = c.within;
-      next = word_set p words (Next (buffer_at t)) n (omega (arith, durable_below p (Next (buffer_at t)) c.within.place tt))
-    }, record {
-      within = tail.within;
-      next = word_kept p words (Next (buffer_at t)) (Next (buffer_at v)) n c.within.place tail.within.place (λ e. other cc) ∙ tail.next
-    })
-chain_grown p words t (u ∷ us) v size tail other c =
-    let z = last_of u us in
-    let end : IsTail p words z = last_tail p words u us c.1 in
-    let apart : buffer_at t ≢ buffer_at z = λ e. not_both z.generation t.generation u end.within.generation c.0.within.generation (is_tag p u (first_in p words u us c.1))
-        (sym end.next ∙ ap (λ b. word_in p words (Next b)) (sym e) ∙ c.0.next) in
-    (record {
-      within = c.0.within;
-      next = word_kept p words (Next (buffer_at z)) (Next (buffer_at t)) (next_word (linked z.generation v)) end.within.place c.0.within.place (λ e. apart cc) ∙ c.0.next
-    }, chain_grown p words u us v size tail other c.1)
+-- a chain stands if a tail that is not its own gets a link
+pub other_linked : (p : Pool) (old new : List ℕ) (v t : TagParts) (us : List TagParts)
+    → KeepsLinks p old new (buffer_at v) → IsTail p old v → buffer_at (last_of t us) ≢ buffer_at v → Chain p old t us → Chain p new t us
+other_linked p old new v t [] kept tail other c = record { within = c.within; next = kept (buffer_at t) c.within.place other ∙ c.next }
+other_linked p old new v t (u ∷ us) kept tail other c =
+    let apart = leads_on p old t u v c.0 (first_in p old u us c.1) tail in
+    (record { within = c.0.within; next = kept (buffer_at t) c.0.within.place apart ∙ c.0.next }, other_linked p old new v u us kept tail other c.1)
+
+-- a chain grows if its own tail gets a link to a tail of another buffer
+pub chain_grown : (p : Pool) (old new : List ℕ) (t : TagParts) (us : List TagParts) (v : TagParts)
+    → KeepsLinks p old new (buffer_at (last_of t us)) → IsLinked p new (last_of t us) v → IsTail p new v → Chain p old t us → Chain p new t (us ++ v ∷ [])
+chain_grown p old new t [] v kept link tail c = (link, tail)
+chain_grown p old new t (u ∷ us) v kept link tail c =
+    let apart = leads_on p old t u (last_of u us) c.0 (first_in p old u us c.1) (last_tail p old u us c.1) in
+    (record { within = c.0.within; next = kept (buffer_at t) c.0.within.place apart ∙ c.0.next }, chain_grown p old new u us v kept link tail c.1)
 
 -- and ends with it
 pub last_grown : (t : TagParts) (us : List TagParts) (v : TagParts) → last_of t (us ++ v ∷ []) ≡ v

@@ -8,7 +8,7 @@ use Rattle.clover_words.specs.declared.word.Word.{Word}
 use Rattle.clover_words.specs.declared.word.Word.TheVariants.{Next, Meta, Value, Root, Key, Short, Count}
 use Rattle.clover_words.specs.Place.{IsBuffer, IsWithin, place, word_in}
 use Rattle.clover_words.proofs.Places.{one_place, word_kept}
-use Rattle.clover_main.specs.Stands.{IsDurable, IsContent, IsKeyOf, IsBinding, KeepsBut}
+use Rattle.clover_main.specs.Stands.{IsDurable, IsContent, IsAddition, IsKeyOf, IsBinding, KeepsBut}
 
 -- a place lies outside of a run of places, or is one of them
 where_is : (i from count : ℕ) → ((i < from) ⊎ (from + count ≤ i)) ⊎ ((k : ℕ) × (k < count) × (from + k ≡ i))
@@ -64,12 +64,22 @@ key_run p s count within fits = record {
     changes = λ k lt. refl
   }
 
+-- what the words of a version are also of
+pub content_adds : (b d : Buffer) (w : Word) → IsContent b w → IsAddition b d w
+content_adds b d (Meta c) h = h
+content_adds b d (Value c k) h = h
+content_adds b d (Next c) h = absurd h
+content_adds b d (Root r) h = absurd h
+content_adds b d (Key r k) h = absurd h
+content_adds b d (Short r) h = absurd h
+content_adds b d Count h = absurd h
+
 -- the key words of a slot are of its binding
-pub key_binds : (s : ℕ) (b : Buffer) (w : Word) → IsKeyOf s w → IsBinding s b w
-key_binds s b (Key r k) h = h
-key_binds s b (Next c) h = absurd h
-key_binds s b (Meta c) h = absurd h
-key_binds s b (Value c k) h = absurd h
-key_binds s b (Root r) h = absurd h
-key_binds s b (Short r) h = absurd h
-key_binds s b Count h = absurd h
+pub key_binds : (b : Buffer) (s : ℕ) (w : Word) → IsKeyOf s w → IsBinding b s w
+key_binds b s (Key r k) h = h
+key_binds b s (Next c) h = absurd h
+key_binds b s (Meta c) h = absurd h
+key_binds b s (Value c k) h = absurd h
+key_binds b s (Root r) h = absurd h
+key_binds b s (Short r) h = absurd h
+key_binds b s Count h = absurd h

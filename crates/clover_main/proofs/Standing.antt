@@ -16,14 +16,13 @@ use Rattle.clover_words.specs.Next.{next_word, root_word}
 use Rattle.clover_words.specs.Place.{IsBuffer, IsWithin, place, word_in, durable_words, buffer_of}
 use Rattle.clover_words.specs.Preset.{dealt_number, HasDealt}
 use Rattle.clover_words.specs.Tag.{TagParts, IsTag, tag_number}
-use Rattle.clover_words.proofs.Places.{durable_below, word_set, word_kept}
 use Rattle.clover_words.proofs.Spellings.{one_tag}
 use Rattle.clover_map.specs.declared.bytes.Held.{Held}
 use Rattle.clover_map.specs.declared.bytes.Value.{Value as Pair}
 use Rattle.clover_map.specs.Tagged.{Tagged}
 use Rattle.clover_map.specs.Legal.{held, IsFresh}
-use Rattle.clover_main.specs.Stands.{IsIn, IsTail, IsLinked, Chain, last_of, buffer_at, first_tag, HasVersion, HasKey, SlotHas, StandsFor, AreDistinct, AreApart, IsReady, put_tag, IsEngine, IsDurable, IsContent, IsKeyOf, KeepsBut}
-use Rattle.clover_main.proofs.Chains.{is_tag, linked, last_tail, chain_kept, other_linked, chain_grown, last_grown}
+use Rattle.clover_main.specs.Stands.{IsIn, IsTail, IsLinked, Chain, last_of, buffer_at, first_tag, HasVersion, HasKey, SlotHas, StandsFor, AreDistinct, AreApart, IsReady, put_tag, IsEngine, IsAdded}
+use Rattle.clover_main.proofs.Chains.{is_tag, last_tail, KeepsLinks, other_linked, chain_grown, last_grown}
 use Rattle.clover_main.proofs.Maps.{get_put, get_other, item_set, item_kept}
 use Rattle.clover_main.proofs.Versions.{version_kept, named_kept}
 
@@ -51,106 +50,63 @@ one_put s a b e =
 pub end_in : (p : Pool) (words : List ℕ) (s : ℕ) (key : List ℕ) (t : TagParts) (o : Option Held) → SlotHas p words s key t o → IsTail p words t
 end_in p words s key t o h = subst (IsTail p words) h.last (last_tail p words h.first h.rest h.chain)
 
--- what a put does to the words: a version in this buffer, and a link to it at t
-pub record IsPut (p : Pool) (old between : List ℕ) (t v : TagParts) : Type 0 where
-  pub size : length between ≡ durable_words p
-  pub kept : KeepsBut (IsContent (buffer_at v)) p old between
-  pub within : IsIn p t
-  pub fresh : IsIn p v
-  pub apart : buffer_at t ≢ buffer_at v
+-- what a put does to a list of words, seen by the version t that gets a link and the version v that is new
+module _ (p : Pool) (old new : List ℕ) (t v : TagParts) (h : Held) (added : IsAdded p old new t v h) where
+  links_kept : KeepsLinks p old new (buffer_at t)
+  links_kept c within other = added.kept (Next c) (within, tt) other
 
-abbrev after : Pool → List ℕ → TagParts → TagParts → List ℕ
-after p between t v = slice_set between (place p (Next (buffer_at t))) (next_word (linked t.generation v))
+  -- another tail is one still
+  pub tail_after : (u : TagParts) → buffer_at u ≢ buffer_at t → IsTail p old u → IsTail p new u
+  tail_after u other tail = record { within = tail.within; next = links_kept (buffer_at u) tail.within.place other ∙ tail.next }
 
--- no word but the version's and t's next word changes
-kept_after : (p : Pool) (old between : List ℕ) (t v : TagParts) → IsPut p old between t v → (w : Word) → IsDurable p w → (IsContent (buffer_at v) w → ⊥)
-    → w ≢ Next (buffer_at t) → word_in p (after p between t v) w ≡ word_in p old w
-kept_after p old between t v put w durable other apart =
-    word_kept p between (Next (buffer_at t)) w (next_word (linked t.generation v)) put.within.place durable.0 apart ∙ put.kept w durable other
+  -- so are roots and keys
+  roots_kept : (s : ℕ) → s < p.slots → word_in p new (Root s) ≡ word_in p old (Root s)
+  roots_kept s within = added.kept (Root s) (within, tt) (λ e. e)
 
-next_between : (p : Pool) (old between : List ℕ) (t v : TagParts) → IsPut p old between t v → (b : Buffer) → IsBuffer p b → word_in p between (Next b) ≡ word_in p old (Next b)
-next_between p old between t v put b within = put.kept (Next b) (within, tt) (λ h. h)
+  keys_kept : (s : ℕ) (key : List ℕ) → s < p.slots → HasKey p old s key → HasKey p new s key
+  keys_kept s key within = named_kept p old new s key (λ k lt. added.kept (Key s k) ((within, lt), tt) (λ e. e))
 
-tail_between : (p : Pool) (old between : List ℕ) (t v u : TagParts) → IsPut p old between t v → IsTail p old u → IsTail p between u
-tail_between p old between t v u put tail = record { within = tail.within; next = next_between p old between t v put (buffer_at u) tail.within.place ∙ tail.next }
+  -- another slot has what it had
+  pub other_slot : (s : ℕ) (key : List ℕ) (u : TagParts) (o : Option Held) → s < p.slots → IsTail p old t
+      → buffer_at u ≢ buffer_at t → buffer_at u ≢ buffer_at v → SlotHas p old s key u o → SlotHas p new s key u o
+  other_slot s key u o within tail apart fresh had =
+      let place = (end_in p old s key u o had).within.place in
+      record {
+        first = had.first;
+        rest = had.rest;
+        root = roots_kept s within ∙ had.root;
+        chain = other_linked p old new t had.first had.rest links_kept tail (λ e. apart (sym (ap buffer_at had.last) ∙ e)) had.chain;
+        last = had.last;
+        version = version_kept p old new u o (added.kept (Meta (buffer_at u)) (place, tt) fresh)
+          (λ k lt. added.kept (Value (buffer_at u) k) ((place, lt), tt) fresh) had.version;
+        named = keys_kept s key within had.named
+      }
 
--- another tail is one still
-pub tail_after : (p : Pool) (old between : List ℕ) (t v u : TagParts) → IsPut p old between t v → buffer_at t ≢ buffer_at u → IsTail p old u → IsTail p (after p between t v) u
-tail_after p old between t v u put apart tail = record {
-    within = tail.within;
-    next = kept_after p old between t v put (Next (buffer_at u)) (tail.within.place, tt) (λ h. h) (λ e. apart cc) ∙ tail.next
-  }
-
--- a word is of one version, and no next word; a key word neither
-content_of : (b c : Buffer) (w : Word) → IsContent b w → IsContent c w → b ≡ c
-content_of b c (Meta d) h k = sym h ∙ k
-content_of b c (Value d n) h k = sym h ∙ k
-content_of b c (Next d) h k = absurd h
-content_of b c (Root r) h k = absurd h
-content_of b c (Key r n) h k = absurd h
-content_of b c (Short r) h k = absurd h
-content_of b c Count h k = absurd h
-
-content_no_next : (b c : Buffer) (w : Word) → IsContent b w → w ≢ Next c
-content_no_next b c w h e = let P : Word → Type 0 = IsContent b in subst P e h
-
-key_no_content : (b : Buffer) (s : ℕ) (w : Word) → IsKeyOf s w → IsContent b w → ⊥
-key_no_content b s (Key r n) h k = k
-key_no_content b s (Meta d) h k = h
-key_no_content b s (Value d n) h k = h
-key_no_content b s (Next d) h k = h
-key_no_content b s (Root r) h k = h
-key_no_content b s (Short r) h k = h
-key_no_content b s Count h k = h
-
-key_no_next : (c : Buffer) (s : ℕ) (w : Word) → IsKeyOf s w → w ≢ Next c
-key_no_next c s w h e = let P : Word → Type 0 = IsKeyOf s in subst P e h
-
--- another slot has what it had
-other_slot : (p : Pool) (old between : List ℕ) (t v : TagParts) (s : ℕ) (key : List ℕ) (u : TagParts) (o : Option Held)
-    → IsPut p old between t v → IsTail p old t → s < p.slots → buffer_at u ≢ buffer_at t → buffer_at u ≢ buffer_at v
-    → SlotHas p old s key u o → SlotHas p (after p between t v) s key u o
-other_slot p old between t v s key u o put tail within apart fresh h = record {
-    first = h.first;
-    rest = h.rest;
-    root = kept_after p old between t v put (Root s) (within, tt) (λ e. e) (λ e. cc) ∙ h.root;
-    chain = other_linked p between t (next_word (linked t.generation v)) h.first h.rest (tail_between p old between t v t put tail)
-      (λ e. apart (sym (ap buffer_at h.last) ∙ e))
-      (chain_kept p old between h.first h.rest (next_between p old between t v put) h.chain);
-    last = h.last;
-    version = version_kept p old (after p between t v) u o (end_in p old s key u o h).within.place (λ w durable content. kept_after p old between t v put w durable (λ same. fresh (content_of (buffer_at u) (buffer_at v) w content same)) (content_no_next (buffer_at u) (buffer_at t) w content)) h.version;
-    named = named_kept p old (after p between t v) s key within (λ w durable is. kept_after p old between t v put w durable (key_no_content (buffer_at v) s w is) (key_no_next (buffer_at t) s w is)) h.named
-  }
-
--- the slot of the put has the new version
-own_slot : (p : Pool) (old between : List ℕ) (t v : TagParts) (s : ℕ) (key : List ℕ) (o : Option Held) (h : Held)
-    → IsPut p old between t v → IsTail p old v → s < p.slots → HasVersion p between v (Some h)
-    → SlotHas p old s key t o → SlotHas p (after p between t v) s key v (Some h)
-own_slot p old between t v s key o h put tail within version had =
-    let n = next_word (linked t.generation v) in
-    let last = had.last in
-    let grown = chain_grown p between had.first had.rest v put.size (tail_between p old between t v v put tail)
-      (λ e. put.apart (sym (ap buffer_at last) ∙ e))
-      (chain_kept p old between had.first had.rest (next_between p old between t v put) had.chain) in
-    let P : TagParts → Type 0 = λ z. Chain p (after p between z v) had.first (had.rest ++ v ∷ []) in
-    record {
-      first = had.first;
-      rest = had.rest ++ v ∷ [];
-      root = kept_after p old between t v put (Root s) (within, tt) (λ e. e) (λ e. cc) ∙ had.root;
-      chain = subst P last grown;
-      last = last_grown had.first had.rest v;
-      version = version_kept p between (after p between t v) v (Some h) put.fresh.place
-        (λ w durable content. word_kept p between (Next (buffer_at t)) w n put.within.place durable.0 (content_no_next (buffer_at v) (buffer_at t) w content)) version;
-      named = named_kept p old (after p between t v) s key within (λ w durable is. kept_after p old between t v put w durable (key_no_content (buffer_at v) s w is) (key_no_next (buffer_at t) s w is)) had.named
-    }
+  -- the slot of the put has the new version
+  pub own_slot : (s : ℕ) (key : List ℕ) (o : Option Held) → s < p.slots → IsTail p new v → SlotHas p old s key t o → SlotHas p new s key v (Some h)
+  own_slot s key o within tail had =
+      let P : TagParts → Type 0 = λ z. KeepsLinks p old new (buffer_at z) in
+      let Q : TagParts → Type 0 = λ z. IsLinked p new z v in
+      record {
+        first = had.first;
+        rest = had.rest ++ v ∷ [];
+        root = roots_kept s within ∙ had.root;
+        chain = chain_grown p old new had.first had.rest v (subst P (sym had.last) links_kept) (subst Q (sym had.last) added.linked) tail had.chain;
+        last = last_grown had.first had.rest v;
+        version = added.version;
+        named = keys_kept s key within had.named
+      }
 
 -- what the parts of the engine are once a put was made
-module _ (s : Setup) (old between : List ℕ) (tails : List TagParts) (puts : ℕ) (keys : List (List ℕ)) (used : List ℕ) (m : Tagged)
+module _ (s : Setup) (old new : List ℕ) (tails : List TagParts) (puts : ℕ) (keys : List (List ℕ)) (used : List ℕ) (m : Tagged)
     (i : ℕ) (k : List ℕ) (t : TagParts) (h : Held) (engine : IsEngine s old tails puts keys used m)
     (named : slice_get keys i ≡ Some k) (here : slice_get tails i ≡ Some t) (dealt : HasDealt s 1 puts) where
 
   abbrev v : TagParts
   v = put_tag s puts
+
+  abbrev Added : Type 0
+  Added = IsAdded s.pool old new t v h
 
   ready : IsReady s.pool old tails used v
   ready = engine.ready puts (omega arith) dealt
@@ -167,35 +123,24 @@ module _ (s : Setup) (old between : List ℕ) (tails : List TagParts) (puts : �
   apart : buffer_at t ≢ buffer_at v
   apart = ready.apart i t here
 
-  is_put : length between ≡ durable_words s.pool → KeepsBut (IsContent (buffer_at v)) s.pool old between → IsPut s.pool old between t v
-  is_put size kept = record {
-      size = size;
-      kept = kept;
-      within = (end_in s.pool old i k t (get m k) slot).within;
-      fresh = ready.tail.within;
-      apart = apart
-    }
-
-  bound : IsPut s.pool old between t v → HasVersion s.pool between v (Some h)
-      → (r : ℕ) (q : List ℕ) (u : TagParts) → slice_get keys r ≡ Some q → slice_get new_tails r ≡ Some u
-      → SlotHas s.pool (after s.pool between t v) r q u (get (insert m k h) q)
-  bound put version r q u key tail = elim (cases_eq r i) [
+  bound : Added → (r : ℕ) (q : List ℕ) (u : TagParts) → slice_get keys r ≡ Some q → slice_get new_tails r ≡ Some u
+      → SlotHas s.pool new r q u (get (insert m k h) q)
+  bound added r q u key tail = elim (cases_eq r i) [
       | inl e ↦
         let key' : slice_get keys i ≡ Some q = ap (slice_get keys) (sym e) ∙ key in
         let same : k ≡ q = same_Some k q (sym named ∙ key') in
         let tail' : slice_get new_tails i ≡ Some u = ap (slice_get new_tails) (sym e) ∙ tail in
         let last : v ≡ u = same_Some v u (sym (item_set tails i v t here) ∙ tail') in
-        let P : ℕ → List ℕ → TagParts → Type 0 = λ a b c. SlotHas s.pool (after s.pool between t v) a b c (get (insert m k h) b) in
-        let Q : Option Held → Type 0 = λ o. SlotHas s.pool (after s.pool between t v) i k v o in
-        let own : P i k v = subst Q (sym (get_put m k h)) (own_slot s.pool old between t v i k (get m k) h put ready.tail (omega (arith, slice_get_within keys i k named, engine.slots)) version slot) in
+        let P : ℕ → List ℕ → TagParts → Type 0 = λ a b c. SlotHas s.pool new a b c (get (insert m k h) b) in
+        let Q : Option Held → Type 0 = λ o. SlotHas s.pool new i k v o in
+        let own : P i k v = subst Q (sym (get_put m k h)) (own_slot s.pool old new t v h added i k (get m k) (omega (arith, slice_get_within keys i k named, engine.slots)) (tail_after s.pool old new t v h added v (λ e. apart (sym e)) ready.tail) slot) in
         subst (λ a. P a q u) (sym e) (subst (λ b. P i b u) same (subst (λ c. P i k c) last own))
       | inr other ↦
         let tail' : slice_get tails r ≡ Some u = sym (item_kept tails i r v other) ∙ tail in
         let key' : q ≢ k = λ e. other (engine.distinct r i k (key ∙ ap Some e) named) in
-        let Q : Option Held → Type 0 = λ o. SlotHas s.pool (after s.pool between t v) r q u o in
+        let Q : Option Held → Type 0 = λ o. SlotHas s.pool new r q u o in
         subst Q (sym (get_other m k q h key'))
-        (other_slot s.pool old between t v r q u (get m q) put (end_in s.pool old i k t (get m k) slot)
-          (omega (arith, slice_get_within keys r q key, engine.slots))
+        (other_slot s.pool old new t v h added r q u (get m q) (omega (arith, slice_get_within keys r q key, engine.slots)) (end_in s.pool old i k t (get m k) slot)
           (λ e. other (engine.apart r i u t tail' here e)) (ready.apart r u tail')
           (engine.stands.bound r q u key tail'))
     ]
@@ -215,14 +160,14 @@ module _ (s : Setup) (old between : List ℕ) (tails : List TagParts) (puts : �
     own : (r : ℕ) (u : TagParts) → r ≡ i → slice_get new_tails r ≡ Some u → u ≡ v
     own r u e tail = same_Some u v (sym tail ∙ ap (slice_get new_tails) e ∙ item_set tails i v t here)
 
-  still_ready : IsPut s.pool old between t v → (put : ℕ) → puts + 1 ≤ put → HasDealt s 1 put
-      → IsReady s.pool (after s.pool between t v) new_tails new_used (put_tag s put)
-  still_ready is put later dealt' =
+  still_ready : Added → (put : ℕ) → puts + 1 ≤ put → HasDealt s 1 put
+      → IsReady s.pool new new_tails new_used (put_tag s put)
+  still_ready added put later dealt' =
       let w : TagParts = put_tag s put in
       let was : IsReady s.pool old tails used w = engine.ready put (omega arith) dealt' in
       let fresh : buffer_at v ≢ buffer_at w = λ e. let same : puts ≡ put = one_put s puts put e in omega arith in
       record {
-        tail = tail_after s.pool old between t v w is (was.apart i t here) was.tail;
+        tail = tail_after s.pool old new t v h added w (λ e. was.apart i t here (sym e)) was.tail;
         apart = λ r u tail e. elim (cases_eq r i) [
             | inl f ↦ fresh (sym (ap buffer_at (same_Some u v (sym tail ∙ ap (slice_get new_tails) f ∙ item_set tails i v t here))) ∙ e)
             | inr f ↦ was.apart r u (sym (item_kept tails i r v f) ∙ tail) e
@@ -234,21 +179,20 @@ module _ (s : Setup) (old between : List ℕ) (tails : List TagParts) (puts : �
       }
 
   -- after a put the words stand for the map with the pair, and the put's tag was not used before
-  pub put_stands : length between ≡ durable_words s.pool → KeepsBut (IsContent (buffer_at v)) s.pool old between → HasVersion s.pool between v (Some h)
-      → IsFresh used (tag_number v) × IsEngine s (after s.pool between t v) new_tails (puts + 1) keys new_used (insert m k h)
-  put_stands size kept version =
-      let put : IsPut s.pool old between t v = is_put size kept in
+  pub put_stands : length new ≡ durable_words s.pool → Added
+      → IsFresh used (tag_number v) × IsEngine s new new_tails (puts + 1) keys new_used (insert m k h)
+  put_stands size added =
       (ready.unused, record {
-        size = length-set between (place s.pool (Next (buffer_at t))) (next_word (linked t.generation v)) ∙ size;
+        size = size;
         slots = engine.slots;
         distinct = engine.distinct;
         stands = record {
           count = length-set tails i v ∙ engine.stands.count;
-          bound = bound put version;
+          bound = bound added;
           unbound = λ q none. get_other m k q h (λ e. none (subst (Contains keys) (sym e) (contained keys i k named))) ∙ engine.stands.unbound q none
         };
         apart = still_apart;
-        ready = still_ready put
+        ready = still_ready added
       })
 
 -- what is read of the tails at a slot of a key is the tail there

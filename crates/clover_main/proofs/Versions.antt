@@ -5,10 +5,10 @@ use Rattle.std.proofs.lemmas.List.{length-set}
 use Rattle.clover_words.specs.declared.pool.Pool.{Pool}
 use Rattle.clover_words.specs.declared.word.Buffer.{Buffer}
 use Rattle.clover_words.specs.declared.word.Word.{Word}
-use Rattle.clover_words.specs.declared.word.Word.TheVariants.{Meta, Value, Root, Key}
+use Rattle.clover_words.specs.declared.word.Word.TheVariants.{Next, Meta, Value, Root, Key}
 use Rattle.clover_words.specs.declared.meta.Kind.TheVariants.{Tombstone, Value as ValueKind}
 use Rattle.clover_words.specs.Meta.{MetaParts, meta_word}
-use Rattle.clover_words.specs.Next.{root_word}
+use Rattle.clover_words.specs.Next.{next_word, root_word}
 use Rattle.clover_words.specs.Pack.{AreBytes, packed, words_of}
 use Rattle.clover_words.specs.Place.{IsBuffer, IsWithin, place, word_in, durable_words}
 use Rattle.clover_words.specs.Tag.{TagParts, tag_number}
@@ -18,8 +18,8 @@ use Rattle.clover_map.specs.declared.bytes.Held.{Held}
 use Rattle.clover_map.specs.declared.bytes.Value.{Value as Pair}
 use Rattle.clover_map.specs.Legal.{held}
 use Rattle.clover_script.specs.Script.{room}
-use Rattle.clover_main.specs.Stands.{IsDurable, IsContent, IsKeyOf, IsBinding, IsBound, KeepsBut, HasVersion, HasValue, HasKey, first_tag, meta_of, buffer_at}
-use Rattle.clover_main.proofs.Frames.{run_kept, set_kept, both_kept, value_run, key_run, key_binds}
+use Rattle.clover_main.specs.Stands.{IsIn, IsLinked, IsDurable, IsContent, IsAddition, IsAdded, IsKeyOf, IsBinding, IsBound, KeepsBut, HasVersion, HasValue, HasKey, first_tag, meta_of, buffer_at}
+use Rattle.clover_main.proofs.Frames.{run_kept, set_kept, both_kept, value_run, key_run, content_adds, key_binds}
 
 -- the places outside of so many from the place of this word on are as before
 abbrev pub KeepsOutside : Pool → Word → ℕ → List ℕ → List ℕ → Type 0
@@ -86,10 +86,10 @@ slot_bound p old new s key b m r within slot size meta root kept named =
       };
       named = named;
       kept =
-        both_kept (IsBinding s b) p old (slice_set first (place p (Root s)) r) new
-        (both_kept (IsBinding s b) p old first (slice_set first (place p (Root s)) r)
-          (set_kept (IsBinding s b) p old (Meta b) m within refl) (set_kept (IsBinding s b) p first (Root s) r slot refl))
-        (λ w durable other. kept w durable (λ h. other (key_binds s b w h)))
+        both_kept (IsBinding b s) p old (slice_set first (place p (Root s)) r) new
+        (both_kept (IsBinding b s) p old first (slice_set first (place p (Root s)) r)
+          (set_kept (IsBinding b s) p old (Meta b) m within refl) (set_kept (IsBinding b s) p first (Root s) r slot refl))
+        (λ w durable other. kept w durable (λ h. other (key_binds b s w h)))
     }
 
 abbrev pair : ℕ → List ℕ → Pair
@@ -115,32 +115,49 @@ value_read p words t (Some h) meta loaded bytes number b v here same full are si
     ap Some all
 
 -- a version stands as long as its words do
-pub version_kept : (p : Pool) (old new : List ℕ) (t : TagParts) (o : Option Held) → IsBuffer p (buffer_at t)
-    → ((w : Word) → IsDurable p w → IsContent (buffer_at t) w → word_in p new w ≡ word_in p old w)
+pub version_kept : (p : Pool) (old new : List ℕ) (t : TagParts) (o : Option Held)
+    → word_in p new (Meta (buffer_at t)) ≡ word_in p old (Meta (buffer_at t))
+    → ((k : ℕ) → k < p.words → word_in p new (Value (buffer_at t) k) ≡ word_in p old (Value (buffer_at t) k))
     → HasVersion p old t o → HasVersion p new t o
-version_kept p old new t None within kept v = record {
-    meta = kept (Meta (buffer_at t)) (within, tt) refl ∙ v.meta;
-    valid = v.valid;
-    content = tt
-  }
-version_kept p old new t (Some h) within kept v = record {
-    meta = kept (Meta (buffer_at t)) (within, tt) refl ∙ v.meta;
+version_kept p old new t None meta values v = record { meta = meta ∙ v.meta; valid = v.valid; content = tt }
+version_kept p old new t (Some h) meta values v = record {
+    meta = meta ∙ v.meta;
     valid = v.valid;
     content = record {
       tag = v.content.tag;
       bytes = v.content.bytes;
       fits = v.content.fits;
-      spelled = λ k lt.
-        let fits = v.content.fits in
-        kept (Value (buffer_at t) k) ((within, omega arith), tt) refl ∙ v.content.spelled k lt
+      spelled = λ k lt. let fits = v.content.fits in values k (omega arith) ∙ v.content.spelled k lt
     }
   }
 
 -- a key stands as long as its words do
-pub named_kept : (p : Pool) (old new : List ℕ) (s : ℕ) (key : List ℕ) → s < p.slots
-    → ((w : Word) → IsDurable p w → IsKeyOf s w → word_in p new w ≡ word_in p old w)
+pub named_kept : (p : Pool) (old new : List ℕ) (s : ℕ) (key : List ℕ)
+    → ((k : ℕ) → k < 32 → word_in p new (Key s k) ≡ word_in p old (Key s k))
     → HasKey p old s key → HasKey p new s key
-named_kept p old new s key within kept h = record {
+named_kept p old new s key kept h = record {
     fits = h.fits;
-    spelled = λ k lt. let fits = h.fits in kept (Key s k) ((within, omega arith), tt) refl ∙ h.spelled k lt
+    spelled = λ k lt. let fits = h.fits in kept k (omega arith) ∙ h.spelled k lt
   }
+
+-- a version was written, and then the tail linked to it
+pub version_added : (p : Pool) (old between : List ℕ) (t v : TagParts) (h : Held)
+    → length between ≡ durable_words p → IsIn p t → IsBuffer p (buffer_at v)
+    → HasVersion p between v (Some h) → KeepsBut (IsContent (buffer_at v)) p old between
+    → IsAdded p old (slice_set between (place p (Next (buffer_at t))) (next_word (record { own = t.generation; link = Some v }))) t v h
+version_added p old between t v h size within fresh version kept =
+    let n : ℕ = next_word (record { own = t.generation; link = Some v }) in
+    let new : List ℕ = slice_set between (place p (Next (buffer_at t))) n in
+    record {
+      version = version_kept p between new v (Some h)
+        (word_kept p between (Next (buffer_at t)) (Meta (buffer_at v)) n within.place fresh (λ e. cc))
+        (λ k lt. word_kept p between (Next (buffer_at t)) (Value (buffer_at v) k) n within.place (fresh, lt) (λ e. cc))
+        version;
+      linked = record {
+        within = within;
+        next = word_set p between (Next (buffer_at t)) n (omega (arith, durable_below p (Next (buffer_at t)) within.place tt))
+      };
+      kept = both_kept (IsAddition (buffer_at v) (buffer_at t)) p old between new
+        (λ w durable other. kept w durable (λ is. other (content_adds (buffer_at v) (buffer_at t) w is)))
+        (set_kept (IsAddition (buffer_at v) (buffer_at t)) p between (Next (buffer_at t)) n within.place refl)
+    }

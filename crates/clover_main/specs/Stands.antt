@@ -143,34 +143,47 @@ IsServed s puts call = ⊥
 abbrev pub IsDurable : Pool → Word → Type 0
 IsDurable p w = IsWithin p w × HasSide w Flushed
 
+-- each durable word but these is as before
+abbrev pub KeepsBut : (Word → Type 0) → Pool → List ℕ → List ℕ → Type 0
+KeepsBut Changes p old new = (w : Word) → IsDurable p w → (Changes w → ⊥) → word_in p new w ≡ word_in p old w
+
 -- the word is of the version in this buffer
 abbrev pub IsContent : Buffer → Word → Type 0
 IsContent b (Meta c) = c ≡ b
 IsContent b (Value c k) = c ≡ b
 IsContent b w = ⊥
 
--- the word is the slot's, or of the version in this buffer
-abbrev pub IsBinding : ℕ → Buffer → Word → Type 0
-IsBinding s b (Meta c) = c ≡ b
-IsBinding s b (Root r) = r ≡ s
-IsBinding s b (Key r k) = r ≡ s
-IsBinding s b w = ⊥
+-- the word is of the version in this buffer, or is the next word of the other
+abbrev pub IsAddition : Buffer → Buffer → Word → Type 0
+IsAddition b d (Meta c) = c ≡ b
+IsAddition b d (Value c k) = c ≡ b
+IsAddition b d (Next c) = c ≡ d
+IsAddition b d w = ⊥
 
 -- the word is a key word of the slot
 abbrev pub IsKeyOf : ℕ → Word → Type 0
 IsKeyOf s (Key r k) = r ≡ s
 IsKeyOf s w = ⊥
 
--- each durable word but these is as before
-abbrev pub KeepsBut : (Word → Type 0) → Pool → List ℕ → List ℕ → Type 0
-KeepsBut Changes p old new = (w : Word) → IsDurable p w → (Changes w → ⊥) → word_in p new w ≡ word_in p old w
+-- the word is of the version in this buffer, or of the slot
+abbrev pub IsBinding : Buffer → ℕ → Word → Type 0
+IsBinding b s (Meta c) = c ≡ b
+IsBinding b s (Root r) = r ≡ s
+IsBinding b s (Key r k) = r ≡ s
+IsBinding b s w = ⊥
 
--- The slot got this key, and the tombstone in this buffer as its chain's first version; no other word changed.
+-- The version v holds this pair, t leads to it, and no other word changed.
+pub record IsAdded (p : Pool) (old new : List ℕ) (t v : TagParts) (h : Held) : Type 0 where
+  pub version : HasVersion p new v (Some h)
+  pub linked : IsLinked p new t v
+  pub kept : KeepsBut (IsAddition (buffer_at v) (buffer_at t)) p old new
+
+-- The slot has this key, and its root the tombstone in this buffer; no other word changed.
 pub record IsBound (p : Pool) (old new : List ℕ) (s : ℕ) (key : List ℕ) (b : Buffer) : Type 0 where
   pub root : word_in p new (Root s) ≡ root_word (Some (first_tag b))
   pub version : HasVersion p new (first_tag b) None
   pub named : HasKey p new s key
-  pub kept : KeepsBut (IsBinding s b) p old new
+  pub kept : KeepsBut (IsBinding b s) p old new
 
 -- the reply to a get
 abbrev pub reply_of : Option Held → Reply

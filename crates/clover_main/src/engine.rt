@@ -18,7 +18,7 @@ mod words;
 use clover_map::{Call, Key, OutOfMemory, Reply, Value};
 use clover_words::{Pool, Setup, Tag, dealt, tombstone};
 use std::alloc::Global;
-use version::{bind, link, read_version, tag_of, write_value};
+use version::{append, bind, read_version, tag_of};
 
 /// The words of a pool, and what spares walking and counting: the last tag of each slot's chain, and how
 /// many puts were made.
@@ -104,10 +104,8 @@ impl Engine {
         let Some(buffer) = dealt(&setup, 1, self.puts) else {
             unreachable!()
         };
-        let tag = tag_of(&setup.pool, buffer);
         let tail = self.cursors[slot as usize];
-        write_value(&setup.pool, &mut self.words, buffer, value);
-        link(&setup.pool, &mut self.words, tail, tag);
+        let tag = append(&setup.pool, &mut self.words, tail, buffer, value);
         self.cursors[slot as usize] = tag;
         self.puts += 1;
         tag

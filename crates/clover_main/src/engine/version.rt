@@ -8,7 +8,7 @@ ghost use Rattle.clover_words.specs.Tag.{tag_number};
 ghost use Rattle.clover_map.specs.declared.bytes.Held.{Held};
 ghost use Rattle.clover_map.specs.Legal.{held};
 ghost use Rattle.clover_script.specs.Script.{room};
-ghost use Rattle.clover_main.specs.Stands.{IsIn, HasVersion, HasKey, IsContent, IsBound, IsKeyOf, KeepsBut, first_tag, buffer_at};
+ghost use Rattle.clover_main.specs.Stands.{IsIn, HasVersion, HasKey, IsContent, IsAdded, IsBound, IsKeyOf, KeepsBut, first_tag, buffer_at};
 
 use crate::engine::words::{load, load_bytes, store, store_bytes};
 use clover_map::{Bytes, Held, Key, OutOfMemory, Value};
@@ -49,8 +49,8 @@ fn meta_of_value(flags: u32, bytes: u32) -> Meta
     }
 }
 
-/// Gives a buffer the version of this value.
-pub fn write_value(pool: &Pool, words: &mut [u64], buffer: Buffer, value: &Value)
+// Gives a buffer the version of this value.
+fn write_value(pool: &Pool, words: &mut [u64], buffer: Buffer, value: &Value)
     requires size { length words.old ≡ durable_words pool.now }
     requires buffer { IsBuffer pool.now buffer }
     requires room { length value.now.bytes ≤ room pool.now }
@@ -98,8 +98,23 @@ pub fn read_version(
     }
 }
 
-/// Links the last version of a chain to a new one.
-pub fn link(pool: &Pool, words: &mut [u64], tail: Tag, next: Tag)
+/// Adds the version of a value, in this buffer, behind the last one of a chain.
+pub fn append(pool: &Pool, words: &mut [u64], tail: Tag, buffer: Buffer, value: &Value) -> Tag
+    requires size { length words.old ≡ durable_words pool.now }
+    requires tail { IsIn pool.now tail }
+    requires buffer { IsBuffer pool.now buffer }
+    requires room { length value.now.bytes ≤ room pool.now }
+    ensures tag { result ≡ first_tag buffer }
+    ensures added { IsAdded pool.now words.old words.new tail result (held (tag_number result) value.now) }
+{
+    write_value(pool, words, buffer, value);
+    let tag = tag_of(pool, buffer);
+    link(pool, words, tail, tag);
+    tag
+}
+
+// Links a version to another.
+fn link(pool: &Pool, words: &mut [u64], tail: Tag, next: Tag)
     requires size { length words.old ≡ durable_words pool.now }
     requires within { IsIn pool.now tail }
     ensures { words.new ≡ slice_set words.old (place pool.now (Word.Next (buffer_at tail))) (next_word (record { own = tail.generation; link = Some next })) }
