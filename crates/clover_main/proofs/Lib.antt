@@ -1,3 +1,4 @@
+pub mod Answering
 pub mod Begun
 pub mod Chains
 pub mod Frames
