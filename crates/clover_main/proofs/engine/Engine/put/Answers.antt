@@ -1,15 +1,12 @@
 use Rattle.std.proofs.Common.{◌≡◌, List, ℕ, ◌++◌, ap, sym, ◌∙◌, length, take, drop, arith}
-use Rattle.std.proofs.lemmas.Grind.{common_steps}
 use Rattle.std.proofs.lemmas.Option.{slice_get_within}
 use Rattle.clover_words.specs.declared.setup.Setup.{Setup}
 use Rattle.clover_words.specs.Tag.{TagParts, tag_number}
 use Rattle.clover_map.specs.Legal.{held}
 use Rattle.clover_main.specs.Stands.{first_tag, put_tag}
+use Rattle.clover_main.proofs.Maps.{front}
 use Rattle.clover_main.proofs.Standing.{end_in, tail_here, put_stands}
 use Rattle.clover_main.proofs.engine.Engine.put.Goals as goal
-
-front : (n : ℕ) (xs ys : List ℕ) → n ≡ length xs → take n (xs ++ ys) ≡ xs
-front n xs ys e = grind (arith, common_steps)
 
 pub append-tag-requires-clause-tail : goal.append-tag-requires-clause-tail
 append-tag-requires-clause-tail c =
