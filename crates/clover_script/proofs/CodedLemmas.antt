@@ -1,0 +1,72 @@
+-- coded texts
+use Rattle.std.proofs.Common.{suc, get_or, ◌≡◌, ◌≢◌, ◌+◌, ◌*◌, ◌/◌, ◌%◌, ◌<◌, ◌≤◌, ℕ, Bool, true, false, List, [], ◌∷◌, ◌++◌, length, cond, refl, ap, subst, sym, ◌∙◌, arith, append_assoc}
+use Rattle.std.proofs.lemmas.Bool.{false≢true}
+use Rattle.std.proofs.lemmas.Bool.Decides.{nat_tests}
+use Rattle.clover_script.specs.Coded.{AreBytes, coded, coded_byte, hex_digit, is_plain}
+
+one_hex : (d e : ℕ) → d < 16 → e < 16 → hex_digit d ≡ hex_digit e → d ≡ e
+one_hex d e h k is = grind (arith, nat_tests)
+
+same_byte : (b c : ℕ) → b < 256 → c < 256 → hex_digit (b / 16) ≡ hex_digit (c / 16) → hex_digit (b % 16) ≡ hex_digit (c % 16) → b ≡ c
+same_byte b c h k p q =
+    let high : b / 16 ≡ c / 16 = one_hex (b / 16) (c / 16) (omega arith) (omega arith) p in
+    let low : b % 16 ≡ c % 16 = one_hex (b % 16) (c % 16) (omega arith) (omega arith) q in
+    omega arith
+
+abbrev spelled : Bool → ℕ → List ℕ
+spelled true b = b ∷ []
+spelled false b = 37 ∷ hex_digit (b / 16) ∷ hex_digit (b % 16) ∷ []
+
+is_spelled : (b : ℕ) → coded_byte b ≡ spelled (is_plain b) b
+is_spelled b = elim (is_plain b) as (λ p. cond p (b ∷ []) (37 ∷ hex_digit (b / 16) ∷ hex_digit (b % 16) ∷ []) ≡ spelled p b) [ true ↦ refl | false ↦ refl ]
+
+percent : (b : ℕ) → b ≡ 37 → is_plain b ≡ true → ⊥
+percent b e p = absurd (false≢true (subst (λ x. is_plain x ≡ true) e p))
+
+one_spelled : (p q : Bool) (b c : ℕ) (x y : List ℕ) → is_plain b ≡ p → is_plain c ≡ q → b < 256 → c < 256 → spelled p b ++ x ≡ spelled q c ++ y → (b ≡ c) × (x ≡ y)
+one_spelled true true b c x y i j h k e = let s : b ≡ c = cc in let t : x ≡ y = cc in (s, t)
+one_spelled true false b c x y i j h k e = let s : b ≡ 37 = cc in absurd (percent b s i)
+one_spelled false true b c x y i j h k e = let s : c ≡ 37 = cc in absurd (percent c s j)
+one_spelled false false b c x y i j h k e =
+    let s : hex_digit (b / 16) ≡ hex_digit (c / 16) = cc in
+    let t : hex_digit (b % 16) ≡ hex_digit (c % 16) = cc in
+    let r : x ≡ y = cc in
+    (same_byte b c h k s t, r)
+
+-- a text begins with the spelling of one byte
+pub one_byte : (b c : ℕ) (x y : List ℕ) → b < 256 → c < 256 → coded_byte b ++ x ≡ coded_byte c ++ y → (b ≡ c) × (x ≡ y)
+one_byte b c x y h k e =
+    one_spelled (is_plain b) (is_plain c) b c x y refl refl h k (ap (λ s. s ++ x) (sym (is_spelled b)) ∙ e ∙ ap (λ s. s ++ y) (is_spelled c))
+
+no_front : (p : Bool) (b : ℕ) (after : List ℕ) → spelled p b ++ after ≡ [] → ⊥
+no_front true b after e = cc
+no_front false b after e = cc
+
+-- where a coded text goes on behind its first byte
+pub one_front : (b : ℕ) (after all : List ℕ) → b < 256 → AreBytes all → coded_byte b ++ after ≡ coded all → (more : List ℕ) × AreBytes more × (after ≡ coded more)
+one_front b after [] h are e = absurd (no_front (is_plain b) b after (ap (λ s. s ++ after) (sym (is_spelled b)) ∙ e))
+one_front b after (c ∷ cs) h are e = (cs, are.1, (one_byte b c after (coded cs) h are.0 e).1)
+
+-- a text that begins with no byte's spelling is no coded text
+pub nowhere : (rest more : List ℕ) → AreBytes more → rest ≡ coded more → 0 < length rest → ((b : ℕ) (x : List ℕ) → b < 256 → rest ≡ coded_byte b ++ x → ⊥) → ⊥
+nowhere rest [] are e some none = omega (arith, ap length e)
+nowhere rest (b ∷ bs) are e some none = none b (coded bs) are.0 e
+
+pub are_bytes : (xs : List ℕ) → ((i : ℕ) → get_or xs i 0 < 256) → AreBytes xs
+are_bytes [] h = tt
+are_bytes (x ∷ xs) h = (h 0, are_bytes xs (λ i. h (suc i)))
+
+-- a coded text stands for one list of bytes
+pub one_text : (xs ys : List ℕ) → AreBytes xs → AreBytes ys → coded xs ≡ coded ys → xs ≡ ys
+one_text [] [] p q e = refl
+one_text [] (y ∷ ys) p q e = absurd (no_front (is_plain y) y (coded ys) (ap (λ s. s ++ coded ys) (sym (is_spelled y)) ∙ sym e))
+one_text (x ∷ xs) [] p q e = absurd (no_front (is_plain x) x (coded xs) (ap (λ s. s ++ coded xs) (sym (is_spelled x)) ∙ e))
+one_text (x ∷ xs) (y ∷ ys) p q e =
+    let d = one_byte x y (coded xs) (coded ys) p.0 q.0 e in
+    let s : x ≡ y = d.0 in
+    let r : xs ≡ ys = one_text xs ys p.1 q.1 d.1 in
+    cc
+
+pub are_push : (xs : List ℕ) (b : ℕ) → AreBytes xs → b < 256 → AreBytes (xs ++ b ∷ [])
+are_push [] b h k = (k, tt)
+are_push (x ∷ xs) b h k = (h.0, are_push xs b h.1 k)

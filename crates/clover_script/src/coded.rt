@@ -1,0 +1,99 @@
+// Coded texts, read and written: printable bytes stand for themselves, every other byte is a percent
+// sign and two digits. Works on bytes alone.
+ghost use Rattle.std.specs.Prelude.{◌≡◌, ◌+◌, ◌*◌, ◌<◌, ℕ, List, ◌++◌, length, IfOk, IfSome, IfNone, OnOk};
+ghost use Rattle.clover_script.specs.Coded.{AreBytes, coded, coded_byte, hex_digit, is_plain};
+
+use std::alloc::{AllocError, Global};
+
+/// Whether a byte stands for itself in a coded text.
+fn is_plain(byte: u8) -> bool
+    ensures { result ≡ is_plain byte }
+{
+    (0x21 <= byte && byte <= 0x7e) && byte != b'%'
+}
+
+/// The digit that is written so. None exactly where none is.
+fn digit_of(digit: u8) -> Option<u8>
+    ensures found { IfSome result (λ d. (d < 16) × (hex_digit d ≡ digit)) }
+    ensures none { IfNone result ((d : ℕ) → d < 16 → hex_digit d ≡ digit → ⊥) }
+{
+    match digit {
+        b'0'..=b'9' => Some(digit - b'0'),
+        b'a'..=b'f' => Some(digit - b'a' + 10),
+        _ => None,
+    }
+}
+
+/// How a digit below 16 is written.
+fn hex(digit: u8) -> u8
+    requires { digit < 16 }
+    ensures { result ≡ hex_digit digit }
+{
+    if digit < 10 {
+        b'0' + digit
+    } else {
+        b'a' + (digit - 10)
+    }
+}
+
+/// The byte that a text begins with, and the text after it. None exactly where no byte's one
+/// spelling begins the text.
+fn first_byte(text: &[u8]) -> Option<(u8, &[u8])>
+    ensures found { IfSome result (λ p. text.now ≡ coded_byte p.0 ++ p.1.now) }
+    ensures none { IfNone result ((b : ℕ) (more : List ℕ) → b < 256 → text.now ≡ coded_byte b ++ more → ⊥) }
+    ensures shorter { IfSome result (λ p. length p.1.now < length text.now) }
+{
+    match text {
+        [b'%', high, low, after @ ..] => {
+            let byte = 16 * digit_of(*high)? + digit_of(*low)?;
+            if is_plain(byte) {
+                None
+            } else {
+                Some((byte, after))
+            }
+        }
+        [byte, after @ ..] if is_plain(*byte) => Some((*byte, after)),
+        _ => None,
+    }
+}
+
+/// The bytes that a coded text stands for. None exactly where the text is no coded text; an error for
+/// want of memory alone.
+pub fn decode(alloc: Global, text: &[u8]) -> Result<Option<Vec<u8>>, AllocError>
+    ensures found { IfOk result (λ o. IfSome o (λ bytes. text.now ≡ coded bytes.items)) }
+    ensures bytes { IfOk result (λ o. IfSome o (λ bytes. AreBytes bytes.items)) }
+    ensures none { IfOk result (λ o. IfNone o ((bytes : List ℕ) → AreBytes bytes → text.now ≡ coded bytes → ⊥)) }
+{
+    let mut bytes = Vec::new(alloc);
+    let mut rest = text;
+    while !rest.is_empty() {
+        let Some((byte, after)) = first_byte(rest) else {
+            return Ok(None);
+        };
+        bytes.push(byte)?;
+        rest = after;
+    }
+    Ok(Some(bytes))
+}
+
+/// Puts the coded text of some bytes at the end of a text. An error for want of memory alone; then a
+/// front of it may stand there.
+pub fn push_coded(out: &mut Vec<u8>, bytes: &[u8]) -> Result<(), AllocError>
+    ensures ok { OnOk result (out.new.items ≡ out.old.items ++ coded bytes.now) }
+{
+    for byte in bytes {
+        push_coded_byte(out, *byte)?;
+    }
+    Ok(())
+}
+
+fn push_coded_byte(out: &mut Vec<u8>, byte: u8) -> Result<(), AllocError>
+    ensures ok { OnOk result (out.new.items ≡ out.old.items ++ coded_byte byte) }
+{
+    if is_plain(byte) {
+        out.push(byte)?;
+    } else {
+        out.extend_from_slice(&[b'%', hex(byte / 16), hex(byte % 16)])?;
+    }
+    Ok(())
+}
