@@ -4,7 +4,13 @@
 
 mod coded;
 mod line;
+mod number;
+mod split;
 mod text;
 
 pub use line::{Form, LineFault, PoolLine, Task};
+pub use number::number_of;
+pub use number::number_front;
+pub use split::{after_word, split_at_byte};
+pub use split::first_line;
 pub use text::{push_answer, push_call, push_entry, push_reply};
