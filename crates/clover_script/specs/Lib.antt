@@ -2,5 +2,6 @@ pub mod Coded
 pub mod Line
 pub mod Naming
 pub mod Script
+pub mod Slots
 pub mod Split
 pub mod Text

@@ -3,11 +3,13 @@
 #![tactic(auto)]
 
 mod coded;
+mod keys;
 mod line;
 mod number;
 mod split;
 mod text;
 
+pub use keys::Names;
 pub use line::{Form, LineFault, PoolLine, Task};
 pub use number::number_of;
 pub use number::number_front;
