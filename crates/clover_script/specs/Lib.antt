@@ -1,4 +1,5 @@
 pub mod Coded
+pub mod Form
 pub mod Line
 pub mod Naming
 pub mod Script

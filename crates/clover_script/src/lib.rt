@@ -3,12 +3,14 @@
 #![tactic(auto)]
 
 mod coded;
+mod form;
 mod keys;
 mod line;
 mod number;
 mod split;
 mod text;
 
+pub use form::{call_on, form_of};
 pub use keys::Names;
 pub use line::{Form, LineFault, PoolLine, Task};
 pub use number::number_of;
