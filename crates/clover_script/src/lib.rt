@@ -18,3 +18,8 @@ pub use number::number_front;
 pub use split::{after_word, split_at_byte};
 pub use split::first_line;
 pub use text::{push_answer, push_call, push_entry, push_reply};
+
+use clover_list::ItemList;
+
+/// A list of bytes.
+pub type Bulk = ItemList<u8>;

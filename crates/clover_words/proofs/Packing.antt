@@ -1,0 +1,96 @@
+-- bytes are what their words spell
+use Rattle.std.proofs.Common.{◌≡◌, ◌≢◌, ℕ, zero, suc, ◌+◌, ◌-◌, ◌*◌, ◌/◌, ◌%◌, ◌<◌, ◌≤◌, List, length, take, drop, ◌++◌, ◌⊎◌, inl, inr, refl, ap, sym, ◌∙◌, arith}
+use Rattle.std.specs.Prelude.{slice_index}
+use Rattle.std.specs.Int.{w64, to_be_bytes}
+use Rattle.std.proofs.lemmas.Nat.{be_bytes_8}
+use Rattle.std.proofs.lemmas.List.{ext_get_or, get_or-take, get_or-drop, get_or_append_left, get_or-append_right, drop-drop, append_assoc, length-append, length-take-le}
+use borrow.Rule.Slice.PartMut.{put_mid}
+use Rattle.clover_words.specs.Pack.{AreBytes, words_of, eight_at, packed, with_eight}
+
+-- the eight bytes of a word are bytes
+eight_are_bytes : (bytes : List ℕ) (k : ℕ) → AreBytes bytes → AreBytes (eight_at bytes k)
+eight_are_bytes bytes k h zero = h (8 * k)
+eight_are_bytes bytes k h (suc zero) = h (8 * k + 1)
+eight_are_bytes bytes k h (suc (suc zero)) = h (8 * k + 2)
+eight_are_bytes bytes k h (suc (suc (suc zero))) = h (8 * k + 3)
+eight_are_bytes bytes k h (suc (suc (suc (suc zero)))) = h (8 * k + 4)
+eight_are_bytes bytes k h (suc (suc (suc (suc (suc zero))))) = h (8 * k + 5)
+eight_are_bytes bytes k h (suc (suc (suc (suc (suc (suc zero)))))) = h (8 * k + 6)
+eight_are_bytes bytes k h (suc (suc (suc (suc (suc (suc (suc zero))))))) = h (8 * k + 7)
+eight_are_bytes bytes k h (suc (suc (suc (suc (suc (suc (suc (suc i)))))))) = omega arith
+
+-- each of them is a byte of the list
+eight_byte : (bytes : List ℕ) (k i : ℕ) → i < 8 → slice_index (eight_at bytes k) i ≡ slice_index bytes (8 * k + i)
+eight_byte bytes k zero lt = ap (slice_index bytes) (omega arith)
+eight_byte bytes k (suc zero) lt = refl
+eight_byte bytes k (suc (suc zero)) lt = refl
+eight_byte bytes k (suc (suc (suc zero))) lt = refl
+eight_byte bytes k (suc (suc (suc (suc zero)))) lt = refl
+eight_byte bytes k (suc (suc (suc (suc (suc zero))))) lt = refl
+eight_byte bytes k (suc (suc (suc (suc (suc (suc zero)))))) lt = refl
+eight_byte bytes k (suc (suc (suc (suc (suc (suc (suc zero))))))) lt = refl
+eight_byte bytes k (suc (suc (suc (suc (suc (suc (suc (suc i)))))))) lt = absurd (omega arith)
+
+-- a word of bytes spells these bytes
+pub packed_spells : (bytes : List ℕ) (k : ℕ) → AreBytes bytes → to_be_bytes w64 (packed bytes k) ≡ eight_at bytes k
+unfolding packed
+packed_spells bytes k h = be_bytes_8 (eight_at bytes k) (packed bytes k) refl (eight_are_bytes bytes k h) refl
+
+-- lists of bytes with one word in common have its bytes in common
+pub one_byte : (a b : List ℕ) (i : ℕ) → AreBytes a → AreBytes b → packed a (i / 8) ≡ packed b (i / 8)
+    → slice_index a i ≡ slice_index b i
+one_byte a b i ha hb e =
+    let eight : eight_at a (i / 8) ≡ eight_at b (i / 8) = sym (packed_spells a (i / 8) ha) ∙ ap (to_be_bytes w64) e ∙ packed_spells b (i / 8) hb in
+    let place : i ≡ 8 * (i / 8) + i % 8 = omega arith in
+    let lt : i % 8 < 8 = omega arith in
+    ap (slice_index a) place ∙ sym (eight_byte a (i / 8) (i % 8) lt) ∙ ap (λ l. slice_index l (i % 8)) eight
+    ∙ eight_byte b (i / 8) (i % 8) lt ∙ ap (slice_index b) (sym place)
+
+-- what has the words of a value begins with the value
+pub unpacked : (value bytes : List ℕ) → AreBytes value → AreBytes bytes → length value ≤ length bytes
+    → ((k : ℕ) → k < words_of (length value) → packed bytes k ≡ packed value k)
+    → take (length value) bytes ≡ value
+unpacked value bytes hv hb fits same =
+    let long : length (take (length value) bytes) ≡ length value = length-take-le (length value) bytes fits in
+    ext_get_or 0 (take (length value) bytes) value long
+    (λ i lt. get_or-take (length value) bytes i 0 (omega arith) ∙ one_byte bytes value i hb hv (same (i / 8) (omega arith)))
+
+-- a byte outside of the eight stays
+other_byte : (bytes eight : List ℕ) (k i : ℕ) → length eight ≡ 8 → 8 * k + 8 ≤ length bytes
+    → (i < 8 * k) ⊎ (8 * k + 8 ≤ i) → slice_index (take (8 * k) bytes ++ eight ++ drop (8 * k + 8) bytes) i ≡ slice_index bytes i
+other_byte bytes eight k i long fits (inl lt) =
+    let front : length (take (8 * k) bytes) ≡ 8 * k = length-take-le (8 * k) bytes (omega arith) in
+    let both : length (take (8 * k) bytes ++ eight) ≡ 8 * k + 8 = omega (arith, length-append (take (8 * k) bytes) eight) in
+    get_or_append_left (take (8 * k) bytes ++ eight) (drop (8 * k + 8) bytes) 0 i (omega arith)
+    ∙ get_or_append_left (take (8 * k) bytes) eight 0 i (omega arith)
+    ∙ get_or-take (8 * k) bytes i 0 lt
+other_byte bytes eight k i long fits (inr le) =
+    let front : length (take (8 * k) bytes) ≡ 8 * k = length-take-le (8 * k) bytes (omega arith) in
+    let both : length (take (8 * k) bytes ++ eight) ≡ 8 * k + 8 = omega (arith, length-append (take (8 * k) bytes) eight) in
+    get_or-append_right (take (8 * k) bytes ++ eight) (drop (8 * k + 8) bytes) (8 * k + 8) i 0 both le
+    ∙ get_or-drop (8 * k + 8) bytes (i - (8 * k + 8)) 0
+    ∙ ap (slice_index bytes) (omega arith)
+
+-- where each byte of a word is the same, the word is
+same_word : (a b : List ℕ) (j : ℕ) → ((i : ℕ) → i < 8 → slice_index a (8 * j + i) ≡ slice_index b (8 * j + i)) → packed a j ≡ packed b j
+unfolding packed
+same_word a b j h =
+    let zeroth : slice_index a (8 * j) ≡ slice_index b (8 * j) = eight_byte a j 0 (omega arith) ∙ h 0 (omega arith) ∙ sym (eight_byte b j 0 (omega arith)) in
+    cc (h 1 (omega arith), h 2 (omega arith), h 3 (omega arith), h 4 (omega arith), h 5 (omega arith), h 6 (omega arith), h 7 (omega arith))
+
+-- every other word of the bytes is as before
+pub packed_kept : (bytes : List ℕ) (k j word : ℕ) → 8 * k + 8 ≤ length bytes → j ≢ k
+    → packed (with_eight bytes k word) j ≡ packed bytes j
+packed_kept bytes k j word fits ne =
+    same_word (with_eight bytes k word) bytes j
+    (λ i lt. other_byte bytes (to_be_bytes w64 word) k (8 * j + i) refl fits (outside j k i lt ne))
+  where
+    outside : (j k i : ℕ) → i < 8 → j ≢ k → (8 * j + i < 8 * k) ⊎ (8 * k + 8 ≤ 8 * j + i)
+    outside j k i lt ne = grind arith
+
+-- a write to bytes 8k to 8k + 7
+pub put_mid-eight : (bytes eight : List ℕ) (k n : ℕ) → n ≡ 8
+    → put_mid (8 * k) n bytes eight ≡ take (8 * k) bytes ++ eight ++ drop (8 * k + 8) bytes
+put_mid-eight bytes eight k n e =
+    rw e (ap (λ rest. take (8 * k) bytes ++ (eight ++ rest)) (drop-drop 8 (8 * k) bytes)
+    ∙ sym (append_assoc (take (8 * k) bytes) eight (drop (8 * k + 8) bytes)))

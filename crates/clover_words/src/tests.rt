@@ -1,0 +1,1 @@
+// Words and addresses that were worked out by hand.
