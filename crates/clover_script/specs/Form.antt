@@ -1,12 +1,11 @@
 -- the parts of a line, as the reader finds them
-use Rattle.std.specs.Prelude.{◌≡◌, ℕ, List, ◌++◌, length}
+use Rattle.std.specs.Prelude.{◌≡◌, ℕ, List, length}
 use Rattle.clover_map.specs.declared.bytes.Value.{Value}
 use Rattle.clover_map.specs.declared.call.Call.{Call}
-use Rattle.clover_map.specs.declared.call.Call.TheVariants.{Get, Put}
 use Rattle.clover_script.specs.declared.line.Task.{Task}
-use Rattle.clover_script.specs.Coded.{coded}
+use Rattle.clover_script.specs.declared.line.Task.TheVariants.{Client}
 use Rattle.clover_script.specs.Text.{value_text, call_text}
-use Rattle.clover_script.specs.Line.{IsKey, IsWritten, IsCall, cut_value, task_of}
+use Rattle.clover_script.specs.Line.{IsWritten, IsCall, cut_value, task_of}
 
 -- the text spells a value, which is kept as v and has so many bytes
 abbrev pub SpellsValue : List ℕ → Value → ℕ → Type 0
@@ -18,3 +17,7 @@ SpellsCall text task = (call : Call) × IsCall call × (text ≡ call_text call)
 
 abbrev pub SpellsNoCall : List ℕ → Type 0
 SpellsNoCall text = (call : Call) → IsCall call → text ≡ call_text call → ⊥
+
+-- the call of a task
+abbrev pub call_in : Task → Call
+call_in (Client call written) = call

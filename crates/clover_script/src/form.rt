@@ -8,7 +8,7 @@ ghost use Rattle.clover_script.specs.Coded.{coded};
 ghost use Rattle.clover_script.specs.Text.{value_text, call_text};
 ghost use Rattle.clover_script.specs.Split.{EndsNumber};
 ghost use Rattle.clover_script.specs.Line.{AreNumbers, pool_line, call_line, IsKey, IsWritten, IsCall, IsFormOf, written};
-ghost use Rattle.clover_script.specs.Form.{SpellsValue, SpellsCall, SpellsNoCall};
+ghost use Rattle.clover_script.specs.Form.{SpellsValue, SpellsCall, SpellsNoCall, call_in};
 ghost use Rattle.clover_script.specs.Script.{IsPoolLine, IsCallLine, HasNoForm};
 
 use crate::coded::decode;
@@ -46,9 +46,17 @@ pub fn call_on(alloc: Global, line: &[u8]) -> Result<Call, OutOfMemory>
     ensures { IfOk result (λ call. IsCall call × (line.now ≡ call_line call)) }
 {
     match task_of(alloc, line)? {
-        Some(Task::Client { call, .. }) => Ok(call),
+        Some(task) => Ok(call_in(task)),
         None => unreachable!(),
     }
+}
+
+/// The call of a task.
+fn call_in(task: Task) -> Call
+    ensures { result ≡ call_in task }
+{
+    let Task::Client { call, .. } = task;
+    call
 }
 
 /// The numbers of a pool line. None exactly where the line is none.
@@ -150,7 +158,7 @@ fn key_of(alloc: Global, text: &[u8]) -> Result<Option<Key>, OutOfMemory>
     ensures found { IfOk result (λ o. IfSome o (λ key. IsKey key × (text.now ≡ coded key))) }
     ensures none { IfOk result (λ o. IfNone o ((k : List ℕ) → IsKey k → text.now ≡ coded k → ⊥)) }
 {
-    let Some(bytes) = decode(alloc, text).map_err(|_| OutOfMemory)? else {
+    let Some(bytes) = decode(alloc, text)? else {
         return Ok(None);
     };
     match Key::of(&bytes) {
@@ -167,7 +175,7 @@ fn value_of(alloc: Global, text: &[u8]) -> Result<Option<(Value, u32)>, OutOfMem
     let Some(text) = after_word(text, b"=") else {
         return Ok(None);
     };
-    let Some(bytes) = decode(alloc, text).map_err(|_| OutOfMemory)? else {
+    let Some(bytes) = decode(alloc, text)? else {
         return Ok(None);
     };
     let written = bytes.len();
