@@ -156,9 +156,12 @@ put_spelled text words value k v e f g =
 pub put_found : {E : Type 0} (text words : List ℕ) (r : Result (Option Task) E) → text ≡ codes "put " ++ words
     → IfOk r (λ o. IfSome o (λ task. (k : List ℕ) × (v : Value) × (n : ℕ) × (value : List ℕ) × IsKey k × (words ≡ coded k ++ 32 ∷ value) × SpellsValue value v n × (task ≡ Client (Put k v) n)))
     → IfOk r (λ o. IfSome o (SpellsCall text))
-put_found text words (Ok (Some task)) e (k, v, n, value, is, spelled, (whole, fits, text_is, v_is, n_is), task_is) =
-    (Put k whole, (is, fits), put_spelled text words value k whole e spelled text_is,
-    task_is ∙ ap (λ (x : Value). Client (Put k x) n) v_is ∙ ap (λ (m : ℕ). Client (Put k (cut_value whole)) m) n_is)
+put_found text words (Ok (Some task)) e (k, v, n, value, is, spelled, (whole, fits, text_is, v_is, n_is), task_is) = (
+  Put k whole,
+  (is, fits),
+  put_spelled text words value k whole e spelled text_is,
+  task_is ∙ ap (λ (x : Value). Client (Put k x) n) v_is ∙ ap (λ (m : ℕ). Client (Put k (cut_value whole)) m) n_is,
+)
 put_found text words (Ok None) e h = tt
 put_found text words (Err x) e h = tt
 

@@ -84,8 +84,9 @@ slot_there false keys es fs key k s has fresh at is (inr h) =
 pub slots_push : (keys : List (List ℕ)) (es fs : List (List ℕ × ℕ)) (key : List ℕ) → HasSlots keys es → (Contains keys key → ⊥)
     → ((q : List ℕ) → slot_in fs q ≡ cond (is_at (slice_cmp nat_cmp key) q) (Some (length keys)) (slot_in es q)) → HasSlots (keys ++ key ∷ []) fs
 slots_push keys es fs key has fresh is k s = (
-    slot_back (is_at (slice_cmp nat_cmp key) k) keys es fs key k s has refl (is k),
-    λ e. slot_there (is_at (slice_cmp nat_cmp key) k) keys es fs key k s has fresh refl (is k) (get_push keys key s k e))
+  slot_back (is_at (slice_cmp nat_cmp key) k) keys es fs key k s has refl (is k),
+  λ e. slot_there (is_at (slice_cmp nat_cmp key) k) keys es fs key k s has fresh refl (is k) (get_push keys key s k e),
+)
 
 -- no key has two places
 pub one_place : (keys : List (List ℕ)) (es : List (List ℕ × ℕ)) → HasSlots keys es → (i j : ℕ) (k : List ℕ) → slice_get keys i ≡ Some k → slice_get keys j ≡ Some k → i ≡ j

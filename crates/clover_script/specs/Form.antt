@@ -21,3 +21,7 @@ SpellsNoCall text = (call : Call) → IsCall call → text ≡ call_text call �
 -- the call of a task
 abbrev pub call_in : Task → Call
 call_in (Client call written) = call
+
+-- how many bytes its value has as it is written
+abbrev pub written_in : Task → ℕ
+written_in (Client call written) = written

@@ -20,6 +20,7 @@ use std::alloc::Global;
 
 /// How many bytes a value may have as it is written, and how many of them a call keeps.
 const LONGEST_WRITTEN: usize = 65_535;
+
 const LONGEST_KEPT: usize = 1_024;
 
 /// What a line says. None exactly where it has none of the forms.

@@ -67,6 +67,7 @@ returns-then-not-is_empty-clause-none c p =
 
 pub returns-clause-found : goal.returns-clause-found
 returns-clause-found c = (
-    record { nodes = search rules; buffers = search rules; slots = search rules; words = search rules; wear = search rules; clients = search rules; batch = search rules },
-    pool_found _ c.args.line.now _ _ _ _ _ _ _
-    c.in_ok-nodes.ensures.found c.in_ok-buffers.ensures.found c.in_ok-slots.ensures.found c.in_ok-words.ensures.found c.in_ok-wear.ensures.found c.in_ok-clients.ensures.found c.in_ok-batch.ensures.found (search rules))
+  record { nodes = search rules; buffers = search rules; slots = search rules; words = search rules; wear = search rules; clients = search rules; batch = search rules },
+  pool_found _ c.args.line.now _ _ _ _ _ _ _
+      c.in_ok-nodes.ensures.found c.in_ok-buffers.ensures.found c.in_ok-slots.ensures.found c.in_ok-words.ensures.found c.in_ok-wear.ensures.found c.in_ok-clients.ensures.found c.in_ok-batch.ensures.found (search rules),
+)

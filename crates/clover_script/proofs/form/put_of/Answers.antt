@@ -20,9 +20,16 @@ returns-in_default-2-clause-none c k v is fits e =
 pub returns-in-Some-3-clause-found : goal.returns-in-Some-3-clause-found
 returns-in-Some-3-clause-found c =
     let key = some_is (λ (k : List ℕ). IsKey k × (c.in-Some.key.now ≡ coded k)) c.in_ok-key.field-0 c.in-Some-2.key c.in-Some-2.is c.in_ok-key.ensures.found in
-    let value = some_is (λ (p : Value × ℕ). SpellsValue c.in-Some.value.now p.0 p.1) c.in_ok-value.field-0 (c.in-Some-3.value, c.in-Some-3.written) c.in-Some-3.is c.in_ok-value.ensures.found in
-    (c.in-Some-2.key, c.in-Some-3.value, c.in-Some-3.written, c.in-Some.value.now, key.0,
-    c.in-Some.ensures.found ∙ ap (λ (l : List ℕ). l ++ 32 ∷ c.in-Some.value.now) key.1, value, refl)
+    let value = some_is (λ (p : Value × ℕ). SpellsValue c.in-Some.value.now p.0 p.1) c.in_ok-value.field-0 (c.in-Some-3.value, c.in-Some-3.written) c.in-Some-3.is c.in_ok-value.ensures.found in (
+      c.in-Some-2.key,
+      c.in-Some-3.value,
+      c.in-Some-3.written,
+      c.in-Some.value.now,
+      key.0,
+      c.in-Some.ensures.found ∙ ap (λ (l : List ℕ). l ++ 32 ∷ c.in-Some.value.now) key.1,
+      value,
+      refl,
+    )
 
 pub returns-in-None-clause-none : goal.returns-in-None-clause-none
 returns-in-None-clause-none c k v is fits e =

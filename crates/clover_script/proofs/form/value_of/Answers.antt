@@ -20,6 +20,10 @@ returns-clause-found c =
     let are : AreBytes c.in-Some-2.bytes.items = search rules in
     let size : c.len-written.result ≡ length c.in-Some-2.bytes.items = search rules in
     let whole : Value = record { flags = 0; bytes = c.in-Some-2.bytes.items } in
-    let make : List ℕ → Value = λ b. record { flags = 0; bytes = b } in
-    (whole, (search rules, omega arith, are), c.in-Some.ensures.found ∙ ap (λ (l : List ℕ). 61 ∷ l) spelled,
-    ap make (c.in_ok-bytes-2.ensures ∙ ap (take 1024) c.deref.ensures.value), size)
+    let make : List ℕ → Value = λ b. record { flags = 0; bytes = b } in (
+      whole,
+      (search rules, omega arith, are),
+      c.in-Some.ensures.found ∙ ap (λ (l : List ℕ). 61 ∷ l) spelled,
+      ap make (c.in_ok-bytes-2.ensures ∙ ap (take 1024) c.deref.ensures.value),
+      size,
+    )
