@@ -15,7 +15,7 @@ use Rattle.clover_words.specs.Preset.{buffers_total, dealt_number, tombstone_num
 use Rattle.clover_words.specs.Tag.{TagParts, tag_number}
 use Rattle.clover_map.specs.declared.bytes.Held.{Held}
 use Rattle.clover_map.specs.Tagged.{Tagged}
-use Rattle.clover_map.specs.Legal.{IsFresh}
+use Rattle.clover_map.specs.Tags.{IsFresh}
 use Rattle.clover_main.specs.Stands.{IsIn, IsTail, buffer_at, first_tag, HasVersion, HasKey, SlotHas, AreDistinct, AreApart, IsReady, put_tag, IsEngine, IsBound}
 use Rattle.clover_main.proofs.Maps.{item_pushed, item_within}
 use Rattle.clover_main.proofs.Standing.{one_number}

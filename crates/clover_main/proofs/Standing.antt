@@ -20,7 +20,8 @@ use Rattle.clover_words.proofs.Spellings.{one_tag}
 use Rattle.clover_map.specs.declared.bytes.Held.{Held}
 use Rattle.clover_map.specs.declared.bytes.Value.{Value as Pair}
 use Rattle.clover_map.specs.Tagged.{Tagged}
-use Rattle.clover_map.specs.Legal.{held, IsFresh}
+use Rattle.clover_map.specs.Does.{held}
+use Rattle.clover_map.specs.Tags.{IsFresh}
 use Rattle.clover_main.specs.Stands.{IsIn, IsTail, IsLinked, Chain, last_of, buffer_at, first_tag, HasVersion, HasKey, SlotHas, StandsFor, AreDistinct, AreApart, IsReady, put_tag, IsEngine, IsAdded}
 use Rattle.clover_main.proofs.Chains.{is_tag, last_tail, KeepsLinks, other_linked, chain_grown, last_grown}
 use Rattle.clover_main.proofs.Maps.{get_put, get_other, item_set, item_kept}

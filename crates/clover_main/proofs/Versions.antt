@@ -16,7 +16,7 @@ use Rattle.clover_words.proofs.Packing.{unpacked}
 use Rattle.clover_words.proofs.Places.{durable_below, word_set, word_kept}
 use Rattle.clover_map.specs.declared.bytes.Held.{Held}
 use Rattle.clover_map.specs.declared.bytes.Value.{Value as Pair}
-use Rattle.clover_map.specs.Legal.{held}
+use Rattle.clover_map.specs.Does.{held}
 use Rattle.clover_script.specs.Script.{room}
 use Rattle.clover_main.specs.Stands.{IsIn, IsLinked, IsDurable, IsContent, IsAddition, IsAdded, IsKeyOf, IsBinding, IsBound, KeepsBut, HasVersion, HasValue, HasKey, first_tag, meta_of, buffer_at}
 use Rattle.clover_main.proofs.Frames.{run_kept, set_kept, both_kept, value_run, key_run, content_adds, key_binds}

@@ -6,7 +6,7 @@ ghost use Rattle.clover_words.specs.Next.{next_word};
 ghost use Rattle.clover_words.specs.Place.{IsBuffer, place, durable_words};
 ghost use Rattle.clover_words.specs.Tag.{tag_number};
 ghost use Rattle.clover_map.specs.declared.bytes.Held.{Held};
-ghost use Rattle.clover_map.specs.Legal.{held};
+ghost use Rattle.clover_map.specs.Does.{held};
 ghost use Rattle.clover_script.specs.Script.{room};
 ghost use Rattle.clover_main.specs.Stands.{IsIn, HasVersion, HasKey, IsContent, IsAdded, IsBound, IsKeyOf, KeepsBut, first_tag, buffer_at};
 

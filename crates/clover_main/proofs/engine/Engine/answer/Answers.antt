@@ -2,7 +2,7 @@ use Rattle.std.proofs.Common.{refl}
 use Rattle.std.specs.FinMap.{insert}
 use Rattle.std.proofs.lemmas.Result.{IfOk-weaker}
 use Rattle.clover_words.specs.Tag.{tag_number}
-use Rattle.clover_map.specs.Legal.{held}
+use Rattle.clover_map.specs.Does.{held}
 use Rattle.clover_main.proofs.Answering.{get_answers}
 use Rattle.clover_main.proofs.engine.Engine.answer.Goals as goal
 

@@ -2,7 +2,7 @@ use Rattle.std.proofs.Common.{◌≡◌, List, ℕ, ◌++◌, ap, sym, ◌∙◌
 use Rattle.std.proofs.lemmas.Option.{slice_get_within}
 use Rattle.clover_words.specs.declared.setup.Setup.{Setup}
 use Rattle.clover_words.specs.Tag.{TagParts, tag_number}
-use Rattle.clover_map.specs.Legal.{held}
+use Rattle.clover_map.specs.Does.{held}
 use Rattle.clover_main.specs.Stands.{first_tag, put_tag}
 use Rattle.clover_main.proofs.Maps.{front}
 use Rattle.clover_main.proofs.Standing.{end_in, tail_here, put_stands}

@@ -1,6 +1,6 @@
 use Rattle.std.proofs.Common.{◌∙◌}
 use Rattle.clover_words.specs.Tag.{tag_number}
-use Rattle.clover_map.specs.Legal.{held}
+use Rattle.clover_map.specs.Does.{held}
 use Rattle.clover_main.specs.Stands.{first_tag}
 use Rattle.clover_main.proofs.Versions.{version_added}
 use Rattle.clover_main.proofs.engine.version.append.Goals as goal
