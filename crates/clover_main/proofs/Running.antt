@@ -46,13 +46,14 @@ can_serve : (s : Setup) (keys : List (List ℕ)) (n : ℕ) (calls : List Call) �
 can_serve s keys n [] is fits named stock = tt
 can_serve s keys n (c ∷ cs) is fits named stock =
     let cons = puts_cons c cs in
-    let short : written c ≤ room s.pool = fits 0 c (omega arith) in
-    (is 0 c (omega arith),
+    let short : written c ≤ room s.pool = fits 0 c (omega arith) in (
+      is 0 c (omega arith),
       omega (arith, s.pool.words_fit),
       serve_one s n c (is 0 c (omega arith)) short (λ some. stock n (omega arith) (omega arith)),
       named 0 c (omega arith),
       can_serve s keys (n + puts (c ∷ [])) cs (λ k d lt. is (suc k) d (omega arith)) (λ k d lt. fits (suc k) d (omega arith)) (λ k d lt. named (suc k) d (omega arith))
-      (λ put later lt. stock put (omega arith) (omega arith)))
+          (λ put later lt. stock put (omega arith) (omega arith)),
+    )
 
 -- the keys that calls name are named
 names_all : (before : List (List ℕ)) (calls : List Call) (after : List (List ℕ)) → Names before calls after
@@ -62,9 +63,10 @@ names_all before (c ∷ cs) after (inl (has, more)) =
     let rest = names_all before cs after more in
     (rest.0, All-cons (λ c. Contains after (key_of c)) c cs (rest.0 (key_of c) has) rest.1)
 names_all before (c ∷ cs) after (inr (new, more)) =
-    let rest = names_all (before ++ key_of c ∷ []) cs after more in
-    (λ k h. rest.0 k (Contains-append_left before (key_of c ∷ []) k h),
-      All-cons (λ c. Contains after (key_of c)) c cs (rest.0 (key_of c) (Contains-push before (key_of c))) rest.1)
+    let rest = names_all (before ++ key_of c ∷ []) cs after more in (
+      λ k h. rest.0 k (Contains-append_left before (key_of c ∷ []) k h),
+      All-cons (λ c. Contains after (key_of c)) c cs (rest.0 (key_of c) (Contains-push before (key_of c))) rest.1,
+    )
 
 -- a script's calls can all be served from the beginning
 pub served : (s : Setup) (calls : List Call) (keys : List (List ℕ)) → Serves s calls keys → CanServe s keys 0 calls
@@ -143,7 +145,7 @@ begun_run s keys body calls e answers entries serves whole setup none at no_answ
       count = refl;
       at = at;
       answered = no_answers;
-      entered = no_entries
+      entered = no_entries;
     }
 
 -- the call of the next line can be served
@@ -187,11 +189,11 @@ one_more s keys body e f rest line after number answers entries answers' entries
       count = counted run.history entry run.count;
       at = subst R (sym (handed_push run.history entry)) stepped.2;
       answered = put ∙ ap (λ l. l ++ answer_line entry) run.answered ∙ sym (lines_push answer_line run.history entry);
-      entered = put' ∙ ap (λ l. l ++ entry_line entry) run.entered ∙ sym (lines_push entry_line run.history entry)
+      entered = put' ∙ ap (λ l. l ++ entry_line entry) run.entered ∙ sym (lines_push entry_line run.history entry);
     }
   where
-  counted : {number : ℕ} (es : List Entry) (e : Entry) → number ≡ 1 + length es → number + 1 ≡ 1 + length (es ++ e ∷ [])
-  counted es e h = omega (arith, length-append es (e ∷ []))
+    counted : {number : ℕ} (es : List Entry) (e : Entry) → number ≡ 1 + length es → number + 1 ≡ 1 + length (es ++ e ∷ [])
+    counted es e h = omega (arith, length-append es (e ∷ []))
 
 -- when no line is left, the text is that of the whole run
 pub all_run : (s : Setup) (keys : List (List ℕ)) (body : List ℕ) (e : Engine) (rest : List ℕ) (number : ℕ) (answers entries out : List ℕ) (calls : List Call)
@@ -205,12 +207,13 @@ all_run s keys body e rest number answers entries out calls run ends printed are
       history = run.history;
       legal = legal_leads empty run.m [] run.history run.leads;
       each = subst P all run.each;
-      printed = printed ∙ ap (λ l. l ++ codes "history\n" ++ entries ++ codes "end\n") run.answered ∙ ap (λ l. flat_map answer_line run.history ++ codes "history\n" ++ l ++ codes "end\n") run.entered
+      printed = printed ∙ ap (λ l. l ++ codes "history\n" ++ entries ++ codes "end\n") run.answered ∙ ap (λ l. flat_map answer_line run.history ++ codes "history\n" ++ l ++ codes "end\n") run.entered;
     }
   where
-  nothing : (xs : List ℕ) → length xs ≡ 0 → xs ≡ []
-  nothing [] e = refl
-  nothing (x ∷ xs) e = absurd (omega arith)
-  no_calls : (left : List Call) → [] ≡ map call_line left → left ≡ []
-  no_calls [] e = refl
-  no_calls (c ∷ cs) e = cc
+    nothing : (xs : List ℕ) → length xs ≡ 0 → xs ≡ []
+    nothing [] e = refl
+    nothing (x ∷ xs) e = absurd (omega arith)
+
+    no_calls : (left : List Call) → [] ≡ map call_line left → left ≡ []
+    no_calls [] e = refl
+    no_calls (c ∷ cs) e = cc

@@ -17,10 +17,9 @@ mod running;
 mod version;
 mod words;
 
-pub use running::run;
-
 use clover_map::{Call, Key, OutOfMemory, Reply, Value};
 use clover_words::{Pool, Setup, Tag, dealt, tombstone};
+pub use running::run;
 use std::alloc::Global;
 use version::{append, bind, read_version, tag_of};
 
@@ -127,4 +126,3 @@ fn zeros(alloc: Global, pool: &Pool) -> Result<Vec<u64>, OutOfMemory>
         Err(_) => Err(OutOfMemory),
     }
 }
-

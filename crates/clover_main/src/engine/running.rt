@@ -125,8 +125,7 @@ fn key_in(call: &Call) -> &Key
     ensures { result.now ≡ key_of call.now }
 {
     match call {
-        Call::Get { key } | Call::Put { key, .. } | Call::Delete { key } | Call::Swap { key, .. } => {
-            key
-        }
+        Call::Get { key } | Call::Put { key, .. } | Call::Delete { key } | Call::Swap { key, .. } =>
+            { key }
     }
 }

@@ -31,4 +31,4 @@ returns-clause-put c keys used m k at named =
     let added = rw (same, c.deref_mut.ensures.value) at c.append-tag.ensures.added in
     rw (words, same)
     (put_stands s c.args.self.now.words.items c.append-tag.new.words c.args.self.now.cursors.items c.args.self.now.puts keys used m c.args.slot k c.index-tail.result.now
-      (held (tag_number v) c.args.value.now) at named here c.in-Some.ensures.some.0 (long ∙ at.size) added)
+    (held (tag_number v) c.args.value.now) at named here c.in-Some.ensures.some.0 (long ∙ at.size) added)

@@ -29,11 +29,11 @@ answer-requires-clause-at c =
 
 pub returns : goal.returns
 returns c = record {
-    is = c.in_ok-call.ensures.0;
-    spelled = c.in_ok-call.ensures.1;
-    client = refl;
-    numbered = refl;
-    step = λ used m at. c.in_ok-reply.ensures.answered c.args.names.now used m at (c.in-Some.ensures.some ∙ ap Some c.key_in.ensures);
-    setup = c.in_ok-reply.ensures.setup;
-    puts = c.in_ok-reply.ensures.puts
-  }
+  is = c.in_ok-call.ensures.0;
+  spelled = c.in_ok-call.ensures.1;
+  client = refl;
+  numbered = refl;
+  step = λ used m at. c.in_ok-reply.ensures.answered c.args.names.now used m at (c.in-Some.ensures.some ∙ ap Some c.key_in.ensures);
+  setup = c.in_ok-reply.ensures.setup;
+  puts = c.in_ok-reply.ensures.puts;
+}
