@@ -1,5 +1,5 @@
 // Words and addresses that were worked out by hand, and the laws that callers derive from the clauses.
-ghost use Rattle.std.specs.Prelude.{◌≡◌, IfSome, Some};
+ghost use Rattle.std.specs.Prelude.{◌≡◌, ◌≤◌, length, take, IfSome, Some};
 ghost use Rattle.clover_words.specs.Place.{IsWithin, HasSide};
 
 use super::*;
@@ -180,6 +180,18 @@ fn meta_words(rt: HostRuntime) {
     }
 }
 
+// What a caller does that keeps a value in words.
+fn copy_by_words(bytes: &[u8], into: &mut ValueBuf)
+    requires { length bytes.now ≤ 1024 }
+    ensures { take (length bytes.now) into.new.bytes ≡ bytes.now }
+{
+    let words = bytes.len().div_ceil(8) as u32;
+    for k in 0..words {
+        unpack(pack(bytes, k), k, into);
+    }
+    value_from_words();
+}
+
 // Some bytes, a number of a word, and the word.
 const PACKED: [(&[u8], u32, u64); 6] = [
     (b"hello", 0, 0x6865_6c6c_6f00_0000),
@@ -195,17 +207,17 @@ fn bytes_in_words(rt: HostRuntime) {
     for (bytes, k, word) in PACKED {
         assert!(rt; pack(bytes, k) == word, "word {k} is {word}");
     }
-    let mut value = ValueBuf {
-        bytes: [0; 1024],
-        length: 13,
-    };
-    unpack(pack(b"a long value!", 1), 1, &mut value);
+    let mut value = ValueBuf::new();
+    for k in 0..128 {
+        unpack(0x0101_0101_0101_0101, k, &mut value);
+    }
+    copy_by_words(b"a long value!", &mut value);
     unpack(0x6162_6364_6566_6768, 127, &mut value);
-    unpack(pack(b"a long value!", 0), 0, &mut value);
-    value_from_words();
-    assert!(rt; &value.bytes[..13] == b"a long value!".as_slice());
-    assert!(rt; &value.bytes[1015..] == b"\0abcdefgh".as_slice());
-    assert!(rt; value.length == 13);
+    assert!(rt; &value.bytes[..17] == b"a long value!\0\0\0\x01".as_slice());
+    assert!(rt; &value.bytes[1015..] == b"\x01abcdefgh".as_slice());
+    assert!(rt; value.value().is_empty());
+    value.length = 6;
+    assert!(rt; value.value() == b"a long".as_slice());
 }
 
 // A word, where its current copy stands, and where its flushed copy does.
