@@ -6,6 +6,7 @@ mod check;
 mod coded;
 mod form;
 mod keys;
+mod laws;
 mod line;
 mod number;
 mod progress;
@@ -16,6 +17,9 @@ pub use check::{Outline, ScriptFault, check_script};
 use clover_list::ItemList;
 pub use form::{call_on, form_of};
 pub use keys::Names;
+pub use laws::{
+    a_line_has_one_call, a_refusal_has_one_line, a_script_has_one_reading, no_script_is_refused,
+};
 pub use line::{Form, LineFault, PoolLine, Task};
 pub use number::{number_front, number_of};
 pub use split::{after_word, first_line, split_at_byte};
