@@ -3,6 +3,7 @@
 #![tactic(auto)]
 
 mod command;
+mod engine;
 mod io;
 mod memory;
 mod read;
