@@ -11,9 +11,7 @@ use Rattle.clover_main.specs.Causes.{Rose}
 use Rattle.clover_main.specs.Reading.{Reads, TakesMore, input_limit}
 use Rattle.clover_main.specs.Refusing.{status_of, HasShown}
 use Rattle.clover_main.specs.Replay.{Replays, Refuses, IsExact}
-
-not_both : (text : List ℕ) (s : Setup) (calls : List Call) (keys : List (List ℕ)) (n : ℕ) → IsScript text s calls keys → IsRefused text n → ⊥
-not_both text s calls keys n is bad = ?
+use Rattle.clover_script.proofs.ScriptLaws.{not_refused}
 
 -- a source that was read to its end gave all that it had
 all_given : (text given : List ℕ) (after : Option (List ℕ)) → Consumes (Some text) after given → IsAtEnd after → given ≡ text
@@ -78,9 +76,9 @@ no_zero text status says never =
 is_exact : (text : List ℕ) (status : ℕ) → Says text status → IsExact text status
 is_exact text status says = record {
   script = λ s calls keys is short. no_one text status says (λ o.
-      elim (says.one o) as (λ _. ⊥) [ inl bad ↦ not_both text s calls keys bad.0 is bad.1 | inr more ↦ absurd (omega arith) ]);
+      elim (says.one o) as (λ _. ⊥) [ inl bad ↦ not_refused text s calls keys bad.0 is bad.1 | inr more ↦ absurd (omega arith) ]);
   refused = λ n bad short. no_zero text status says (λ z.
-      let done = says.zero z in not_both text done.0 done.1 done.2 n done.3 bad);
+      let done = says.zero z in not_refused text done.0 done.1 done.2 n done.3 bad);
   much = λ more. no_zero text status says (λ z. absurd (omega (arith, (says.zero z).4)));
 }
 

@@ -10,6 +10,7 @@ const PRINTED: &[u8] = b"1 stored 0.0.0\n1 found 0.0.0 =hello\nhistory\nh 1 1 1 
 
 const UNBUILT: &[u8] = b"pool nodes=1 buffers=4 slots=2 words=2 wear=3 clients=1 batch=2\njump 1\n";
 
+#[derive(Clone, Copy)]
 struct Case {
     text: &'static [u8],
     failing_takes: &'static [u64],

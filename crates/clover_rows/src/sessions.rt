@@ -3,6 +3,7 @@
 use crate::support::{bulk, run};
 use std::test::Fail;
 
+#[derive(Clone, Copy)]
 struct Session {
     text: &'static str,
     printed: &'static str,

@@ -1,5 +1,6 @@
 pub mod Coded
 pub mod Form
+pub mod Laws
 pub mod Line
 pub mod Naming
 pub mod Progress

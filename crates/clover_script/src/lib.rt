@@ -6,19 +6,24 @@ mod check;
 mod coded;
 mod form;
 mod keys;
+mod laws;
 mod line;
 mod number;
 mod progress;
 mod split;
+#[cfg(test)]
+mod tests;
 mod text;
 
 pub use check::{Outline, ScriptFault, check_script};
 use clover_list::ItemList;
 pub use form::{call_on, form_of};
 pub use keys::Names;
+pub use laws::{
+    a_line_has_one_call, a_refusal_has_one_line, a_script_has_one_reading, no_script_is_refused,
+};
 pub use line::{Form, LineFault, PoolLine, Task};
-pub use number::{number_front, number_of};
-pub use split::{after_word, first_line, split_at_byte};
+pub use split::first_line;
 pub use text::{push_answer, push_call, push_entry, push_reply};
 
 /// A list of bytes.
