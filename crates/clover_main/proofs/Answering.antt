@@ -5,7 +5,8 @@ use Rattle.clover_map.specs.declared.bytes.Held.{Held}
 use Rattle.clover_map.specs.declared.call.Call.TheVariants.{Get}
 use Rattle.clover_map.specs.declared.call.Reply.{Reply}
 use Rattle.clover_map.specs.Tagged.{Tagged}
-use Rattle.clover_map.specs.Legal.{Does, new_tags}
+use Rattle.clover_map.specs.Does.{Does}
+use Rattle.clover_map.specs.Tags.{new_tags}
 use Rattle.clover_main.specs.declared.engine.Engine.{Engine}
 use Rattle.clover_main.specs.Stands.{IsAt, reply_of}
 

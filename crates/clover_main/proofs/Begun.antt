@@ -15,7 +15,7 @@ use Rattle.clover_words.specs.Preset.{buffers_total, dealt_number, tombstone_num
 use Rattle.clover_words.specs.Tag.{TagParts, tag_number}
 use Rattle.clover_map.specs.declared.bytes.Held.{Held}
 use Rattle.clover_map.specs.Tagged.{Tagged}
-use Rattle.clover_map.specs.Legal.{IsFresh}
+use Rattle.clover_map.specs.Tags.{IsFresh}
 use Rattle.clover_main.specs.Stands.{IsIn, IsTail, buffer_at, first_tag, HasVersion, HasKey, SlotHas, AreDistinct, AreApart, IsReady, put_tag, IsEngine, IsBound}
 use Rattle.clover_main.proofs.Maps.{item_pushed, item_within}
 use Rattle.clover_main.proofs.Standing.{one_number}
@@ -43,8 +43,8 @@ pub record IsBegun (p : Pool) (words : List ℕ) (tails : List TagParts) (keys :
 buffer_within : (p : Pool) (n : ℕ) → n < p.nodes * p.buffers → IsBuffer p (buffer_of p n)
 buffer_within p n lt = record { node = quotient n p.nodes p.buffers p.some_buffer lt; index = omega arith }
   where
-  quotient : (n a b : ℕ) → 1 ≤ b → n < a * b → n / b < a
-  quotient n a b some lt = grind arith
+    quotient : (n a b : ℕ) → 1 ≤ b → n < a * b → n / b < a
+    quotient n a b some lt = grind arith
 
 -- two slots have two tombstones
 two_tombstones : (p : Pool) (r i : ℕ) → r < p.slots → i < p.slots → p.slots ≤ buffers_total p
@@ -59,49 +59,49 @@ pub bound_begun : (p : Pool) (old new : List ℕ) (tails : List TagParts) (keys 
     → length new ≡ length old → IsBound p old new i key (buffer_of p (tombstone_number p i))
     → IsBegun p new (tails ++ tombstone_tag p i ∷ []) keys
 bound_begun p old new tails keys i key begun count named within fits size bound = record {
-    size = size ∙ begun.size;
-    unlinked = λ b place. bound.kept (Next b) (place, tt) (λ h. h) ∙ begun.unlinked b place;
-    bound = λ r k t key' tail. elim (item_pushed tails (tombstone_tag p i) t r tail) [
-        | inl (lt, before) ↦
-          let first = begun.bound r k t key' before in
-          let place = first.within.place in
-          let other : r ≢ i = λ e. omega arith in
-          let below : r < p.slots = omega arith in
-          record {
-            tag = first.tag;
-            within = first.within;
-            root = bound.kept (Root r) (below, tt) other ∙ first.root;
-            version = version_kept p old new t None
+  size = size ∙ begun.size;
+  unlinked = λ b place. bound.kept (Next b) (place, tt) (λ h. h) ∙ begun.unlinked b place;
+  bound = λ r k t key' tail. elim (item_pushed tails (tombstone_tag p i) t r tail) [
+    | inl (lt, before) ↦
+        let first = begun.bound r k t key' before in
+        let place = first.within.place in
+        let other : r ≢ i = λ e. omega arith in
+        let below : r < p.slots = omega arith in
+        record {
+          tag = first.tag;
+          within = first.within;
+          root = bound.kept (Root r) (below, tt) other ∙ first.root;
+          version = version_kept p old new t None
               (bound.kept (Meta (buffer_at t)) (place, tt) (λ e. other (two_tombstones p r i below within fits (sym (ap buffer_at first.tag) ∙ e))))
               (λ n lt. bound.kept (Value (buffer_at t) n) ((place, lt), tt) (λ h. h)) first.version;
-            named = named_kept p old new r k (λ n lt. bound.kept (Key r n) ((below, lt), tt) other) first.named
-          }
-        | inr (last, e) ↦
-          let here : i ≡ r = sym count ∙ sym last in
-          let same : key ≡ k = same_Some key k (sym named ∙ ap (slice_get keys) here ∙ key') in
-          let P : ℕ → List ℕ → TagParts → Type 0 = λ a b c. IsFirst p new a b c in
-          let own : P i key (tombstone_tag p i) = record {
-            tag = refl;
-            within = record { place = buffer_within p (tombstone_number p i) (omega arith); generation = omega arith };
-            root = bound.root;
-            version = bound.version;
-            named = bound.named
-          } in
-          subst (λ a. P a k t) here (subst (λ b. P i b t) same (subst (λ c. P i key c) e own))
-      ]
-  }
+          named = named_kept p old new r k (λ n lt. bound.kept (Key r n) ((below, lt), tt) other) first.named;
+        }
+    | inr (last, e) ↦
+        let here : i ≡ r = sym count ∙ sym last in
+        let same : key ≡ k = same_Some key k (sym named ∙ ap (slice_get keys) here ∙ key') in
+        let P : ℕ → List ℕ → TagParts → Type 0 = λ a b c. IsFirst p new a b c in
+        let own : P i key (tombstone_tag p i) = record {
+          tag = refl;
+          within = record { place = buffer_within p (tombstone_number p i) (omega arith); generation = omega arith };
+          root = bound.root;
+          version = bound.version;
+          named = bound.named;
+        } in
+        subst (λ a. P a k t) here (subst (λ b. P i b t) same (subst (λ c. P i key c) e own))
+  ];
+}
 
 -- when all are bound, the words stand for the empty map
 pub begun_stands : (s : Setup) (words : List ℕ) (tails : List TagParts) (keys : List (List ℕ))
     → IsBegun s.pool words tails keys → length tails ≡ length keys → length keys ≤ s.pool.slots → s.pool.slots ≤ buffers_total s.pool → AreDistinct keys
     → IsEngine s words tails 0 keys [] empty
 begun_stands s words tails keys begun count few fits distinct = record {
-    size = begun.size;
-    slots = few;
-    distinct = distinct;
-    stands = record {
-      count = count;
-      bound = λ r k t key tail.
+  size = begun.size;
+  slots = few;
+  distinct = distinct;
+  stands = record {
+    count = count;
+    bound = λ r k t key tail.
         let first = begun.bound r k t key tail in
         let P : Option Held → Type 0 = λ o. SlotHas s.pool words r k t o in
         let generation : t.generation ≡ 0 = ap (λ u. u.generation) first.tag in
@@ -112,33 +112,35 @@ begun_stands s words tails keys begun count few fits distinct = record {
           chain = record { within = first.within; next = begun.unlinked (buffer_at t) first.within.place ∙ zero_word t.generation generation };
           last = refl;
           version = first.version;
-          named = first.named
+          named = first.named;
         });
-      unbound = λ k none. get-empty (slice_cmp nat_cmp) k
-    };
-    apart = λ r i t u tail tail' e. two_tombstones s.pool r i (below r t tail) (below i u tail') fits (sym (ap buffer_at (tag_of r t tail)) ∙ e ∙ ap buffer_at (tag_of i u tail'));
-    ready = λ put later dealt.
+    unbound = λ k none. get-empty (slice_cmp nat_cmp) k;
+  };
+  apart = λ r i t u tail tail' e. two_tombstones s.pool r i (below r t tail) (below i u tail') fits (sym (ap buffer_at (tag_of r t tail)) ∙ e ∙ ap buffer_at (tag_of i u tail'));
+  ready = λ put later dealt.
       let n : ℕ = dealt_number s 1 put in
       let number = dealt.number in
       let place = buffer_within s.pool n (omega arith) in
       record {
         tail = record {
           within = record { place = place; generation = omega arith };
-          next = begun.unlinked (buffer_of s.pool n) place ∙ zero_word 0 refl
+          next = begun.unlinked (buffer_of s.pool n) place ∙ zero_word 0 refl;
         };
         apart = λ r u tail e.
-          let lt = below r u tail in
-          let same : tombstone_number s.pool r ≡ n = one_number s.pool (tombstone_number s.pool r) n (sym (ap buffer_at (tag_of r u tail)) ∙ e) in
-          omega arith;
-        unused = λ h. omega (arith, h.1)
-      }
-  }
+            let lt = below r u tail in
+            let same : tombstone_number s.pool r ≡ n = one_number s.pool (tombstone_number s.pool r) n (sym (ap buffer_at (tag_of r u tail)) ∙ e) in
+            omega arith;
+        unused = λ h. omega (arith, h.1);
+      };
+}
   where
-  zero_word : (g : ℕ) → g ≡ 0 → 0 ≡ next_word (record { own = g; link = None })
-  zero_word g e = omega arith
-  below : (r : ℕ) (t : TagParts) → slice_get tails r ≡ Some t → r < s.pool.slots
-  below r t tail = omega (arith, slice_get_within tails r t tail)
-  tag_of : (r : ℕ) (t : TagParts) → slice_get tails r ≡ Some t → t ≡ tombstone_tag s.pool r
-  tag_of r t tail =
-      let key = item_within keys r (omega (arith, slice_get_within tails r t tail)) in
-      (begun.bound r key.0 t key.1 tail).tag
+    zero_word : (g : ℕ) → g ≡ 0 → 0 ≡ next_word (record { own = g; link = None })
+    zero_word g e = omega arith
+
+    below : (r : ℕ) (t : TagParts) → slice_get tails r ≡ Some t → r < s.pool.slots
+    below r t tail = omega (arith, slice_get_within tails r t tail)
+
+    tag_of : (r : ℕ) (t : TagParts) → slice_get tails r ≡ Some t → t ≡ tombstone_tag s.pool r
+    tag_of r t tail =
+        let key = item_within keys r (omega (arith, slice_get_within tails r t tail)) in
+        (begun.bound r key.0 t key.1 tail).tag

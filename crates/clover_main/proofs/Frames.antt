@@ -13,12 +13,12 @@ use Rattle.clover_main.specs.Stands.{IsDurable, IsContent, IsAddition, IsKeyOf, 
 -- a place lies outside of a run of places, or is one of them
 where_is : (i from count : ℕ) → ((i < from) ⊎ (from + count ≤ i)) ⊎ ((k : ℕ) × (k < count) × (from + k ≡ i))
 where_is i from count = elim (cases_lt i from) [
-    | inl below ↦ inl (inl below)
-    | inr not_below ↦ elim (cases_lt i (from + count)) [
-        | inl within ↦ inr (i - from, omega arith, omega arith)
-        | inr behind ↦ inl (inr behind)
-      ]
+  | inl below ↦ inl (inl below)
+  | inr not_below ↦ elim (cases_lt i (from + count)) [
+    | inl within ↦ inr (i - from, omega arith, omega arith)
+    | inr behind ↦ inl (inr behind)
   ]
+]
 
 -- the words that stand one behind the other from a place on
 pub record IsRun (p : Pool) (from count : ℕ) (Changes : Word → Type 0) (word : ℕ → Word) : Type 0 where
@@ -31,11 +31,11 @@ pub run_kept : (Changes : Word → Type 0) (word : ℕ → Word) (p : Pool) (old
     → ((i : ℕ) → (i < from) ⊎ (from + count ≤ i) → slice_index new i ≡ slice_index old i)
     → KeepsBut Changes p old new
 run_kept Changes word p old new from count run kept w durable other = elim (where_is (place p w) from count) [
-    | inl outside ↦ kept (place p w) outside
-    | inr (k, lt, e) ↦
+  | inl outside ↦ kept (place p w) outside
+  | inr (k, lt, e) ↦
       let same : word k ≡ w = one_place p (word k) w (run.within k lt) durable.0 (run.stands k lt ∙ e) in
       absurd (other (subst Changes same (run.changes k lt)))
-  ]
+]
 
 -- a write to one word keeps the others
 pub set_kept : (Changes : Word → Type 0) (p : Pool) (words : List ℕ) (v : Word) (n : ℕ) → IsWithin p v → Changes v
@@ -51,18 +51,18 @@ both_kept Changes p old between new first second w durable other = second w dura
 -- the value words of a buffer
 pub value_run : (p : Pool) (b : Buffer) (count : ℕ) → IsBuffer p b → count ≤ p.words → IsRun p (place p (Value b 0)) count (IsContent b) (Value b)
 value_run p b count within fits = record {
-    within = λ k lt. (within, omega arith);
-    stands = λ k lt. omega arith;
-    changes = λ k lt. refl
-  }
+  within = λ k lt. (within, omega arith);
+  stands = λ k lt. omega arith;
+  changes = λ k lt. refl;
+}
 
 -- the key words of a slot
 pub key_run : (p : Pool) (s count : ℕ) → s < p.slots → count ≤ 32 → IsRun p (place p (Key s 0)) count (IsKeyOf s) (Key s)
 key_run p s count within fits = record {
-    within = λ k lt. (within, omega arith);
-    stands = λ k lt. omega arith;
-    changes = λ k lt. refl
-  }
+  within = λ k lt. (within, omega arith);
+  stands = λ k lt. omega arith;
+  changes = λ k lt. refl;
+}
 
 -- what the words of a version are also of
 pub content_adds : (b d : Buffer) (w : Word) → IsContent b w → IsAddition b d w

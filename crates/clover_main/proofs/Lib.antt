@@ -6,5 +6,6 @@ pub mod Exact
 pub mod Frames
 pub mod Maps
 pub mod Puts
+pub mod Running
 pub mod Standing
 pub mod Versions

@@ -19,9 +19,9 @@ get_put m k h = get-insert nat_list_cmp_total m k h k ∙ ap (λ b. cond b (Some
 pub get_other : (m : Tagged) (k q : List ℕ) (h : Held) → q ≢ k → get (insert m k h) q ≡ get m q
 get_other m k q h other = get-insert nat_list_cmp_total m k h q ∙ apart (eq_by_cmp (slice_cmp nat_cmp) q k) refl
   where
-  apart : (b : Bool) → eq_by_cmp (slice_cmp nat_cmp) q k ≡ b → cond (eq_by_cmp (slice_cmp nat_cmp) q k) (Some h) (get m q) ≡ get m q
-  apart true e = absurd (other (tells_apart exact_bytes q k e))
-  apart false e = ap (λ b. cond b (Some h) (get m q)) e
+    apart : (b : Bool) → eq_by_cmp (slice_cmp nat_cmp) q k ≡ b → cond (eq_by_cmp (slice_cmp nat_cmp) q k) (Some h) (get m q) ≡ get m q
+    apart true e = absurd (other (tells_apart exact_bytes q k e))
+    apart false e = ap (λ b. cond b (Some h) (get m q)) e
 
 -- an element that was set
 pub item_set : {X : Type 0} (xs : List X) (i : ℕ) (x y : X) → slice_get xs i ≡ Some y → slice_get (slice_set xs i x) i ≡ Some x

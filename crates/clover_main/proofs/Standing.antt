@@ -20,7 +20,8 @@ use Rattle.clover_words.proofs.Spellings.{one_tag}
 use Rattle.clover_map.specs.declared.bytes.Held.{Held}
 use Rattle.clover_map.specs.declared.bytes.Value.{Value as Pair}
 use Rattle.clover_map.specs.Tagged.{Tagged}
-use Rattle.clover_map.specs.Legal.{held, IsFresh}
+use Rattle.clover_map.specs.Does.{held}
+use Rattle.clover_map.specs.Tags.{IsFresh}
 use Rattle.clover_main.specs.Stands.{IsIn, IsTail, IsLinked, Chain, last_of, buffer_at, first_tag, HasVersion, HasKey, SlotHas, StandsFor, AreDistinct, AreApart, IsReady, put_tag, IsEngine, IsAdded}
 use Rattle.clover_main.proofs.Chains.{is_tag, last_tail, KeepsLinks, other_linked, chain_grown, last_grown}
 use Rattle.clover_main.proofs.Maps.{get_put, get_other, item_set, item_kept}
@@ -43,8 +44,8 @@ one_put s a b e =
     let same : a * s.clients + 0 ≡ b * s.clients + 0 = one_number s.pool (dealt_number s 1 a) (dealt_number s 1 b) e in
     cancel a b s.clients s.some_client (omega arith)
   where
-  cancel : (a b c : ℕ) → 1 ≤ c → a * c ≡ b * c → a ≡ b
-  cancel a b c some e = grind arith
+    cancel : (a b c : ℕ) → 1 ≤ c → a * c ≡ b * c → a ≡ b
+    cancel a b c some e = grind arith
 
 -- the last version of a slot is one of the pool
 pub end_in : (p : Pool) (words : List ℕ) (s : ℕ) (key : List ℕ) (t : TagParts) (o : Option Held) → SlotHas p words s key t o → IsTail p words t
@@ -78,8 +79,8 @@ module _ (p : Pool) (old new : List ℕ) (t v : TagParts) (h : Held) (added : Is
         chain = other_linked p old new t had.first had.rest links_kept tail (λ e. apart (sym (ap buffer_at had.last) ∙ e)) had.chain;
         last = had.last;
         version = version_kept p old new u o (added.kept (Meta (buffer_at u)) (place, tt) fresh)
-          (λ k lt. added.kept (Value (buffer_at u) k) ((place, lt), tt) fresh) had.version;
-        named = keys_kept s key within had.named
+            (λ k lt. added.kept (Value (buffer_at u) k) ((place, lt), tt) fresh) had.version;
+        named = keys_kept s key within had.named;
       }
 
   -- the slot of the put has the new version
@@ -94,14 +95,13 @@ module _ (p : Pool) (old new : List ℕ) (t v : TagParts) (h : Held) (added : Is
         chain = chain_grown p old new had.first had.rest v (subst P (sym had.last) links_kept) (subst Q (sym had.last) added.linked) tail had.chain;
         last = last_grown had.first had.rest v;
         version = added.version;
-        named = keys_kept s key within had.named
+        named = keys_kept s key within had.named;
       }
 
 -- what the parts of the engine are once a put was made
 module _ (s : Setup) (old new : List ℕ) (tails : List TagParts) (puts : ℕ) (keys : List (List ℕ)) (used : List ℕ) (m : Tagged)
     (i : ℕ) (k : List ℕ) (t : TagParts) (h : Held) (engine : IsEngine s old tails puts keys used m)
     (named : slice_get keys i ≡ Some k) (here : slice_get tails i ≡ Some t) (dealt : HasDealt s 1 puts) where
-
   abbrev v : TagParts
   v = put_tag s puts
 
@@ -126,7 +126,7 @@ module _ (s : Setup) (old new : List ℕ) (tails : List TagParts) (puts : ℕ) (
   bound : Added → (r : ℕ) (q : List ℕ) (u : TagParts) → slice_get keys r ≡ Some q → slice_get new_tails r ≡ Some u
       → SlotHas s.pool new r q u (get (insert m k h) q)
   bound added r q u key tail = elim (cases_eq r i) [
-      | inl e ↦
+    | inl e ↦
         let key' : slice_get keys i ≡ Some q = ap (slice_get keys) (sym e) ∙ key in
         let same : k ≡ q = same_Some k q (sym named ∙ key') in
         let tail' : slice_get new_tails i ≡ Some u = ap (slice_get new_tails) (sym e) ∙ tail in
@@ -135,30 +135,30 @@ module _ (s : Setup) (old new : List ℕ) (tails : List TagParts) (puts : ℕ) (
         let Q : Option Held → Type 0 = λ o. SlotHas s.pool new i k v o in
         let own : P i k v = subst Q (sym (get_put m k h)) (own_slot s.pool old new t v h added i k (get m k) (omega (arith, slice_get_within keys i k named, engine.slots)) (tail_after s.pool old new t v h added v (λ e. apart (sym e)) ready.tail) slot) in
         subst (λ a. P a q u) (sym e) (subst (λ b. P i b u) same (subst (λ c. P i k c) last own))
-      | inr other ↦
+    | inr other ↦
         let tail' : slice_get tails r ≡ Some u = sym (item_kept tails i r v other) ∙ tail in
         let key' : q ≢ k = λ e. other (engine.distinct r i k (key ∙ ap Some e) named) in
         let Q : Option Held → Type 0 = λ o. SlotHas s.pool new r q u o in
         subst Q (sym (get_other m k q h key'))
         (other_slot s.pool old new t v h added r q u (get m q) (omega (arith, slice_get_within keys r q key, engine.slots)) (end_in s.pool old i k t (get m k) slot)
-          (λ e. other (engine.apart r i u t tail' here e)) (ready.apart r u tail')
-          (engine.stands.bound r q u key tail'))
-    ]
+        (λ e. other (engine.apart r i u t tail' here e)) (ready.apart r u tail')
+        (engine.stands.bound r q u key tail'))
+  ]
 
   still_apart : AreApart new_tails
   still_apart r q u w tail tail' same = elim (cases_eq r i) [
-      | inl e ↦ elim (cases_eq q i) [
-          | inl f ↦ e ∙ sym f
-          | inr f ↦ absurd (ready.apart q w (sym (item_kept tails i q v f) ∙ tail') (sym same ∙ ap buffer_at (own r u e tail)))
-        ]
-      | inr e ↦ elim (cases_eq q i) [
-          | inl f ↦ absurd (ready.apart r u (sym (item_kept tails i r v e) ∙ tail) (same ∙ ap buffer_at (own q w f tail')))
-          | inr f ↦ engine.apart r q u w (sym (item_kept tails i r v e) ∙ tail) (sym (item_kept tails i q v f) ∙ tail') same
-        ]
+    | inl e ↦ elim (cases_eq q i) [
+      | inl f ↦ e ∙ sym f
+      | inr f ↦ absurd (ready.apart q w (sym (item_kept tails i q v f) ∙ tail') (sym same ∙ ap buffer_at (own r u e tail)))
     ]
+    | inr e ↦ elim (cases_eq q i) [
+      | inl f ↦ absurd (ready.apart r u (sym (item_kept tails i r v e) ∙ tail) (same ∙ ap buffer_at (own q w f tail')))
+      | inr f ↦ engine.apart r q u w (sym (item_kept tails i r v e) ∙ tail) (sym (item_kept tails i q v f) ∙ tail') same
+    ]
+  ]
     where
-    own : (r : ℕ) (u : TagParts) → r ≡ i → slice_get new_tails r ≡ Some u → u ≡ v
-    own r u e tail = same_Some u v (sym tail ∙ ap (slice_get new_tails) e ∙ item_set tails i v t here)
+      own : (r : ℕ) (u : TagParts) → r ≡ i → slice_get new_tails r ≡ Some u → u ≡ v
+      own r u e tail = same_Some u v (sym tail ∙ ap (slice_get new_tails) e ∙ item_set tails i v t here)
 
   still_ready : Added → (put : ℕ) → puts + 1 ≤ put → HasDealt s 1 put
       → IsReady s.pool new new_tails new_used (put_tag s put)
@@ -169,31 +169,33 @@ module _ (s : Setup) (old new : List ℕ) (tails : List TagParts) (puts : ℕ) (
       record {
         tail = tail_after s.pool old new t v h added w (λ e. was.apart i t here (sym e)) was.tail;
         apart = λ r u tail e. elim (cases_eq r i) [
-            | inl f ↦ fresh (sym (ap buffer_at (same_Some u v (sym tail ∙ ap (slice_get new_tails) f ∙ item_set tails i v t here))) ∙ e)
-            | inr f ↦ was.apart r u (sym (item_kept tails i r v f) ∙ tail) e
-          ];
+          | inl f ↦ fresh (sym (ap buffer_at (same_Some u v (sym tail ∙ ap (slice_get new_tails) f ∙ item_set tails i v t here))) ∙ e)
+          | inr f ↦ was.apart r u (sym (item_kept tails i r v f) ∙ tail) e
+        ];
         unused = λ has. elim (Contains-push_cases used (tag_number v) (tag_number w) has) [
-            | inl before ↦ was.unused before
-            | inr same ↦ fresh (ap buffer_at (one_tag v w (is_tag s.pool v ready.tail.within) (is_tag s.pool w was.tail.within) same))
-          ]
+          | inl before ↦ was.unused before
+          | inr same ↦ fresh (ap buffer_at (one_tag v w (is_tag s.pool v ready.tail.within) (is_tag s.pool w was.tail.within) same))
+        ];
       }
 
   -- after a put the words stand for the map with the pair, and the put's tag was not used before
   pub put_stands : length new ≡ durable_words s.pool → Added
       → IsFresh used (tag_number v) × IsEngine s new new_tails (puts + 1) keys new_used (insert m k h)
-  put_stands size added =
-      (ready.unused, record {
-        size = size;
-        slots = engine.slots;
-        distinct = engine.distinct;
-        stands = record {
-          count = length-set tails i v ∙ engine.stands.count;
-          bound = bound added;
-          unbound = λ q none. get_other m k q h (λ e. none (subst (Contains keys) (sym e) (contained keys i k named))) ∙ engine.stands.unbound q none
-        };
-        apart = still_apart;
-        ready = still_ready added
-      })
+  put_stands size added = (
+    ready.unused,
+    record {
+      size = size;
+      slots = engine.slots;
+      distinct = engine.distinct;
+      stands = record {
+        count = length-set tails i v ∙ engine.stands.count;
+        bound = bound added;
+        unbound = λ q none. get_other m k q h (λ e. none (subst (Contains keys) (sym e) (contained keys i k named))) ∙ engine.stands.unbound q none;
+      };
+      apart = still_apart;
+      ready = still_ready added;
+    },
+  )
 
 -- what is read of the tails at a slot of a key is the tail there
 pub tail_here : (s : Setup) (words : List ℕ) (tails : List TagParts) (puts : ℕ) (keys : List (List ℕ)) (used : List ℕ) (m : Tagged) (i : ℕ) (k : List ℕ) (t : TagParts)

@@ -16,7 +16,7 @@ use Rattle.clover_words.proofs.Packing.{unpacked}
 use Rattle.clover_words.proofs.Places.{durable_below, word_set, word_kept}
 use Rattle.clover_map.specs.declared.bytes.Held.{Held}
 use Rattle.clover_map.specs.declared.bytes.Value.{Value as Pair}
-use Rattle.clover_map.specs.Legal.{held}
+use Rattle.clover_map.specs.Does.{held}
 use Rattle.clover_script.specs.Script.{room}
 use Rattle.clover_main.specs.Stands.{IsIn, IsLinked, IsDurable, IsContent, IsAddition, IsAdded, IsKeyOf, IsBinding, IsBound, KeepsBut, HasVersion, HasValue, HasKey, first_tag, meta_of, buffer_at}
 use Rattle.clover_main.proofs.Frames.{run_kept, set_kept, both_kept, value_run, key_run, content_adds, key_binds}
@@ -36,21 +36,21 @@ pub value_written : (p : Pool) (old between new : List ℕ) (b : Buffer) (v : Pa
     → HasBytes p new (Value b 0) bytes → KeepsOutside p (Value b 0) (words_of (length bytes)) between new
     → HasVersion p new (first_tag b) (Some (held (tag_number (first_tag b)) v))
 value_written p old between new b v bytes within size same are small short fits meta stored kept = record {
-    meta =
+  meta =
       kept (place p (Meta b)) (inl (omega arith))
       ∙ ap (λ l. word_in p l (Meta b)) meta
       ∙ word_set p old (Meta b) _ (omega (arith, durable_below p (Meta b) within tt))
       ∙ ap (λ l. meta_word (record { kind = (meta_of (Some (held 0 v))).kind; flags = v.flags; length = length l })) same;
-    valid = (small, short);
-    content = record {
-      tag = refl;
-      bytes = subst AreBytes same are;
-      fits = fits;
-      spelled = λ k lt.
+  valid = (small, short);
+  content = record {
+    tag = refl;
+    bytes = subst AreBytes same are;
+    fits = fits;
+    spelled = λ k lt.
         let lt' : k < words_of (length bytes) = subst (λ l. k < words_of (length l)) (sym same) lt in
-        ap (slice_index new) (omega arith) ∙ stored k lt' ∙ ap (λ l. packed l k) same
-    }
-  }
+        ap (slice_index new) (omega arith) ∙ stored k lt' ∙ ap (λ l. packed l k) same;
+  };
+}
 
 pub value_kept : (p : Pool) (old between new : List ℕ) (b : Buffer) (n : ℕ) (bytes : List ℕ)
     → IsBuffer p b → length bytes ≤ room p → between ≡ slice_set old (place p (Meta b)) n
@@ -77,19 +77,19 @@ slot_bound p old new s key b m r within slot size meta root kept named =
       root = kept (Root s) (slot, tt) (λ h. h) ∙ word_set p first (Root s) r (omega (arith, durable_below p (Root s) slot tt)) ∙ root;
       version = record {
         meta =
-          kept (Meta b) (within, tt) (λ h. h)
-          ∙ word_kept p first (Root s) (Meta b) r slot within (λ e. cc)
-          ∙ word_set p old (Meta b) m (omega (arith, durable_below p (Meta b) within tt))
-          ∙ meta;
+            kept (Meta b) (within, tt) (λ h. h)
+            ∙ word_kept p first (Root s) (Meta b) r slot within (λ e. cc)
+            ∙ word_set p old (Meta b) m (omega (arith, durable_below p (Meta b) within tt))
+            ∙ meta;
         valid = (refl, refl);
-        content = tt
+        content = tt;
       };
       named = named;
       kept =
-        both_kept (IsBinding b s) p old (slice_set first (place p (Root s)) r) new
-        (both_kept (IsBinding b s) p old first (slice_set first (place p (Root s)) r)
+          both_kept (IsBinding b s) p old (slice_set first (place p (Root s)) r) new
+          (both_kept (IsBinding b s) p old first (slice_set first (place p (Root s)) r)
           (set_kept (IsBinding b s) p old (Meta b) m within refl) (set_kept (IsBinding b s) p first (Root s) r slot refl))
-        (λ w durable other. kept w durable (λ h. other (key_binds b s w h)))
+          (λ w durable other. kept w durable (λ h. other (key_binds b s w h)));
     }
 
 abbrev pair : ℕ → List ℕ → Pair
@@ -107,8 +107,8 @@ value_read p words t (Some h) meta loaded bytes number b v here same full are si
     let count : meta.length ≡ length h.value.bytes = ap (λ m. m.length) same in
     let long : length h.value.bytes ≤ 1024 = v.valid.1 in
     let again : take (length h.value.bytes) loaded ≡ h.value.bytes =
-      unpacked h.value.bytes loaded v.content.bytes are (omega arith)
-      (λ k lt. spells k (omega (arith, count)) ∙ ap (λ c. slice_index words (place p (Value c 0) + k)) here ∙ ap (slice_index words) (omega arith) ∙ v.content.spelled k lt) in
+    unpacked h.value.bytes loaded v.content.bytes are (omega arith)
+    (λ k lt. spells k (omega (arith, count)) ∙ ap (λ c. slice_index words (place p (Value c 0) + k)) here ∙ ap (slice_index words) (omega arith) ∙ v.content.spelled k lt) in
     let whole : bytes ≡ h.value.bytes = front ∙ ap (λ n. take n loaded) count ∙ again in
     let tags : number ≡ h.tag = tag ∙ sym v.content.tag in
     let all : held number (pair meta.flags bytes) ≡ held h.tag (pair h.value.flags h.value.bytes) = cc in
@@ -121,24 +121,24 @@ pub version_kept : (p : Pool) (old new : List ℕ) (t : TagParts) (o : Option He
     → HasVersion p old t o → HasVersion p new t o
 version_kept p old new t None meta values v = record { meta = meta ∙ v.meta; valid = v.valid; content = tt }
 version_kept p old new t (Some h) meta values v = record {
-    meta = meta ∙ v.meta;
-    valid = v.valid;
-    content = record {
-      tag = v.content.tag;
-      bytes = v.content.bytes;
-      fits = v.content.fits;
-      spelled = λ k lt. let fits = v.content.fits in values k (omega arith) ∙ v.content.spelled k lt
-    }
-  }
+  meta = meta ∙ v.meta;
+  valid = v.valid;
+  content = record {
+    tag = v.content.tag;
+    bytes = v.content.bytes;
+    fits = v.content.fits;
+    spelled = λ k lt. let fits = v.content.fits in values k (omega arith) ∙ v.content.spelled k lt;
+  };
+}
 
 -- a key stands as long as its words do
 pub named_kept : (p : Pool) (old new : List ℕ) (s : ℕ) (key : List ℕ)
     → ((k : ℕ) → k < 32 → word_in p new (Key s k) ≡ word_in p old (Key s k))
     → HasKey p old s key → HasKey p new s key
 named_kept p old new s key kept h = record {
-    fits = h.fits;
-    spelled = λ k lt. let fits = h.fits in kept k (omega arith) ∙ h.spelled k lt
-  }
+  fits = h.fits;
+  spelled = λ k lt. let fits = h.fits in kept k (omega arith) ∙ h.spelled k lt;
+}
 
 -- a version was written, and then the tail linked to it
 pub version_added : (p : Pool) (old between : List ℕ) (t v : TagParts) (h : Held)
@@ -150,14 +150,14 @@ version_added p old between t v h size within fresh version kept =
     let new : List ℕ = slice_set between (place p (Next (buffer_at t))) n in
     record {
       version = version_kept p between new v (Some h)
-        (word_kept p between (Next (buffer_at t)) (Meta (buffer_at v)) n within.place fresh (λ e. cc))
-        (λ k lt. word_kept p between (Next (buffer_at t)) (Value (buffer_at v) k) n within.place (fresh, lt) (λ e. cc))
-        version;
+          (word_kept p between (Next (buffer_at t)) (Meta (buffer_at v)) n within.place fresh (λ e. cc))
+          (λ k lt. word_kept p between (Next (buffer_at t)) (Value (buffer_at v) k) n within.place (fresh, lt) (λ e. cc))
+          version;
       linked = record {
         within = within;
-        next = word_set p between (Next (buffer_at t)) n (omega (arith, durable_below p (Next (buffer_at t)) within.place tt))
+        next = word_set p between (Next (buffer_at t)) n (omega (arith, durable_below p (Next (buffer_at t)) within.place tt));
       };
       kept = both_kept (IsAddition (buffer_at v) (buffer_at t)) p old between new
-        (λ w durable other. kept w durable (λ is. other (content_adds (buffer_at v) (buffer_at t) w is)))
-        (set_kept (IsAddition (buffer_at v) (buffer_at t)) p between (Next (buffer_at t)) n within.place refl)
+          (λ w durable other. kept w durable (λ is. other (content_adds (buffer_at v) (buffer_at t) w is)))
+          (set_kept (IsAddition (buffer_at v) (buffer_at t)) p between (Next (buffer_at t)) n within.place refl);
     }

@@ -20,7 +20,7 @@ use Rattle.clover_map.specs.declared.call.Call.TheVariants.{Get, Put, Delete, Sw
 use Rattle.clover_map.specs.declared.call.Reply.{Reply}
 use Rattle.clover_map.specs.declared.call.Reply.TheVariants.{Absent, Found}
 use Rattle.clover_map.specs.Tagged.{Tagged}
-use Rattle.clover_map.specs.Legal.{IsFresh}
+use Rattle.clover_map.specs.Tags.{IsFresh}
 use Rattle.clover_script.specs.Script.{room}
 use Rattle.clover_main.specs.declared.engine.Engine.{Engine}
 

@@ -5,18 +5,21 @@ ghost use Rattle.std.specs.FinMap as finite;
 ghost use Rattle.clover_words.specs.Place.{IsBuffer, durable_words};
 ghost use Rattle.clover_words.specs.Preset.{buffers_total, HasDealt};
 ghost use Rattle.clover_words.specs.Tag.{tag_number};
-ghost use Rattle.clover_map.specs.Legal.{Does, IsFresh, held, new_tags};
+ghost use Rattle.clover_map.specs.Does.{Does, held};
+ghost use Rattle.clover_map.specs.Tags.{IsFresh, new_tags};
 ghost use Rattle.clover_map.specs.Tagged.{Tagged};
 ghost use Rattle.clover_map.specs.declared.bytes.Held.{Held};
 ghost use Rattle.clover_script.specs.Naming.{key_of, puts};
 ghost use Rattle.clover_script.specs.Script.{room};
 ghost use Rattle.clover_main.specs.Stands.{IsAt, IsServed, AreDistinct, reply_of};
 
+mod running;
 mod version;
 mod words;
 
 use clover_map::{Call, Key, OutOfMemory, Reply, Value};
 use clover_words::{Pool, Setup, Tag, dealt, tombstone};
+pub use running::run;
 use std::alloc::Global;
 use version::{append, bind, read_version, tag_of};
 
@@ -123,4 +126,3 @@ fn zeros(alloc: Global, pool: &Pool) -> Result<Vec<u64>, OutOfMemory>
         Err(_) => Err(OutOfMemory),
     }
 }
-

@@ -6,7 +6,7 @@ ghost use Rattle.clover_words.specs.Next.{next_word};
 ghost use Rattle.clover_words.specs.Place.{IsBuffer, place, durable_words};
 ghost use Rattle.clover_words.specs.Tag.{tag_number};
 ghost use Rattle.clover_map.specs.declared.bytes.Held.{Held};
-ghost use Rattle.clover_map.specs.Legal.{held};
+ghost use Rattle.clover_map.specs.Does.{held};
 ghost use Rattle.clover_script.specs.Script.{room};
 ghost use Rattle.clover_main.specs.Stands.{IsIn, HasVersion, HasKey, IsContent, IsAdded, IsBound, IsKeyOf, KeepsBut, first_tag, buffer_at};
 
@@ -123,7 +123,12 @@ fn link(pool: &Pool, words: &mut [u64], tail: Tag, next: Tag)
         own: tail.generation,
         link: Some(next),
     };
-    store(pool, words, Word::Next(buffer_of_tag(tail)), linked.encode());
+    store(
+        pool,
+        words,
+        Word::Next(buffer_of_tag(tail)),
+        linked.encode(),
+    );
 }
 
 /// Gives a slot its key, and a chain that begins with the tombstone in this buffer.
@@ -139,7 +144,12 @@ pub fn bind(pool: &Pool, words: &mut [u64], slot: u32, key: &Key, buffer: Buffer
         length: 0,
     };
     store(pool, words, Word::Meta(buffer), tombstone.encode());
-    store(pool, words, Word::Root(slot), root_encode(Some(tag_of(pool, buffer))));
+    store(
+        pool,
+        words,
+        Word::Root(slot),
+        root_encode(Some(tag_of(pool, buffer))),
+    );
     store_key(pool, words, slot, key);
 }
 
@@ -153,10 +163,5 @@ fn store_key(pool: &Pool, words: &mut [u64], slot: u32, key: &Key)
     let mut spelled = [0; 251];
     spelled[0] = bytes.len() as u8;
     spelled[1..1 + bytes.len()].copy_from_slice(bytes);
-    store_bytes(
-        pool,
-        words,
-        Word::Key(slot, 0),
-        &spelled[..1 + bytes.len()],
-    );
+    store_bytes(pool, words, Word::Key(slot, 0), &spelled[..1 + bytes.len()]);
 }

@@ -24,7 +24,7 @@ loop-slot-preserved c =
     let bound = rw (c.deref_mut.ensures.value, c.tombstone-buffer.ensures) at c.bind.ensures in
     record {
       begun = rw (words, pushed, tag)
-        (bound_begun c.args.setup.now.pool l.words.items c.bind.new.words l.cursors.items c.args.keys.now l.slot c.index-keys-slot.result
+          (bound_begun c.args.setup.now.pool l.words.items c.bind.new.words l.cursors.items c.args.keys.now l.slot c.index-keys-slot.result
           l.invariant.begun l.invariant.count named (omega arith) c.requires.buffers long bound);
-      count = grind (arith, common_steps)
+      count = grind (arith, common_steps);
     }

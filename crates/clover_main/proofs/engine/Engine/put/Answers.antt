@@ -2,7 +2,7 @@ use Rattle.std.proofs.Common.{◌≡◌, List, ℕ, ◌++◌, ap, sym, ◌∙◌
 use Rattle.std.proofs.lemmas.Option.{slice_get_within}
 use Rattle.clover_words.specs.declared.setup.Setup.{Setup}
 use Rattle.clover_words.specs.Tag.{TagParts, tag_number}
-use Rattle.clover_map.specs.Legal.{held}
+use Rattle.clover_map.specs.Does.{held}
 use Rattle.clover_main.specs.Stands.{first_tag, put_tag}
 use Rattle.clover_main.proofs.Maps.{front}
 use Rattle.clover_main.proofs.Standing.{end_in, tail_here, put_stands}
@@ -31,4 +31,4 @@ returns-clause-put c keys used m k at named =
     let added = rw (same, c.deref_mut.ensures.value) at c.append-tag.ensures.added in
     rw (words, same)
     (put_stands s c.args.self.now.words.items c.append-tag.new.words c.args.self.now.cursors.items c.args.self.now.puts keys used m c.args.slot k c.index-tail.result.now
-      (held (tag_number v) c.args.value.now) at named here c.in-Some.ensures.some.0 (long ∙ at.size) added)
+    (held (tag_number v) c.args.value.now) at named here c.in-Some.ensures.some.0 (long ∙ at.size) added)
