@@ -15,7 +15,8 @@ use Rattle.clover_map.specs.Tagged.{Tagged}
 use Rattle.clover_map.specs.Tags.{new_tags}
 use Rattle.clover_map.proofs.Runs.{leads_push, handed_push, legal_leads}
 use Rattle.clover_script.specs.Line.{IsCall, call_line, lines_of, written}
-use Rattle.clover_script.specs.Naming.{Names, key_of, puts}
+use Rattle.clover_map.specs.History.{key_of}
+use Rattle.clover_script.specs.Naming.{Names, puts}
 use Rattle.clover_script.specs.Script.{Serves, room}
 use Rattle.clover_script.specs.Text.{answer_line, entry_line}
 use Rattle.clover_script.proofs.FormLemmas.{one_call}

@@ -9,7 +9,8 @@ ghost use Rattle.clover_map.specs.Does.{Does, held};
 ghost use Rattle.clover_map.specs.Tags.{IsFresh, new_tags};
 ghost use Rattle.clover_map.specs.Tagged.{Tagged};
 ghost use Rattle.clover_map.specs.declared.bytes.Held.{Held};
-ghost use Rattle.clover_script.specs.Naming.{key_of, puts};
+ghost use Rattle.clover_map.specs.History.{key_of};
+ghost use Rattle.clover_script.specs.Naming.{puts};
 ghost use Rattle.clover_script.specs.Script.{room};
 ghost use Rattle.clover_main.specs.Stands.{IsAt, IsServed, AreDistinct, reply_of};
 

@@ -10,7 +10,6 @@ mod read;
 mod refusal;
 mod replaying;
 mod stdio;
-mod stub;
 
 pub use command::clover;
 pub use io::{Failed, Sink, Source};

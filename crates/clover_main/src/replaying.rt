@@ -5,7 +5,7 @@ ghost use Rattle.clover_main.specs.Refusing.{HasShown, status_of, line_of};
 ghost use Rattle.clover_main.specs.Replay.{HasRun, Replays, StopsShort, Refuses, IsExact};
 ghost use Rattle.clover_main.specs.declared.refusal.Refusal.TheVariants.{OutOfMemory};
 
-use crate::stub::run;
+use crate::engine::run;
 use clover_script::{ScriptFault, check_script, first_line};
 use crate::io::{Sink, Source};
 use crate::read::read_all;

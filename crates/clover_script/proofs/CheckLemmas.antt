@@ -13,7 +13,8 @@ use Rattle.clover_script.specs.declared.line.Task.{Task}
 use Rattle.clover_script.specs.declared.line.Form.TheVariants.{Calls}
 use Rattle.clover_script.specs.Form.{call_in, written_in}
 use Rattle.clover_script.specs.Line.{lines_of, pool_line, numbers_of, call_line, cut_call, IsCall, IsFormOf, written}
-use Rattle.clover_script.specs.Naming.{Names, key_of, puts}
+use Rattle.clover_map.specs.History.{key_of}
+use Rattle.clover_script.specs.Naming.{Names, puts}
 use Rattle.clover_script.specs.Script.{Serves, start_lines, opened, IsStart, IsUnbuilt, IsRefused, room, key, value, stock}
 use Rattle.clover_script.specs.Progress.{NamesKey, Admits, AcceptsLine, Bars}
 

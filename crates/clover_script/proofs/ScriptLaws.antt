@@ -14,7 +14,8 @@ use Rattle.clover_map.specs.declared.call.Call.TheVariants.{Get, Put, Delete, Sw
 use Rattle.clover_script.specs.declared.line.PoolLine.{PoolLine}
 use Rattle.clover_script.specs.Split.{EndsNumber}
 use Rattle.clover_script.specs.Line.{lines_of, pool_line, numbers_of, AreNumbers, call_line, IsCall, written}
-use Rattle.clover_script.specs.Naming.{Names, key_of, puts}
+use Rattle.clover_map.specs.History.{key_of}
+use Rattle.clover_script.specs.Naming.{Names, puts}
 use Rattle.clover_script.specs.Script.{Serves, Start, start_lines, nothing, opened, IsStart, IsScript, IsRefused, IsFirstUnbuilt, IsUnbuilt, HasBadNumbers, room, formless, early, second, numbers, key, value, stock}
 use Rattle.clover_script.proofs.NumberLemmas.{decimal_digits, one_cut}
 use Rattle.clover_script.proofs.FormLemmas.{after_same, pool_parts, one_call, buffers_on, slots_on, words_on, wear_on, clients_on, batch_on, buffers_ends, slots_ends, words_ends, wear_ends, clients_ends, batch_ends}

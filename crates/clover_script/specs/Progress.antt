@@ -4,7 +4,8 @@ use Rattle.clover_words.specs.Preset.{HasDealt}
 use Rattle.clover_map.specs.declared.call.Call.{Call}
 use Rattle.clover_script.specs.declared.progress.Progress.{Progress}
 use Rattle.clover_script.specs.Line.{call_line, IsCall, written}
-use Rattle.clover_script.specs.Naming.{key_of, puts}
+use Rattle.clover_map.specs.History.{key_of}
+use Rattle.clover_script.specs.Naming.{puts}
 use Rattle.clover_script.specs.Script.{room}
 
 -- Naming this key makes the keys named so far the new ones.

@@ -7,7 +7,8 @@ use Rattle.clover_words.specs.Range.{first_fault, first_setup_fault}
 use Rattle.clover_map.specs.declared.call.Call.{Call}
 use Rattle.clover_script.specs.declared.line.PoolLine.{PoolLine}
 use Rattle.clover_script.specs.Line.{AreNumbers, lines_of, pool_line, numbers_of, call_line, IsCall, written}
-use Rattle.clover_script.specs.Naming.{Names, key_of, puts}
+use Rattle.clover_map.specs.History.{key_of}
+use Rattle.clover_script.specs.Naming.{Names, puts}
 
 -- how many bytes a value of this pool may have
 abbrev pub room : Pool → ℕ

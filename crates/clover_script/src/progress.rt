@@ -3,7 +3,8 @@
 ghost use Rattle.std.specs.Prelude.{◌≡◌, ◌+◌, ◌≤◌, ◌<◌, ◌↔◌, ℕ, List, [], ◌∷◌, length, Contains, false, IsTrue, IfOk};
 ghost use Rattle.clover_words.specs.Preset.{HasDealt};
 ghost use Rattle.clover_map.specs.declared.call.Call.{Call};
-ghost use Rattle.clover_script.specs.Naming.{puts, key_of};
+ghost use Rattle.clover_map.specs.History.{key_of};
+ghost use Rattle.clover_script.specs.Naming.{puts};
 
 use crate::check::Outline;
 use crate::form::form_of;

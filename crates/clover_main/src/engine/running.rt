@@ -6,7 +6,7 @@ ghost use Rattle.clover_map.specs.declared.call.Call.{Call};
 ghost use Rattle.clover_map.specs.declared.call.Entry.{Entry};
 ghost use Rattle.clover_map.specs.Tagged.{Tagged};
 ghost use Rattle.clover_script.specs.Line.{IsCall, call_line, lines_of, written};
-ghost use Rattle.clover_script.specs.Naming.{key_of};
+ghost use Rattle.clover_map.specs.History.{key_of};
 ghost use Rattle.clover_script.specs.Script.{Serves};
 ghost use Rattle.clover_script.specs.Text.{answer_line, entry_line};
 ghost use Rattle.clover_main.specs.Run.{IsRunText};

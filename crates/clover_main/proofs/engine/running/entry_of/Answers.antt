@@ -2,7 +2,7 @@ use Rattle.std.proofs.Common.{◌≡◌, List, ℕ, Some, refl, ap, sym, subst, 
 use Rattle.std.specs.Prelude.{Contains, slice_get}
 use Rattle.clover_map.specs.declared.call.Call.{Call}
 use Rattle.clover_script.specs.Line.{IsCall, call_line}
-use Rattle.clover_script.specs.Naming.{key_of}
+use Rattle.clover_map.specs.History.{key_of}
 use Rattle.clover_script.proofs.FormLemmas.{one_call}
 use Rattle.clover_main.specs.Stands.{IsServed}
 use Rattle.clover_main.proofs.engine.running.entry_of.Goals as goal
