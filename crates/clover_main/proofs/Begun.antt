@@ -1,7 +1,7 @@
 -- the engine's words as it begins: chains of one tombstone
-use Rattle.std.proofs.Common.{◌≡◌, ◌≢◌, ℕ, ◌+◌, ◌-◌, ◌*◌, ◌/◌, ◌%◌, ◌^◌, ◌<◌, ◌≤◌, ◌⊎◌, inl, inr, List, [], ◌∷◌, ◌++◌, length, Option, Some, None, refl, ap, sym, ◌∙◌, subst, arith}
+use Rattle.std.proofs.Common.{◌≡◌, ◌≢◌, ℕ, ◌*◌, ◌/◌, ◌<◌, ◌≤◌, inl, inr, List, [], ◌∷◌, ◌++◌, length, Option, Some, None, refl, ap, sym, ◌∙◌, subst, arith}
 use Rattle.std.specs.Prelude.{slice_get}
-use Rattle.std.specs.FinMap.{get, empty, get-empty}
+use Rattle.std.specs.FinMap.{empty, get-empty}
 use Rattle.std.specs.Ordering.{nat_cmp}
 use Rattle.std.specs.Cmp.Lexicographic.{slice_cmp}
 use Rattle.std.proofs.lemmas.Option.{same_Some, slice_get_within}
@@ -11,12 +11,10 @@ use Rattle.clover_words.specs.declared.word.Buffer.{Buffer}
 use Rattle.clover_words.specs.declared.word.Word.TheVariants.{Next, Meta, Value, Root, Key}
 use Rattle.clover_words.specs.Next.{next_word, root_word}
 use Rattle.clover_words.specs.Place.{IsBuffer, word_in, durable_words, buffer_of}
-use Rattle.clover_words.specs.Preset.{buffers_total, dealt_number, tombstone_number, HasDealt}
-use Rattle.clover_words.specs.Tag.{TagParts, tag_number}
+use Rattle.clover_words.specs.Preset.{buffers_total, dealt_number, tombstone_number}
+use Rattle.clover_words.specs.Tag.{TagParts}
 use Rattle.clover_map.specs.declared.bytes.Held.{Held}
-use Rattle.clover_map.specs.Tagged.{Tagged}
-use Rattle.clover_map.specs.Tags.{IsFresh}
-use Rattle.clover_main.specs.Stands.{IsIn, IsTail, buffer_at, first_tag, HasVersion, HasKey, SlotHas, AreDistinct, AreApart, IsReady, put_tag, IsEngine, IsBound}
+use Rattle.clover_main.specs.Stands.{IsIn, buffer_at, first_tag, HasVersion, HasKey, SlotHas, AreDistinct, IsEngine, IsBound}
 use Rattle.clover_main.proofs.Maps.{item_pushed, item_within}
 use Rattle.clover_main.proofs.Standing.{one_number}
 use Rattle.clover_main.proofs.Versions.{version_kept, named_kept}

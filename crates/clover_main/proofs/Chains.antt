@@ -1,13 +1,11 @@
 -- chains, after writes to words that they use or do not use
-use Rattle.std.proofs.Common.{◌≡◌, ◌≢◌, ℕ, ◌+◌, ◌*◌, ◌^◌, ◌<◌, ◌≤◌, List, [], ◌∷◌, ◌++◌, length, Option, Some, None, refl, ap, sym, ◌∙◌, arith}
-use Rattle.std.specs.Prelude.{slice_index, slice_set}
+use Rattle.std.proofs.Common.{◌≡◌, ◌≢◌, ℕ, ◌*◌, ◌<◌, ◌≤◌, List, [], ◌∷◌, ◌++◌, Some, None, refl, ap, sym, ◌∙◌, arith}
 use Rattle.clover_words.specs.declared.pool.Pool.{Pool}
 use Rattle.clover_words.specs.declared.word.Buffer.{Buffer}
-use Rattle.clover_words.specs.declared.word.Word.{Word}
-use Rattle.clover_words.specs.declared.word.Word.TheVariants.{Next, Meta, Value, Root, Key}
-use Rattle.clover_words.specs.Next.{NextParts, IsNext, next_word}
-use Rattle.clover_words.specs.Place.{IsBuffer, IsWithin, place, word_in, durable_words}
-use Rattle.clover_words.specs.Tag.{TagParts, IsTag, tag_number}
+use Rattle.clover_words.specs.declared.word.Word.TheVariants.{Next}
+use Rattle.clover_words.specs.Next.{NextParts, next_word}
+use Rattle.clover_words.specs.Place.{IsBuffer, word_in}
+use Rattle.clover_words.specs.Tag.{TagParts, IsTag}
 use Rattle.clover_words.proofs.Spellings.{one_next}
 use Rattle.clover_main.specs.Stands.{IsIn, IsTail, IsLinked, Chain, last_of, buffer_at}
 

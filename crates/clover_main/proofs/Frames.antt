@@ -1,14 +1,14 @@
 -- what a write keeps, and what it leaves in the words that it changes
-use Rattle.std.proofs.Common.{◌≡◌, ◌≢◌, ℕ, ◌+◌, ◌-◌, ◌*◌, ◌<◌, ◌≤◌, ◌⊎◌, inl, inr, List, length, refl, ap, sym, ◌∙◌, subst, arith}
+use Rattle.std.proofs.Common.{◌≡◌, ℕ, ◌+◌, ◌-◌, ◌<◌, ◌≤◌, ◌⊎◌, inl, inr, List, refl, sym, ◌∙◌, subst, arith}
 use Rattle.std.specs.Prelude.{slice_index, slice_set}
 use Rattle.std.proofs.lemmas.Bool.{cases_lt}
 use Rattle.clover_words.specs.declared.pool.Pool.{Pool}
 use Rattle.clover_words.specs.declared.word.Buffer.{Buffer}
 use Rattle.clover_words.specs.declared.word.Word.{Word}
 use Rattle.clover_words.specs.declared.word.Word.TheVariants.{Next, Meta, Value, Root, Key, Short, Count}
-use Rattle.clover_words.specs.Place.{IsBuffer, IsWithin, place, word_in}
+use Rattle.clover_words.specs.Place.{IsBuffer, IsWithin, place}
 use Rattle.clover_words.proofs.Places.{one_place, word_kept}
-use Rattle.clover_main.specs.Stands.{IsDurable, IsContent, IsAddition, IsKeyOf, IsBinding, KeepsBut}
+use Rattle.clover_main.specs.Stands.{IsContent, IsAddition, IsKeyOf, IsBinding, KeepsBut}
 
 -- a place lies outside of a run of places, or is one of them
 where_is : (i from count : ℕ) → ((i < from) ⊎ (from + count ≤ i)) ⊎ ((k : ℕ) × (k < count) × (from + k ≡ i))

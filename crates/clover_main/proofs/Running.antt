@@ -1,18 +1,15 @@
 -- a run of a script's calls, as far as it has come
-use Rattle.std.proofs.Common.{◌≡◌, ℕ, suc, ◌+◌, ◌*◌, ◌^◌, ◌<◌, ◌≤◌, ◌⊎◌, inl, inr, List, [], ◌∷◌, ◌++◌, length, map, flat_map, Option, Some, None, refl, ap, sym, ◌∙◌, subst, arith, append_assoc, append-nil, length-append}
-use Rattle.std.specs.Prelude.{slice_get, Contains, All, codes}
+use Rattle.std.proofs.Common.{◌≡◌, ℕ, suc, ◌+◌, ◌<◌, ◌≤◌, inl, inr, List, [], ◌∷◌, ◌++◌, length, map, flat_map, refl, ap, sym, ◌∙◌, subst, arith, append_assoc, append-nil, length-append}
+use Rattle.std.specs.Prelude.{Contains, All, codes}
 use Rattle.std.specs.FinMap.{empty}
 use Rattle.std.proofs.lemmas.List.Elements.{All-cons, Contains-append_left, Contains-push}
-use Rattle.clover_words.specs.declared.pool.Pool.{Pool}
 use Rattle.clover_words.specs.declared.setup.Setup.{Setup}
 use Rattle.clover_words.specs.Preset.{HasDealt}
 use Rattle.clover_map.specs.declared.call.Call.{Call}
 use Rattle.clover_map.specs.declared.call.Call.TheVariants.{Get, Put, Delete, Swap}
 use Rattle.clover_map.specs.declared.call.Entry.{Entry}
-use Rattle.clover_map.specs.Does.{Does}
-use Rattle.clover_map.specs.Legal.{Legal, Leads, handed}
+use Rattle.clover_map.specs.Legal.{Leads, handed}
 use Rattle.clover_map.specs.Tagged.{Tagged}
-use Rattle.clover_map.specs.Tags.{new_tags}
 use Rattle.clover_map.proofs.Runs.{leads_push, handed_push, legal_leads}
 use Rattle.clover_script.specs.Line.{IsCall, call_line, lines_of, written}
 use Rattle.clover_map.specs.History.{key_of}
@@ -21,7 +18,7 @@ use Rattle.clover_script.specs.Script.{Serves, room}
 use Rattle.clover_script.specs.Text.{answer_line, entry_line}
 use Rattle.clover_script.proofs.FormLemmas.{one_call}
 use Rattle.clover_main.specs.declared.engine.Engine.{Engine}
-use Rattle.clover_main.specs.Run.{Answers, IsRunText, output}
+use Rattle.clover_main.specs.Run.{Answers, IsRunText}
 use Rattle.clover_main.specs.Stands.{IsAt, IsServed}
 use Rattle.clover_main.specs.Step.{IsStep}
 

@@ -1,28 +1,23 @@
 -- the engine's words after a put
-use Rattle.std.proofs.Common.{◌≡◌, ◌≢◌, ℕ, ◌+◌, ◌-◌, ◌*◌, ◌/◌, ◌%◌, ◌^◌, ◌<◌, ◌≤◌, ◌⊎◌, inl, inr, get_or, List, [], ◌∷◌, ◌++◌, length, Option, Some, None, refl, ap, sym, ◌∙◌, subst, arith}
-use Rattle.std.specs.Prelude.{slice_index, slice_set, slice_get, Contains}
+use Rattle.std.proofs.Common.{◌≡◌, ◌≢◌, ℕ, ◌+◌, ◌*◌, ◌/◌, ◌%◌, ◌<◌, ◌≤◌, inl, inr, get_or, List, [], ◌∷◌, ◌++◌, length, Option, Some, refl, ap, sym, ◌∙◌, subst, arith}
+use Rattle.std.specs.Prelude.{slice_set, slice_get, Contains}
 use Rattle.std.specs.FinMap.{get, insert}
 use Rattle.std.proofs.Math.Nat.{div-add-mod}
-use Rattle.std.proofs.lemmas.Bool.{cases_eq, cases_order}
+use Rattle.std.proofs.lemmas.Bool.{cases_eq}
 use Rattle.std.proofs.lemmas.List.{length-set}
 use Rattle.std.proofs.lemmas.List.Elements.{Contains-push_cases, Contains-from_at}
 use Rattle.std.proofs.lemmas.Option.{same_Some, slice_get_within, slice_get_read, get_or_from_slice_get}
 use Rattle.clover_words.specs.declared.pool.Pool.{Pool}
 use Rattle.clover_words.specs.declared.setup.Setup.{Setup}
-use Rattle.clover_words.specs.declared.word.Buffer.{Buffer}
-use Rattle.clover_words.specs.declared.word.Word.{Word}
-use Rattle.clover_words.specs.declared.word.Word.TheVariants.{Next, Meta, Value, Root, Key, Short, Count}
-use Rattle.clover_words.specs.Next.{next_word, root_word}
-use Rattle.clover_words.specs.Place.{IsBuffer, IsWithin, place, word_in, durable_words, buffer_of}
+use Rattle.clover_words.specs.declared.word.Word.TheVariants.{Next, Meta, Value, Root, Key}
+use Rattle.clover_words.specs.Place.{word_in, durable_words, buffer_of}
 use Rattle.clover_words.specs.Preset.{dealt_number, HasDealt}
-use Rattle.clover_words.specs.Tag.{TagParts, IsTag, tag_number}
+use Rattle.clover_words.specs.Tag.{TagParts, tag_number}
 use Rattle.clover_words.proofs.Spellings.{one_tag}
 use Rattle.clover_map.specs.declared.bytes.Held.{Held}
-use Rattle.clover_map.specs.declared.bytes.Value.{Value as Pair}
 use Rattle.clover_map.specs.Tagged.{Tagged}
-use Rattle.clover_map.specs.Does.{held}
 use Rattle.clover_map.specs.Tags.{IsFresh}
-use Rattle.clover_main.specs.Stands.{IsIn, IsTail, IsLinked, Chain, last_of, buffer_at, first_tag, HasVersion, HasKey, SlotHas, StandsFor, AreDistinct, AreApart, IsReady, put_tag, IsEngine, IsAdded}
+use Rattle.clover_main.specs.Stands.{IsTail, IsLinked, buffer_at, HasKey, SlotHas, AreApart, IsReady, put_tag, IsEngine, IsAdded}
 use Rattle.clover_main.proofs.Chains.{is_tag, last_tail, KeepsLinks, other_linked, chain_grown, last_grown}
 use Rattle.clover_main.proofs.Maps.{get_put, get_other, item_set, item_kept}
 use Rattle.clover_main.proofs.Versions.{version_kept, named_kept}

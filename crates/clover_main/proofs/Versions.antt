@@ -1,16 +1,16 @@
 -- what the words of a version and of a slot say after they were written
-use Rattle.std.proofs.Common.{◌≡◌, ◌≢◌, ℕ, ◌+◌, ◌-◌, ◌*◌, ◌^◌, ◌<◌, ◌≤◌, ◌⊎◌, inl, inr, List, ◌∷◌, length, take, Option, Some, None, refl, ap, sym, ◌∙◌, subst, arith}
+use Rattle.std.proofs.Common.{◌≡◌, ℕ, ◌+◌, ◌^◌, ◌<◌, ◌≤◌, ◌⊎◌, inl, List, length, take, Option, Some, None, refl, ap, sym, ◌∙◌, subst, arith}
 use Rattle.std.specs.Prelude.{slice_index, slice_set}
 use Rattle.std.proofs.lemmas.List.{length-set}
 use Rattle.clover_words.specs.declared.pool.Pool.{Pool}
 use Rattle.clover_words.specs.declared.word.Buffer.{Buffer}
 use Rattle.clover_words.specs.declared.word.Word.{Word}
 use Rattle.clover_words.specs.declared.word.Word.TheVariants.{Next, Meta, Value, Root, Key}
-use Rattle.clover_words.specs.declared.meta.Kind.TheVariants.{Tombstone, Value as ValueKind}
+use Rattle.clover_words.specs.declared.meta.Kind.TheVariants.{Value as ValueKind}
 use Rattle.clover_words.specs.Meta.{MetaParts, meta_word}
 use Rattle.clover_words.specs.Next.{next_word, root_word}
 use Rattle.clover_words.specs.Pack.{AreBytes, packed, words_of}
-use Rattle.clover_words.specs.Place.{IsBuffer, IsWithin, place, word_in, durable_words}
+use Rattle.clover_words.specs.Place.{IsBuffer, place, word_in, durable_words}
 use Rattle.clover_words.specs.Tag.{TagParts, tag_number}
 use Rattle.clover_words.proofs.Packing.{unpacked}
 use Rattle.clover_words.proofs.Places.{durable_below, word_set, word_kept}
@@ -18,7 +18,7 @@ use Rattle.clover_map.specs.declared.bytes.Held.{Held}
 use Rattle.clover_map.specs.declared.bytes.Value.{Value as Pair}
 use Rattle.clover_map.specs.Does.{held}
 use Rattle.clover_script.specs.Script.{room}
-use Rattle.clover_main.specs.Stands.{IsIn, IsLinked, IsDurable, IsContent, IsAddition, IsAdded, IsKeyOf, IsBinding, IsBound, KeepsBut, HasVersion, HasValue, HasKey, first_tag, meta_of, buffer_at}
+use Rattle.clover_main.specs.Stands.{IsIn, IsContent, IsAddition, IsAdded, IsKeyOf, IsBinding, IsBound, KeepsBut, HasVersion, HasKey, first_tag, meta_of, buffer_at}
 use Rattle.clover_main.proofs.Frames.{run_kept, set_kept, both_kept, value_run, key_run, content_adds, key_binds}
 
 -- the places outside of so many from the place of this word on are as before

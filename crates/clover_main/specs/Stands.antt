@@ -1,22 +1,22 @@
 -- words that stand for a map: versions, the chains that lead to them, and the slots where chains begin
-use Rattle.std.specs.Prelude.{◌≡◌, ℕ, ◌+◌, ◌*◌, ◌<◌, ◌≤◌, Option, Some, None, List, [], ◌∷◌, ◌++◌, length, slice_get, Contains}
+use Rattle.std.specs.Prelude.{◌≡◌, ℕ, ◌+◌, ◌<◌, ◌≤◌, Option, Some, None, List, [], ◌∷◌, length, slice_get, Contains}
 use Rattle.std.specs.FinMap.{get}
 use Rattle.clover_words.specs.declared.pool.Pool.{Pool}
 use Rattle.clover_words.specs.declared.setup.Setup.{Setup}
 use Rattle.clover_words.specs.declared.word.Buffer.{Buffer}
 use Rattle.clover_words.specs.declared.word.Word.{Word}
-use Rattle.clover_words.specs.declared.word.Word.TheVariants.{Next, Meta, Value, Root, Key, Short, Count}
+use Rattle.clover_words.specs.declared.word.Word.TheVariants.{Next, Meta, Value, Root, Key}
 use Rattle.clover_words.specs.declared.word.Side.TheVariants.{Flushed}
 use Rattle.clover_words.specs.declared.meta.Kind.TheVariants.{Value as ValueKind, Tombstone}
 use Rattle.clover_words.specs.Meta.{MetaParts, IsMeta, meta_word}
-use Rattle.clover_words.specs.Next.{NextParts, next_word, root_word}
+use Rattle.clover_words.specs.Next.{next_word, root_word}
 use Rattle.clover_words.specs.Pack.{AreBytes, words_of, packed}
-use Rattle.clover_words.specs.Place.{IsBuffer, IsWithin, HasSide, place, word_in, buffer_of, durable_words}
+use Rattle.clover_words.specs.Place.{IsBuffer, IsWithin, HasSide, word_in, buffer_of, durable_words}
 use Rattle.clover_words.specs.Preset.{dealt_number, HasDealt}
 use Rattle.clover_words.specs.Tag.{TagParts, tag_number}
 use Rattle.clover_map.specs.declared.bytes.Held.{Held}
 use Rattle.clover_map.specs.declared.call.Call.{Call}
-use Rattle.clover_map.specs.declared.call.Call.TheVariants.{Get, Put, Delete, Swap}
+use Rattle.clover_map.specs.declared.call.Call.TheVariants.{Get, Put}
 use Rattle.clover_map.specs.declared.call.Reply.{Reply}
 use Rattle.clover_map.specs.declared.call.Reply.TheVariants.{Absent, Found}
 use Rattle.clover_map.specs.Tagged.{Tagged}

@@ -83,7 +83,7 @@ pub fn read_version(
         Kind::Tombstone => Ok(None),
         Kind::Value => {
             let loaded = load_bytes(pool, words, Word::Value(buffer, 0), meta.length);
-            let Ok(bytes) = Bytes::of(alloc, &loaded.bytes[..meta.length as usize]) else {
+            let Ok(bytes) = Bytes::of(alloc, loaded.value()) else {
                 return Err(OutOfMemory);
             };
             let value = Value {

@@ -61,24 +61,21 @@ pub fn load_bytes(pool: &Pool, words: &[u64], first: Word, count: u32) -> ValueB
     requires room { place pool.now first + words_of count ≤ durable_words pool.now }
     ensures length { result.length ≡ count }
     ensures loaded { (k : ℕ) → k < words_of count → packed result.bytes k ≡ slice_index words.now (place pool.now first + k) }
-    ensures bytes { AreBytes result.bytes }
-    ensures whole { length result.bytes ≡ 1024 }
 {
     let from = place_of(pool, first);
-    let mut into = ValueBuf {
-        bytes: [0; 1024],
-        length: count,
-    };
+    let mut into = room_for(count);
     for k in 0..count.div_ceil(8) {
         unpack(words[from + k as usize], k, &mut into);
     }
-    known_as_bytes(&into.bytes);
     into
 }
 
-// The numbers of a list of bytes are below 256. Does nothing: it says so to proofs.
-fn known_as_bytes(bytes: &[u8])
-    ensures { AreBytes bytes.now }
+// Room for so many bytes.
+fn room_for(count: u32) -> ValueBuf
+    requires { count ≤ 1024 }
+    ensures { result.length ≡ count }
 {
-    let _ = bytes;
+    let mut room = ValueBuf::new();
+    room.length = count;
+    room
 }

@@ -1,7 +1,6 @@
 use Rattle.std.proofs.Common.{◌≡◌, List, ℕ, Some, get_or, ap, sym, ◌∙◌}
 use Rattle.std.specs.Prelude.{slice_get}
 use Rattle.std.specs.FinMap.{get}
-use Rattle.clover_words.specs.declared.tag.Tag.{Tag}
 use Rattle.clover_words.specs.Tag.{TagParts}
 use Rattle.clover_map.specs.Tagged.{Tagged}
 use Rattle.clover_main.specs.declared.engine.Engine.{Engine}

@@ -1,7 +1,6 @@
-use Rattle.std.proofs.Common.{◌≡◌, ◌≤◌, ◌++◌, ◌∷◌, [], ℕ, List, length, drop, ap, sym, refl, ◌∙◌, arith}
+use Rattle.std.proofs.Common.{◌≡◌, ◌++◌, ◌∷◌, [], length, drop, ap, sym, refl, ◌∙◌, arith}
 use Rattle.std.proofs.lemmas.Grind.{common_steps}
 use Rattle.std.proofs.lemmas.Option.{slice_get_read}
-use Rattle.clover_words.specs.Tag.{TagParts}
 use Rattle.clover_main.specs.Stands.{first_tag}
 use Rattle.clover_main.proofs.Begun.{tombstone_tag, bound_begun, begun_stands}
 use Rattle.clover_main.proofs.Maps.{front}

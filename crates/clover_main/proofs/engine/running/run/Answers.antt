@@ -1,4 +1,4 @@
-use Rattle.std.proofs.Common.{◌≡◌, List, ℕ, length, arith}
+use Rattle.std.proofs.Common.{◌≡◌, length, arith}
 use Rattle.std.proofs.lemmas.Result.{IfOk-weaker}
 use Rattle.clover_main.proofs.Running.{begun_run, next_served, one_more, all_run}
 use Rattle.clover_main.proofs.engine.running.run.Goals as goal

@@ -1,4 +1,4 @@
-use Rattle.std.proofs.Common.{ap, ◌∙◌, subst, Some}
+use Rattle.std.proofs.Common.{ap, ◌∙◌, Some}
 use Rattle.clover_words.specs.Next.{root_word}
 use Rattle.clover_main.proofs.Versions.{slot_bound}
 use Rattle.clover_main.proofs.engine.version.bind.Goals as goal

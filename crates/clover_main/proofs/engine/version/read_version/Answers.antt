@@ -1,4 +1,4 @@
-use Rattle.std.proofs.Common.{◌≡◌, Some, Option, ap, sym, ◌∙◌}
+use Rattle.std.proofs.Common.{take, ap, sym, ◌∙◌}
 use Rattle.std.proofs.lemmas.Option.{same_Some}
 use Rattle.clover_words.specs.declared.word.Word.TheVariants.{Meta}
 use Rattle.clover_words.specs.Meta.{MetaParts}
@@ -13,6 +13,7 @@ returns-in-Ok c o v =
     let here = c.buffer_of_tag-buffer.ensures in
     let word = sym v.meta ∙ ap (λ b. word_in c.args.pool.now c.args.words.now (Meta b)) (sym here) ∙ sym c.load.ensures in
     let decoded = sym c.in-Some.is ∙ c.decode.ensures.only (meta_of o) v.valid word in
+    let front = c.in-Ok.ensures.value ∙ c.value.ensures ∙ ap (λ n. take n c.load_bytes-loaded.result.bytes) c.load_bytes-loaded.ensures.length in
     value_read c.args.pool.now c.args.words.now c.args.tag o meta c.load_bytes-loaded.result.bytes c.in-Ok.bytes c.number.result c.buffer_of_tag-buffer.result
-    v here (c.meta.view_is ∙ same_Some c.in-Some.meta (meta_of o) decoded) c.in-Value.is c.load_bytes-loaded.ensures.bytes c.load_bytes-loaded.ensures.whole
-    c.load_bytes-loaded.ensures.loaded c.in-Ok.ensures.value c.number.ensures.value
+    v here (c.meta.view_is ∙ same_Some c.in-Some.meta (meta_of o) decoded) c.in-Value.is c.load_bytes-loaded.result.room.bytes c.load_bytes-loaded.result.room.size
+    c.load_bytes-loaded.ensures.loaded front c.number.ensures.value
