@@ -1,5 +1,5 @@
 -- which statuses there can be where no count rose
-use Rattle.std.proofs.Common.{◌≡◌, ◌⊎◌, ◌+◌, ◌<◌, ◌≤◌, ℕ, List, ◌++◌, Option, Some, None, length, inl, inr, ap, subst, sym, ◌∙◌, arith, append-nil, length-append}
+use Rattle.std.proofs.Common.{◌≡◌, ◌⊎◌, ◌<◌, ◌≤◌, ℕ, List, ◌++◌, Option, Some, None, length, inl, inr, ap, subst, sym, ◌∙◌, arith, append-nil, length-append}
 use Rattle.std.proofs.lemmas.Bool.{cases_eq}
 use Rattle.std.specs.Io.KnownBytes.{Consumes, IsAtEnd}
 use Rattle.clover_words.specs.declared.setup.Setup.{Setup}
@@ -8,7 +8,7 @@ use Rattle.clover_script.specs.Script.{IsScript, IsRefused}
 use Rattle.clover_main.specs.declared.refusal.Refusal.{Refusal}
 use Rattle.clover_main.specs.declared.refusal.Refusal.TheVariants.{BadLine, TooMuchInput, ReadFault, OutOfMemory, BadWords}
 use Rattle.clover_main.specs.Causes.{Rose}
-use Rattle.clover_main.specs.Reading.{Reads, TakesMore, input_limit}
+use Rattle.clover_main.specs.Reading.{Reads, input_limit}
 use Rattle.clover_main.specs.Refusing.{status_of, HasShown}
 use Rattle.clover_main.specs.Replay.{Replays, Refuses, IsExact}
 use Rattle.clover_script.proofs.ScriptLaws.{not_refused}
@@ -94,7 +94,9 @@ exact status left after taken now sb sf kb kf zero one two three most text is so
           let run = done.run in
           let read : Reads (Some text) after run.text = subst (λ l. Reads l after run.text) is run.read in
           let same : run.text ≡ text = all_given text run.text after read.taken read.ended in (
-            run.replay.setup, run.replay.calls, run.replay.keys,
+            run.replay.setup,
+            run.replay.calls,
+            run.replay.keys,
             subst (λ t. IsScript t run.replay.setup run.replay.calls run.replay.keys) same run.replay.script,
             subst (λ (t : List ℕ). length t ≤ input_limit) same read.short,
           );

@@ -6,10 +6,10 @@ ghost use Rattle.clover_main.specs.Replay.{HasRun, Replays, StopsShort, Refuses,
 ghost use Rattle.clover_main.specs.declared.refusal.Refusal.TheVariants.{OutOfMemory};
 
 use crate::engine::run;
-use clover_script::{ScriptFault, check_script, first_line};
 use crate::io::{Sink, Source};
 use crate::read::read_all;
 use crate::refusal::{Refusal, refuse};
+use clover_script::{ScriptFault, check_script, first_line};
 use std::alloc::Global;
 
 /// Reads a script from the source, and puts its answers and its history into the sink. Answers the

@@ -92,7 +92,12 @@ fn sessions_are_printed_byte_for_byte(rt: HostRuntime) -> Result<(), Fail> {
         let text = bulk(alloc, session.text.as_bytes())?;
         let (status, sink) = run(alloc, &["replay"], text, &[], 4096, &[])?;
         assert_eq!(rt; status, session.status, "{}", session.text);
-        assert_eq!(rt; sink.bytes(), session.printed.as_bytes(), "{}", session.text);
+        assert_eq!(rt;
+            sink.bytes(),
+            session.printed.as_bytes(),
+            "{}",
+            session.text
+        );
     }
     Ok(())
 }
