@@ -21,104 +21,106 @@ struct Case {
     printed: &'static [u8],
 }
 
+// What fails, and what is answered and printed then.
+const CASES: [Case; 11] = [
+    // the take that gives the text, and the one that finds its end
+    Case {
+        text: SCRIPT,
+        failing_takes: &[1],
+        room: 4096,
+        failing_puts: &[],
+        status: 2,
+        printed: b"error read\n",
+    },
+    Case {
+        text: SCRIPT,
+        failing_takes: &[2],
+        room: 4096,
+        failing_puts: &[],
+        status: 2,
+        printed: b"error read\n",
+    },
+    // no third one is made
+    Case {
+        text: SCRIPT,
+        failing_takes: &[3],
+        room: 4096,
+        failing_puts: &[],
+        status: 0,
+        printed: PRINTED,
+    },
+    // the one piece of the output, by the list and for want of room
+    Case {
+        text: SCRIPT,
+        failing_takes: &[],
+        room: 4096,
+        failing_puts: &[1],
+        status: 3,
+        printed: b"",
+    },
+    Case {
+        text: SCRIPT,
+        failing_takes: &[],
+        room: 10,
+        failing_puts: &[],
+        status: 3,
+        printed: b"",
+    },
+    Case {
+        text: SCRIPT,
+        failing_takes: &[],
+        room: 4096,
+        failing_puts: &[2],
+        status: 0,
+        printed: PRINTED,
+    },
+    // a failing write of a refusal leaves its status, and a front of its line
+    Case {
+        text: SCRIPT,
+        failing_takes: &[1],
+        room: 4096,
+        failing_puts: &[1],
+        status: 2,
+        printed: b"",
+    },
+    Case {
+        text: UNBUILT,
+        failing_takes: &[],
+        room: 4096,
+        failing_puts: &[1],
+        status: 1,
+        printed: b"",
+    },
+    Case {
+        text: UNBUILT,
+        failing_takes: &[],
+        room: 4096,
+        failing_puts: &[2],
+        status: 1,
+        printed: b"error badline ",
+    },
+    Case {
+        text: UNBUILT,
+        failing_takes: &[],
+        room: 4096,
+        failing_puts: &[3],
+        status: 1,
+        printed: b"error badline 2",
+    },
+    Case {
+        text: UNBUILT,
+        failing_takes: &[],
+        room: 4096,
+        failing_puts: &[4],
+        status: 1,
+        printed: b"error badline 2 unbuilt\n",
+    },
+];
+
 #[test]
 fn each_failing_call_has_its_status(rt: HostRuntime) -> Result<(), Fail> {
     let alloc = rt.alloc();
-    let cases = [
-        // the take that gives the text, and the one that finds its end
-        Case {
-            text: SCRIPT,
-            failing_takes: &[1],
-            room: 4096,
-            failing_puts: &[],
-            status: 2,
-            printed: b"error read\n",
-        },
-        Case {
-            text: SCRIPT,
-            failing_takes: &[2],
-            room: 4096,
-            failing_puts: &[],
-            status: 2,
-            printed: b"error read\n",
-        },
-        // no third one is made
-        Case {
-            text: SCRIPT,
-            failing_takes: &[3],
-            room: 4096,
-            failing_puts: &[],
-            status: 0,
-            printed: PRINTED,
-        },
-        // the one piece of the output, by the list and for want of room
-        Case {
-            text: SCRIPT,
-            failing_takes: &[],
-            room: 4096,
-            failing_puts: &[1],
-            status: 3,
-            printed: b"",
-        },
-        Case {
-            text: SCRIPT,
-            failing_takes: &[],
-            room: 10,
-            failing_puts: &[],
-            status: 3,
-            printed: b"",
-        },
-        Case {
-            text: SCRIPT,
-            failing_takes: &[],
-            room: 4096,
-            failing_puts: &[2],
-            status: 0,
-            printed: PRINTED,
-        },
-        // a failing write of a refusal leaves its status, and a front of its line
-        Case {
-            text: SCRIPT,
-            failing_takes: &[1],
-            room: 4096,
-            failing_puts: &[1],
-            status: 2,
-            printed: b"",
-        },
-        Case {
-            text: UNBUILT,
-            failing_takes: &[],
-            room: 4096,
-            failing_puts: &[1],
-            status: 1,
-            printed: b"",
-        },
-        Case {
-            text: UNBUILT,
-            failing_takes: &[],
-            room: 4096,
-            failing_puts: &[2],
-            status: 1,
-            printed: b"error badline ",
-        },
-        Case {
-            text: UNBUILT,
-            failing_takes: &[],
-            room: 4096,
-            failing_puts: &[3],
-            status: 1,
-            printed: b"error badline 2",
-        },
-        Case {
-            text: UNBUILT,
-            failing_takes: &[],
-            room: 4096,
-            failing_puts: &[4],
-            status: 1,
-            printed: b"error badline 2 unbuilt\n",
-        },
-    ];
-    for case in &cases {
+    for case in &CASES {
         let (status, sink) = run(
             alloc,
             &["replay"],
