@@ -1,5 +1,5 @@
-//! A list that grows at its end. Contracts see it as the list of its items; taking its one kind of
-//! memory may fail, and then the item comes back. The list types of the crates above are names of it.
+//! A list that grows at its end, which contracts see as the list of its items. Pushing may want memory, and
+//! where there is none the item comes back. The list types of the crates above are names of it.
 #![tactic(auto)]
 
 ghost use Rattle.std.specs.Prelude.{◌≡◌, ◌++◌, ◌∷◌, [], OnOk, OnErr, IfErr};
@@ -48,5 +48,25 @@ impl<T> ItemList<T> {
         ensures { result.now ≡ self.now }
     {
         &self.items
+    }
+}
+
+#[cfg(test)]
+mod tests {
+    use super::*;
+
+    // The only thing that no clause says: with memory at hand, items are taken. At two types of item.
+    #[test]
+    fn keeps_what_is_pushed(rt: HostRuntime) {
+        let mut numbers = ItemList::make(rt.alloc());
+        assert!(rt; numbers.items().is_empty());
+        for number in [3u64, 1, 2] {
+            assert!(rt; numbers.push(number).is_ok());
+        }
+        assert!(rt; numbers.items() == [3u64, 1, 2].as_slice());
+        let mut pairs = ItemList::make(rt.alloc());
+        assert!(rt; pairs.push((1u32, true)).is_ok());
+        assert!(rt; pairs.push((2u32, false)).is_ok());
+        assert!(rt; pairs.items() == [(1u32, true), (2, false)].as_slice());
     }
 }

@@ -1,5 +1,5 @@
 -- which statuses there can be where no count rose
-use Rattle.std.proofs.Common.{◌≡◌, ◌⊎◌, ◌+◌, ◌<◌, ◌≤◌, ℕ, List, ◌++◌, Option, Some, None, length, inl, inr, ap, subst, sym, ◌∙◌, arith, append-nil, length-append}
+use Rattle.std.proofs.Common.{◌≡◌, ◌⊎◌, ◌<◌, ◌≤◌, ℕ, List, ◌++◌, Option, Some, None, length, inl, inr, ap, subst, sym, ◌∙◌, arith, append-nil, length-append}
 use Rattle.std.proofs.lemmas.Bool.{cases_eq}
 use Rattle.std.specs.Io.KnownBytes.{Consumes, IsAtEnd}
 use Rattle.clover_words.specs.declared.setup.Setup.{Setup}
@@ -8,12 +8,10 @@ use Rattle.clover_script.specs.Script.{IsScript, IsRefused}
 use Rattle.clover_main.specs.declared.refusal.Refusal.{Refusal}
 use Rattle.clover_main.specs.declared.refusal.Refusal.TheVariants.{BadLine, TooMuchInput, ReadFault, OutOfMemory, BadWords}
 use Rattle.clover_main.specs.Causes.{Rose}
-use Rattle.clover_main.specs.Reading.{Reads, TakesMore, input_limit}
+use Rattle.clover_main.specs.Reading.{Reads, input_limit}
 use Rattle.clover_main.specs.Refusing.{status_of, HasShown}
 use Rattle.clover_main.specs.Replay.{Replays, Refuses, IsExact}
-
-not_both : (text : List ℕ) (s : Setup) (calls : List Call) (keys : List (List ℕ)) (n : ℕ) → IsScript text s calls keys → IsRefused text n → ⊥
-not_both text s calls keys n is bad = ?
+use Rattle.clover_script.proofs.ScriptLaws.{not_refused}
 
 -- a source that was read to its end gave all that it had
 all_given : (text given : List ℕ) (after : Option (List ℕ)) → Consumes (Some text) after given → IsAtEnd after → given ≡ text
@@ -78,9 +76,9 @@ no_zero text status says never =
 is_exact : (text : List ℕ) (status : ℕ) → Says text status → IsExact text status
 is_exact text status says = record {
   script = λ s calls keys is short. no_one text status says (λ o.
-      elim (says.one o) as (λ _. ⊥) [ inl bad ↦ not_both text s calls keys bad.0 is bad.1 | inr more ↦ absurd (omega arith) ]);
+      elim (says.one o) as (λ _. ⊥) [ inl bad ↦ not_refused text s calls keys bad.0 is bad.1 | inr more ↦ absurd (omega arith) ]);
   refused = λ n bad short. no_zero text status says (λ z.
-      let done = says.zero z in not_both text done.0 done.1 done.2 n done.3 bad);
+      let done = says.zero z in not_refused text done.0 done.1 done.2 n done.3 bad);
   much = λ more. no_zero text status says (λ z. absurd (omega (arith, (says.zero z).4)));
 }
 
@@ -96,7 +94,9 @@ exact status left after taken now sb sf kb kf zero one two three most text is so
           let run = done.run in
           let read : Reads (Some text) after run.text = subst (λ l. Reads l after run.text) is run.read in
           let same : run.text ≡ text = all_given text run.text after read.taken read.ended in (
-            run.replay.setup, run.replay.calls, run.replay.keys,
+            run.replay.setup,
+            run.replay.calls,
+            run.replay.keys,
             subst (λ t. IsScript t run.replay.setup run.replay.calls run.replay.keys) same run.replay.script,
             subst (λ (t : List ℕ). length t ≤ input_limit) same read.short,
           );

@@ -1,3 +1,11 @@
+pub mod Answering
+pub mod Begun
 pub mod Cells
+pub mod Chains
 pub mod Exact
+pub mod Frames
+pub mod Maps
 pub mod Puts
+pub mod Running
+pub mod Standing
+pub mod Versions

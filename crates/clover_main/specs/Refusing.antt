@@ -1,5 +1,5 @@
 -- the refusals of a command: the status and the line of each, and what shows its cause
-use Rattle.std.specs.Prelude.{◌≡◌, ℕ, List, ◌++◌, decimal, codes, Option}
+use Rattle.std.specs.Prelude.{ℕ, List, ◌++◌, decimal, codes, Option}
 use Rattle.clover_script.specs.Script.{IsRefused}
 use Rattle.clover_main.specs.declared.refusal.Refusal.{Refusal}
 use Rattle.clover_main.specs.declared.refusal.Refusal.TheVariants.{BadLine, TooMuchInput, ReadFault, OutOfMemory, BadWords}

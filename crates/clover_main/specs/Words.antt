@@ -1,5 +1,5 @@
 -- the words of the command line
-use Rattle.std.specs.Prelude.{◌≡◌, ℕ, List, [], ◌∷◌, String, string_bytes, codes}
+use Rattle.std.specs.Prelude.{◌≡◌, List, [], ◌∷◌, String, string_bytes, codes}
 use Rattle.std.specs.declared.alloc.Global.{Global}
 
 -- the one word `replay`

@@ -3,13 +3,13 @@
 #![tactic(auto)]
 
 mod command;
+mod engine;
 mod io;
 mod memory;
 mod read;
 mod refusal;
 mod replaying;
 mod stdio;
-mod stub;
 
 pub use command::clover;
 pub use io::{Failed, Sink, Source};

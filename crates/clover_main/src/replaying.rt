@@ -5,10 +5,11 @@ ghost use Rattle.clover_main.specs.Refusing.{HasShown, status_of, line_of};
 ghost use Rattle.clover_main.specs.Replay.{HasRun, Replays, StopsShort, Refuses, IsExact};
 ghost use Rattle.clover_main.specs.declared.refusal.Refusal.TheVariants.{OutOfMemory};
 
-use crate::stub::{run, ScriptFault, check_script, first_line};
+use crate::engine::run;
 use crate::io::{Sink, Source};
 use crate::read::read_all;
 use crate::refusal::{Refusal, refuse};
+use clover_script::{ScriptFault, check_script, first_line};
 use std::alloc::Global;
 
 /// Reads a script from the source, and puts its answers and its history into the sink. Answers the

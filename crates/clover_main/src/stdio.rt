@@ -1,7 +1,10 @@
-// Standard input and output as a source and a sink. They tell no bytes: this is the trusted edge.
+// Standard input and output as a source and a sink. They tell no bytes: this is the trusted edge. What
+// contracts see of either is its count of faults.
+ghost use Rattle.std.specs.Prelude.{◌≡◌};
 
 use crate::io::{Failed, Sink, Source};
 use std::io::{Read, Write};
+use std::marker::Model;
 
 /// A source over a reader. A failed read counts as a fault.
 #[derive(Drop)]
@@ -10,9 +13,19 @@ pub struct StdSource<I: Read + Drop> {
     faults: u64,
 }
 
+impl<I: Read + Drop> Model for StdSource<I> {
+    ghost use Rattle.std.specs.Prelude.{ℕ};
+
+    ghost Value = { ℕ };
+
+    ghost view = { λ s. s.faults };
+}
+
 impl<I: Read + Drop> StdSource<I> {
     /// The source over this reader, with no fault yet. Takes no memory.
-    pub fn make(reader: I) -> StdSource<I> {
+    pub fn make(reader: I) -> StdSource<I>
+        ensures { result ≡ 0 }
+    {
         StdSource { reader, faults: 0 }
     }
 }
@@ -22,7 +35,7 @@ impl<I: Read + Drop> Source for StdSource<I> {
 
     ghost left = { λ s. None };
 
-    ghost faults = { λ s. s.faults };
+    ghost faults = { λ s. s };
 
     fn take(&mut self, into: &mut [u8]) -> Result<usize, Failed> {
         match self.reader.read(into) {
@@ -42,9 +55,19 @@ pub struct StdSink<W: Write + Drop> {
     faults: u64,
 }
 
+impl<W: Write + Drop> Model for StdSink<W> {
+    ghost use Rattle.std.specs.Prelude.{ℕ};
+
+    ghost Value = { ℕ };
+
+    ghost view = { λ s. s.faults };
+}
+
 impl<W: Write + Drop> StdSink<W> {
     /// The sink over this writer, with no fault yet. Takes no memory.
-    pub fn make(writer: W) -> StdSink<W> {
+    pub fn make(writer: W) -> StdSink<W>
+        ensures { result ≡ 0 }
+    {
         StdSink { writer, faults: 0 }
     }
 }
@@ -54,7 +77,7 @@ impl<W: Write + Drop> Sink for StdSink<W> {
 
     ghost taken = { λ s. None };
 
-    ghost faults = { λ s. s.faults };
+    ghost faults = { λ s. s };
 
     fn put(&mut self, piece: &[u8]) -> Result<(), Failed> {
         let mut rest = piece;

@@ -14,7 +14,8 @@ use Rattle.clover_map.specs.Tags.{IsFresh}
 abbrev pub held : ℕ → Value → Held
 held t v = record { tag = t; value = v }
 
--- The map m, with these tags used, may give this reply to this call, and is then n. No reply comes to a call but those listed.
+-- The map m, with these tags used, may give this reply to this call, and is then n.
+-- The pairs of call and reply that are not listed never come: the last line says so.
 abbrev pub Does : Tagged → List ℕ → Call → Reply → Tagged → Type 0
 Does m used (Put k v) (Stored t) n = IsFresh used t × (n ≡ insert m k (held t v))
 Does m used (Get k) (Found t v) n = (get m k ≡ Some (held t v)) × (n ≡ m)

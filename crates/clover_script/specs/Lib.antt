@@ -1,5 +1,10 @@
 pub mod Coded
+pub mod Form
+pub mod Laws
 pub mod Line
 pub mod Naming
+pub mod Progress
 pub mod Script
+pub mod Slots
+pub mod Split
 pub mod Text

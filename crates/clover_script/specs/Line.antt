@@ -41,9 +41,14 @@ pool_line n =
 -- the numbers of a setup
 abbrev pub numbers_of : Setup → PoolLine
 numbers_of s = record {
-    nodes = s.pool.nodes; buffers = s.pool.buffers; slots = s.pool.slots; words = s.pool.words; wear = s.pool.wear;
-    clients = s.clients; batch = s.batch
-  }
+  nodes = s.pool.nodes;
+  buffers = s.pool.buffers;
+  slots = s.pool.slots;
+  words = s.pool.words;
+  wear = s.pool.wear;
+  clients = s.clients;
+  batch = s.batch;
+}
 
 abbrev pub IsKey : List ℕ → Type 0
 IsKey k = (1 ≤ length k) × (length k ≤ 250) × AreBytes k

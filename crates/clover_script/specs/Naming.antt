@@ -1,14 +1,8 @@
 -- the keys that some calls name, each once, in the order of their first naming
 use Rattle.std.specs.Prelude.{◌≡◌, ℕ, ◌+◌, ◌⊎◌, List, [], ◌∷◌, ◌++◌, Contains}
 use Rattle.clover_map.specs.declared.call.Call.{Call}
-use Rattle.clover_map.specs.declared.call.Call.TheVariants.{Get, Put, Delete, Swap}
-
--- the key that a call names
-abbrev pub key_of : Call → List ℕ
-key_of (Get k) = k
-key_of (Put k v) = k
-key_of (Delete k) = k
-key_of (Swap k e v) = k
+use Rattle.clover_map.specs.declared.call.Call.TheVariants.{Put}
+use Rattle.clover_map.specs.History.{key_of}
 
 -- Where these keys are named already, the calls make them those keys.
 abbrev pub Names : List (List ℕ) → List Call → List (List ℕ) → Type 0

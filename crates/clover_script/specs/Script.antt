@@ -1,14 +1,14 @@
 -- what a script is, and which line of a text that is none is refused
-use Rattle.std.specs.Prelude.{◌≡◌, ℕ, ◌+◌, ◌*◌, ◌<◌, ◌≤◌, ◌⊎◌, Option, None, List, [], ◌∷◌, ◌++◌, length, map, All, Contains, IsSome, IsNone}
+use Rattle.std.specs.Prelude.{◌≡◌, ℕ, ◌+◌, ◌*◌, ◌<◌, ◌≤◌, ◌⊎◌, List, [], ◌∷◌, ◌++◌, length, map, All, Contains, IsSome}
 use Rattle.clover_words.specs.declared.pool.Pool.{Pool}
 use Rattle.clover_words.specs.declared.setup.Setup.{Setup}
 use Rattle.clover_words.specs.Preset.{buffers_total, HasDealt}
 use Rattle.clover_words.specs.Range.{first_fault, first_setup_fault}
 use Rattle.clover_map.specs.declared.call.Call.{Call}
-use Rattle.clover_map.specs.declared.call.Call.TheVariants.{Put}
 use Rattle.clover_script.specs.declared.line.PoolLine.{PoolLine}
 use Rattle.clover_script.specs.Line.{AreNumbers, lines_of, pool_line, numbers_of, call_line, IsCall, written}
-use Rattle.clover_script.specs.Naming.{Names, key_of, puts}
+use Rattle.clover_map.specs.History.{key_of}
+use Rattle.clover_script.specs.Naming.{Names, puts}
 
 -- how many bytes a value of this pool may have
 abbrev pub room : Pool → ℕ

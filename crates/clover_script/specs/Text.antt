@@ -1,5 +1,5 @@
 -- the printed texts of tags, calls, replies and entries
-use Rattle.std.specs.Prelude.{ℕ, ◌/◌, ◌%◌, ◌^◌, List, [], ◌∷◌, ◌++◌, flat_map, decimal, codes}
+use Rattle.std.specs.Prelude.{ℕ, ◌/◌, ◌%◌, ◌^◌, List, ◌++◌, decimal, codes}
 use Rattle.clover_map.specs.declared.bytes.Value.{Value}
 use Rattle.clover_map.specs.declared.call.Call.{Call}
 use Rattle.clover_map.specs.declared.call.Call.TheVariants.{Get, Put, Delete, Swap}

@@ -2,14 +2,29 @@
 //! printing replies and history. Nothing here knows of words or of a pool that runs.
 #![tactic(auto)]
 
+mod check;
 mod coded;
+mod form;
+mod keys;
+mod laws;
 mod line;
+mod number;
+mod progress;
+mod split;
+#[cfg(test)]
+mod tests;
 mod text;
 
-pub use line::{Form, LineFault, PoolLine, Task};
-pub use text::{push_answer, push_call, push_entry, push_reply};
-
+pub use check::{Outline, ScriptFault, check_script};
 use clover_list::ItemList;
+pub use form::{call_on, form_of};
+pub use keys::Names;
+pub use laws::{
+    a_line_has_one_call, a_refusal_has_one_line, a_script_has_one_reading, no_script_is_refused,
+};
+pub use line::{Form, LineFault, PoolLine, Task};
+pub use split::first_line;
+pub use text::{push_answer, push_call, push_entry, push_reply};
 
 /// A list of bytes.
 pub type Bulk = ItemList<u8>;

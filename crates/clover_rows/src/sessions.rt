@@ -1,0 +1,140 @@
+// Worked sessions of the program, with the text that each must print and its status.
+
+use crate::support::{bulk, run};
+use std::test::Fail;
+
+#[derive(Clone, Copy)]
+struct Session {
+    text: &'static str,
+    printed: &'static str,
+    status: u8,
+}
+
+const SESSIONS: [Session; 12] = [
+    // a pool line alone
+    Session {
+        text: "pool nodes=1 buffers=4 slots=2 words=2 wear=3 clients=1 batch=2\n",
+        printed: "history\nend\n",
+        status: 0,
+    },
+    // a put and a get of one key
+    Session {
+        text: "pool nodes=1 buffers=4 slots=2 words=2 wear=3 clients=1 batch=2\ncall 1 put a =hello\ncall 1 get a\n",
+        printed: "1 stored 0.0.0\n1 found 0.0.0 =hello\nhistory\nh 1 1 1 put a =hello stored 0.0.0\nh 1 1 2 get a found 0.0.0 =hello\nend\n",
+        status: 0,
+    },
+    // a key that was never put, and a last line without its end
+    Session {
+        text: "pool nodes=1 buffers=4 slots=2 words=2 wear=3 clients=1 batch=2\ncall 1 get a",
+        printed: "1 absent\nhistory\nh 1 1 1 get a absent\nend\n",
+        status: 0,
+    },
+    // an empty value, then one of exactly the room; bytes that stand for themselves and others
+    Session {
+        text: "pool nodes=1 buffers=4 slots=2 words=2 wear=3 clients=1 batch=2\ncall 1 put %20 =\ncall 1 get %20\ncall 1 put %20 =0123456789abcde%00\ncall 1 get %20\n",
+        printed: "1 stored 0.0.0\n1 found 0.0.0 =\n1 stored 0.1.0\n1 found 0.1.0 =0123456789abcde%00\nhistory\nh 1 1 1 put %20 = stored 0.0.0\nh 1 1 2 get %20 found 0.0.0 =\nh 1 1 3 put %20 =0123456789abcde%00 stored 0.1.0\nh 1 1 4 get %20 found 0.1.0 =0123456789abcde%00\nend\n",
+        status: 0,
+    },
+    // buffers over two memory nodes, dealt to two clients, of which the first acts
+    Session {
+        text: "pool nodes=2 buffers=3 slots=1 words=1 wear=1 clients=2 batch=1\ncall 1 put k =1\ncall 1 put k =2\ncall 1 put k =3\ncall 1 get k\n",
+        printed: "1 stored 0.0.0\n1 stored 0.2.0\n1 stored 1.1.0\n1 found 1.1.0 =3\nhistory\nh 1 1 1 put k =1 stored 0.0.0\nh 1 1 2 put k =2 stored 0.2.0\nh 1 1 3 put k =3 stored 1.1.0\nh 1 1 4 get k found 1.1.0 =3\nend\n",
+        status: 0,
+    },
+    // one put beyond the stock
+    Session {
+        text: "pool nodes=2 buffers=3 slots=1 words=1 wear=1 clients=2 batch=1\ncall 1 put k =1\ncall 1 put k =2\ncall 1 put k =3\ncall 1 put k =4\n",
+        printed: "error badline 5 unbuilt\n",
+        status: 1,
+    },
+    // one key beyond the slots
+    Session {
+        text: "pool nodes=1 buffers=4 slots=1 words=1 wear=1 clients=1 batch=1\ncall 1 get a\ncall 1 get b\n",
+        printed: "error badline 3 unbuilt\n",
+        status: 1,
+    },
+    // a value one byte longer than the room
+    Session {
+        text: "pool nodes=1 buffers=4 slots=2 words=2 wear=3 clients=1 batch=2\ncall 1 put a =0123456789abcdefg\n",
+        printed: "error badline 2 unbuilt\n",
+        status: 1,
+    },
+    // a number out of range
+    Session {
+        text: "pool nodes=17 buffers=4 slots=2 words=2 wear=3 clients=1 batch=2\n",
+        printed: "error badline 1 unbuilt\n",
+        status: 1,
+    },
+    // a line of none of the forms
+    Session {
+        text: "pool nodes=1 buffers=4 slots=2 words=2 wear=3 clients=1 batch=2\njump 1\n",
+        printed: "error badline 2 unbuilt\n",
+        status: 1,
+    },
+    // no line at all
+    Session {
+        text: "",
+        printed: "error badline 1 unbuilt\n",
+        status: 1,
+    },
+    // a second pool line
+    Session {
+        text: "pool nodes=1 buffers=4 slots=2 words=2 wear=3 clients=1 batch=2\ncall 1 get a\npool nodes=1 buffers=4 slots=2 words=2 wear=3 clients=1 batch=2\n",
+        printed: "error badline 3 unbuilt\n",
+        status: 1,
+    },
+];
+
+#[test]
+fn sessions_are_printed_byte_for_byte(rt: HostRuntime) -> Result<(), Fail> {
+    let alloc = rt.alloc();
+    for session in &SESSIONS {
+        let text = bulk(alloc, session.text.as_bytes())?;
+        let (status, sink) = run(alloc, &["replay"], text, &[], 4096, &[])?;
+        assert_eq!(rt; status, session.status, "{}", session.text);
+        assert_eq!(rt;
+            sink.bytes(),
+            session.printed.as_bytes(),
+            "{}",
+            session.text
+        );
+    }
+    Ok(())
+}
+
+#[test]
+fn words_of_no_command_are_refused(rt: HostRuntime) -> Result<(), Fail> {
+    let alloc = rt.alloc();
+    let lists: [&[&str]; 6] = [
+        &[],
+        &[""],
+        &["replay", "--trace"],
+        &["replay", "replay"],
+        &["Replay"],
+        &["--help"],
+    ];
+    for words in lists {
+        let (status, sink) = run(alloc, words, bulk(alloc, b"")?, &[], 100, &[])?;
+        assert_eq!(rt; status, 6);
+        assert_eq!(rt; sink.bytes(), b"error badwords\n".as_slice());
+    }
+    Ok(())
+}
+
+#[test]
+fn the_limit_of_the_input(rt: HostRuntime) -> Result<(), Fail> {
+    let alloc = rt.alloc();
+    for (length, printed) in [
+        (16_777_216u32, b"error badline 1 unbuilt\n".as_slice()),
+        (16_777_217, b"error toomuch\n".as_slice()),
+    ] {
+        let mut text = bulk(alloc, b"")?;
+        for _ in 0..length {
+            text.push(b'#')?;
+        }
+        let (status, sink) = run(alloc, &["replay"], text, &[], 100, &[])?;
+        assert_eq!(rt; status, 1);
+        assert_eq!(rt; sink.bytes(), printed);
+    }
+    Ok(())
+}

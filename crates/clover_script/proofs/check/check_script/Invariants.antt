@@ -1,0 +1,12 @@
+use Rattle.std.proofs.Common.{◌+◌, ◌≤◌, length}
+use Rattle.clover_script.proofs.CheckLemmas.{IsCheckedTo}
+use Rattle.clover_script.proofs.check.check_script.Given as goal
+
+abbrev pub invariant-loop-rest : goal.invariant-loop-rest
+invariant-loop-rest l = record {
+  checked : IsCheckedTo l.text l.progress l.rest l.lines;
+  size : l.lines + length l.rest ≤ length l.text + 1;
+}
+
+abbrev pub decreases-loop-rest : goal.decreases-loop-rest
+decreases-loop-rest l = length l.rest

@@ -1,0 +1,19 @@
+-- how a text is cut: at a byte, and behind a number
+use Rattle.std.specs.Prelude.{◌≢◌, ℕ, ◌≤◌, List, [], ◌∷◌}
+
+-- the byte stands nowhere in the text
+abbrev pub Lacks : ℕ → List ℕ → Type 0
+Lacks b [] = Unit {0}
+Lacks b (x ∷ xs) = (x ≢ b) × Lacks b xs
+
+abbrev pub IsDigit : ℕ → Type 0
+IsDigit b = (48 ≤ b) × (b ≤ 57)
+
+abbrev pub AreDigits : List ℕ → Type 0
+AreDigits [] = Unit {0}
+AreDigits (b ∷ bs) = IsDigit b × AreDigits bs
+
+-- no digit stands at the front
+abbrev pub EndsNumber : List ℕ → Type 0
+EndsNumber [] = Unit {0}
+EndsNumber (b ∷ bs) = IsDigit b → ⊥

@@ -1,0 +1,389 @@
+//! Tests of what no clause can say: that the definitions mean the format that is written down, and
+//! that each call succeeds where memory is ample. Each expected value was worked out by hand.
+
+use crate::number::number_of;
+use crate::{
+    Form, LineFault, ScriptFault, Task, call_on, check_script, first_line, form_of, push_answer,
+    push_entry,
+};
+use clover_map::{Bytes, Call, Entry, Key, Reply, Value};
+use std::alloc::Global;
+use std::process::Abort;
+use std::test::Fail;
+
+/// Four buffers, two slots, room for 16 bytes: client 1 has two buffers.
+const POOL: &[u8] = b"pool nodes=1 buffers=4 slots=2 words=2 wear=3 clients=1 batch=2\n";
+
+/// Asserts which line of the text is refused, where 0 is none.
+fn assert_refused(
+    rt: &impl Abort,
+    alloc: Global,
+    first: &[u8],
+    others: &[u8],
+    want: u64,
+) -> Result<(), Fail> {
+    let mut text = first.to_vec(alloc)?;
+    text.extend_from_slice(others)?;
+    assert!(rt; text.len() <= 16_777_216);
+    let line = match check_script(alloc, &text) {
+        Ok(_) => 0,
+        Err(
+            ScriptFault::BadLine {
+                line,
+                fault: LineFault::Unbuilt,
+            },
+        ) => line,
+        Err(ScriptFault::OutOfMemory) => return Err("out of memory".into()),
+    };
+    assert_eq!(rt; line, want);
+    Ok(())
+}
+
+#[test]
+fn names_the_first_bad_line(rt: HostRuntime) -> Result<(), Fail> {
+    let alloc = rt.alloc();
+    let cases: [(&[u8], u64); 24] = [
+        (b"", 0),
+        (b"call 1 get a", 0),
+        (b"call 1 get a\n", 0),
+        (b"\n", 2),
+        (b"\ncall 1 get a\n", 2),
+        (b"call 1 get a\n\n", 3),
+        (b"jump 1\n", 2),
+        (b"call 1 get a\njump 1\njump 2\n", 3),
+        (POOL, 2),
+        (b"call 1 get a \n", 2),
+        (b"call 1 get a\r\n", 2),
+        (b"call 1  get a\n", 2),
+        (b"call 1 get \n", 2),
+        (b"call 1 get\n", 2),
+        (b"call 2 get a\n", 2),
+        (b"call 01 get a\n", 2),
+        (b"call 1 delete a\n", 2),
+        (b"call 1 put a =0123456789abcdef\n", 0),
+        (b"call 1 put a =0123456789abcdefg\n", 2),
+        (b"call 1 put a =1\ncall 1 put a =2\n", 0),
+        (b"call 1 put a =1\ncall 1 put a =2\ncall 1 put a =3\n", 4),
+        (
+            b"call 1 get a\ncall 1 get b\ncall 1 get a\ncall 1 get b\n",
+            0,
+        ),
+        (b"call 1 get a\ncall 1 get b\ncall 1 get c\n", 4),
+        (
+            b"call 1 put a =1\ncall 1 get b\ncall 1 put b =2\ncall 1 get a",
+            0,
+        ),
+    ];
+    for (others, want) in cases {
+        assert_refused(&rt, alloc, POOL, others, want)?;
+    }
+    Ok(())
+}
+
+#[test]
+fn refuses_the_first_line(rt: HostRuntime) -> Result<(), Fail> {
+    let alloc = rt.alloc();
+    let cases: [(&[u8], u64); 20] = [
+        (b"", 1),
+        (b"\n", 1),
+        (b"call 1 get a\n", 1),
+        (b"pool", 1),
+        (
+            b"pool nodes=16 buffers=4096 slots=16384 words=128 wear=1048575 clients=16 batch=64",
+            0,
+        ),
+        (
+            b"pool nodes=1 buffers=65536 slots=1 words=1 wear=1 clients=1 batch=1",
+            0,
+        ),
+        (
+            b"pool nodes=2 buffers=1 slots=2 words=1 wear=1 clients=1 batch=1",
+            0,
+        ),
+        (
+            b"pool nodes=1 buffers=1 slots=2 words=1 wear=1 clients=1 batch=1",
+            1,
+        ),
+        (
+            b"pool nodes=0 buffers=4 slots=2 words=2 wear=3 clients=1 batch=2",
+            1,
+        ),
+        (
+            b"pool nodes=17 buffers=4 slots=2 words=2 wear=3 clients=1 batch=2",
+            1,
+        ),
+        (
+            b"pool nodes=16 buffers=4097 slots=2 words=2 wear=3 clients=1 batch=2",
+            1,
+        ),
+        (
+            b"pool nodes=1 buffers=4 slots=2 words=129 wear=3 clients=1 batch=2",
+            1,
+        ),
+        (
+            b"pool nodes=1 buffers=4 slots=2 words=2 wear=1048576 clients=1 batch=2",
+            1,
+        ),
+        (
+            b"pool nodes=1 buffers=4 slots=2 words=2 wear=3 clients=17 batch=2",
+            1,
+        ),
+        (
+            b"pool nodes=1 buffers=4 slots=2 words=2 wear=3 clients=1 batch=65",
+            1,
+        ),
+        (
+            b"pool nodes=1 buffers=4 slots=2 words=02 wear=3 clients=1 batch=2",
+            1,
+        ),
+        (
+            b"pool nodes=1 buffers=+4 slots=2 words=2 wear=3 clients=1 batch=2",
+            1,
+        ),
+        (
+            b"pool nodes=1 slots=2 buffers=4 words=2 wear=3 clients=1 batch=2",
+            1,
+        ),
+        (
+            b"pool nodes=1 buffers=4 slots=2 words=2 wear=3 clients=1 batch=2 ",
+            1,
+        ),
+        (
+            b"pool  nodes=1 buffers=4 slots=2 words=2 wear=3 clients=1 batch=2",
+            1,
+        ),
+    ];
+    for (text, want) in cases {
+        assert_refused(&rt, alloc, text, b"", want)?;
+    }
+    Ok(())
+}
+
+#[test]
+fn reads_coded_texts(rt: HostRuntime) -> Result<(), Fail> {
+    let alloc = rt.alloc();
+    let cases: [(&[u8], u64); 17] = [
+        (b"call 1 get %20", 0),
+        (b"call 1 get %25", 0),
+        (b"call 1 get %7f", 0),
+        (b"call 1 get !~", 0),
+        (b"call 1 get %00%ff", 0),
+        (b"call 1 get %41", 2),
+        (b"call 1 get %2f", 2),
+        (b"call 1 get %0A", 2),
+        (b"call 1 get %", 2),
+        (b"call 1 get %2", 2),
+        (b"call 1 get %2g", 2),
+        (b"call 1 get \x7f", 2),
+        (b"call 1 put a =", 0),
+        (b"call 1 put a ==%00", 0),
+        (b"call 1 put a", 2),
+        (b"call 1 put a hello", 2),
+        (b"call 1 put a =b c", 2),
+    ];
+    for (others, want) in cases {
+        assert_refused(&rt, alloc, POOL, others, want)?;
+    }
+    Ok(())
+}
+
+#[test]
+fn reads_numbers(rt: HostRuntime) {
+    let cases: [(&[u8], Option<u64>); 10] = [
+        (b"0", Some(0)),
+        (b"17", Some(17)),
+        (b"18446744073709551615", Some(18_446_744_073_709_551_615)),
+        (b"18446744073709551616", None),
+        (b"", None),
+        (b"00", None),
+        (b"017", None),
+        (b"+1", None),
+        (b"-1", None),
+        (b"1x", None),
+    ];
+    for (text, want) in cases {
+        assert_eq!(rt; number_of(text), want);
+    }
+}
+
+fn with_letters(alloc: Global, front: &[u8], letters: u32) -> Result<Vec<u8>, Fail> {
+    let mut line = front.to_vec(alloc)?;
+    for _ in 0..letters {
+        line.push(b'k')?;
+    }
+    Ok(line)
+}
+
+#[test]
+fn keeps_the_front_of_a_long_value(rt: HostRuntime) -> Result<(), Fail> {
+    let alloc = rt.alloc();
+    for (letters, kept) in [(1_024, 1_024), (1_025, 1_024), (65_535, 1_024)] {
+        let line = with_letters(alloc, b"call 1 put a =", letters)?;
+        let Some(Form::Calls(task)) = form_of(alloc, &line)? else {
+            return Err("a put".into());
+        };
+        let Task::Client { call, written } = task;
+        assert_eq!(rt; written, letters);
+        let Call::Put { value, .. } = call else {
+            return Err("a put".into());
+        };
+        assert_eq!(rt; value.bytes.items().len(), kept);
+    }
+    let line = with_letters(alloc, b"call 1 put a =", 65_536)?;
+    assert!(rt; form_of(alloc, &line)?.is_none());
+    Ok(())
+}
+
+#[test]
+fn reads_keys_of_up_to_250_bytes(rt: HostRuntime) -> Result<(), Fail> {
+    let alloc = rt.alloc();
+    for (letters, want) in [(1, 0), (250, 0), (251, 2)] {
+        let line = with_letters(alloc, b"call 1 get ", letters)?;
+        assert_refused(&rt, alloc, POOL, &line, want)?;
+    }
+    Ok(())
+}
+
+#[test]
+fn numbers_the_keys(rt: HostRuntime) -> Result<(), Fail> {
+    let alloc = rt.alloc();
+    let text = b"pool nodes=1 buffers=4 slots=2 words=2 wear=3 clients=1 batch=2
+call 1 get b
+call 1 put a =1
+call 1 get b
+";
+    let outline = match check_script(alloc, text) {
+        Ok(outline) => outline,
+        Err(_) => return Err("a script".into()),
+    };
+    let names = &outline.names;
+    assert_eq!(rt; names.len(), 2);
+    assert_eq!(rt; names.keys().len(), 2);
+    assert_eq!(rt; names.find(&Key::of(b"b")?), Some(0));
+    assert_eq!(rt; names.find(&Key::of(b"a")?), Some(1));
+    assert_eq!(rt; names.find(&Key::of(b"c")?), None);
+    assert_eq!(rt; outline.setup.batch, 2);
+    Ok(())
+}
+
+#[test]
+fn reads_the_calls_again(rt: HostRuntime) -> Result<(), Fail> {
+    let alloc = rt.alloc();
+    let (line, rest) = first_line(b"call 1 get a\nx");
+    assert_eq!(rt; line, b"call 1 get a".as_slice());
+    assert_eq!(rt; rest, b"x".as_slice());
+    let Call::Get { key } = call_on(alloc, b"call 1 get a")? else {
+        return Err("a get".into());
+    };
+    assert_eq!(rt; key.bytes(), b"a".as_slice());
+    Ok(())
+}
+
+fn value(alloc: Global, bytes: &[u8]) -> Result<Value, Fail> {
+    let bytes = Bytes::of(alloc, bytes)?;
+    Ok(Value { flags: 0, bytes })
+}
+
+fn assert_prints(
+    rt: &impl Abort,
+    alloc: Global,
+    entry: &Entry,
+    answer: &[u8],
+    line: &[u8],
+) -> Result<(), Fail> {
+    let mut out = Vec::new(alloc);
+    push_answer(&mut out, entry)?;
+    assert_eq!(rt; out.as_slice(), answer);
+    let mut out = Vec::new(alloc);
+    push_entry(&mut out, entry)?;
+    assert_eq!(rt; out.as_slice(), line);
+    Ok(())
+}
+
+#[test]
+fn prints_answers_and_entries(rt: HostRuntime) -> Result<(), Fail> {
+    let alloc = rt.alloc();
+    let put = Entry {
+        client: 1,
+        number: 1,
+        call: Call::Put {
+            key: Key::of(b"a")?,
+            value: value(alloc, b"hello")?,
+        },
+        reply: Reply::Stored { tag: 0 },
+    };
+    assert_prints(
+        &rt,
+        alloc,
+        &put,
+        b"1 stored 0.0.0\n",
+        b"h 1 1 1 put a =hello stored 0.0.0\n",
+    )?;
+    let get = Entry {
+        client: 16,
+        number: 18_446_744_073_709_551_615,
+        call: Call::Get {
+            key: Key::of(b"\x00 %~\x7f\xff")?,
+        },
+        reply: Reply::Found {
+            tag: 4_398_046_511_103,
+            value: value(alloc, b"")?,
+        },
+    };
+    assert_prints(
+        &rt,
+        alloc,
+        &get,
+        b"16 found 63.65535.1048575 =\n",
+        b"h 1 16 18446744073709551615 get %00%20%25~%7f%ff found 63.65535.1048575 =\n",
+    )?;
+    let swap = Entry {
+        client: 2,
+        number: 7,
+        call: Call::Swap {
+            key: Key::of(b"a")?,
+            expected: 2_097_155,
+            value: value(alloc, b"x y")?,
+        },
+        reply: Reply::Differs { tag: 1_048_576 },
+    };
+    assert_prints(
+        &rt,
+        alloc,
+        &swap,
+        b"2 differs 0.1.0\n",
+        b"h 1 2 7 swap a 0.2.3 =x%20y differs 0.1.0\n",
+    )
+}
+
+#[test]
+fn prints_deletes(rt: HostRuntime) -> Result<(), Fail> {
+    let alloc = rt.alloc();
+    for (tag, answer, line) in [
+        (
+            Some(5),
+            b"1 deleted 0.0.5\n".as_slice(),
+            b"h 1 1 3 delete a deleted 0.0.5\n".as_slice(),
+        ),
+        (
+            None,
+            b"1 absent\n".as_slice(),
+            b"h 1 1 3 delete a absent\n".as_slice(),
+        ),
+    ] {
+        let reply = match tag {
+            Some(tag) => Reply::Deleted { tag },
+            None => Reply::Absent,
+        };
+        let entry = Entry {
+            client: 1,
+            number: 3,
+            call: Call::Delete {
+                key: Key::of(b"a")?,
+            },
+            reply,
+        };
+        assert_prints(&rt, alloc, &entry, answer, line)?;
+    }
+    Ok(())
+}
