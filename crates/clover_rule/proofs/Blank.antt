@@ -9,7 +9,7 @@ use Rattle.clover_rule.specs.Content.{inside}
 use Rattle.clover_rule.specs.History.{Map}
 use Rattle.clover_rule.specs.Image.{Image}
 use Rattle.clover_rule.specs.Lists.{nth}
-use Rattle.clover_rule.specs.Server.{Serves, root_in, book_of, IsWhole, Sound, Opens}
+use Rattle.clover_rule.specs.Server.{Owners, Serves, root_in, book_of, IsWhole, Sound, Opens}
 use Rattle.clover_rule.specs.State.{tag_at, word, gen, Mem, Story}
 use Rattle.clover_rule.specs.Views.{Book, book, line, find_book, find_root}
 use Rattle.clover_rule.specs.declared.view.BookLine.{BookLine}
@@ -17,7 +17,7 @@ use Rattle.clover_rule.specs.declared.view.Server.{Server}
 use Rattle.clover_rule.specs.declared.view.Task.TheVariants.{Idle}
 use Rattle.clover_rule.specs.declared.view.View.{View}
 use Rattle.clover_words.specs.declared.pool.Pool.{Pool}
-use Rattle.clover_rule.proofs.Opening.{opened, open_core, open_whole, first_views}
+use Rattle.clover_rule.proofs.Opening.{opened, open_core, open_whole}
 
 -- the lines of the books that say a function, of the buffers below a number
 abbrev line_of : ℕ → Book → BookLine
@@ -69,9 +69,9 @@ inside_below : (p : Pool) (b : ℕ) → inside p b ≡ true → b < p.nodes * 65
 inside_below p b e = let h : b / 65536 < p.nodes = grind (arith, nat_tests) in omega arith
 
 -- the books, directory and roots that the story of an opened run says
-module _ (l : Pool) (im : Image) (sound : Sound l im) (m0 : Map) (used : List ℕ) (m : Mem) (o : Opens l im sound m0 used m) (first : Tagged) where
+module _ (l : Pool) (im : Image) (sound : Sound l im) (m0 : Map) (used : List ℕ) (m : Mem) (o : Opens l im sound m0 used m) (owner : ℕ → Option ℕ) (own : Owners l im o.spot owner) where
   abbrev st : Story
-  st = opened l im sound m0 used m o first
+  st = opened l im sound m0 used m o owner own
 
   says : ℕ → Book
   says b = book_of Idle st (st.place b) (gen (m.next b)) b
@@ -84,7 +84,7 @@ module _ (l : Pool) (im : Image) (sound : Sound l im) (m0 : Map) (used : List �
     where
       go : (x : Option ℕ) → tag_at st s 0 ≡ x → tag_at st s 0 ≡ None
       go None e = e
-      go (Some t) e = let z = sound.inside s t (sym (o.root s).0 ∙ (open_core l im sound m0 used m o first).root s ∙ e) in absurd (n z)
+      go (Some t) e = let z = sound.inside s t (sym (o.root s).0 ∙ (open_core l im sound m0 used m o owner own).root s ∙ e) in absurd (n z)
 
   pub first_serves : Serves l m st Idle first_server
   first_serves = record {
@@ -94,8 +94,6 @@ module _ (l : Pool) (im : Image) (sound : Sound l im) (m0 : Map) (used : List �
     books = λ b i. lines_here (λ (x : ℕ). book_of Idle st (st.place x) (gen (m.next x)) x) (l.nodes * 65536) b (inside_below l b i);
   }
 
-  pub first_whole : IsWhole l m0 used m (first_views l im sound m0 used m o first first_server first_serves)
-  first_whole = (st, [], open_whole l im sound m0 used m o first first_server first_serves)
 
 abbrev blank_image : Image
 blank_image = record { next = λ (b : ℕ). word 0 None; root = λ (s : ℕ). None; body = λ (b j : ℕ). 0; key = λ (s j : ℕ). 0 }
@@ -148,5 +146,3 @@ blank_opens l = record {
     none : (i : ℕ) {t : ℕ} → nth [] i ≡ Some t → ⊥
     none i e = absurd cc
 
-pub blank_whole : (l : Pool) (first : Tagged) → (vs : List View) × IsWhole l (λ (k : List ℕ). None) [] blank_mem vs
-blank_whole l first = (_, first_whole l blank_image (blank_sound l) (λ (k : List ℕ). None) [] blank_mem (blank_opens l) first)

@@ -4,16 +4,19 @@ use Rattle.std.specs.Prelude.{Option, Some, None}
 use Rattle.std.proofs.lemmas.Bool.Decides.{nat_tests}
 use Rattle.clover_map.specs.declared.bytes.Value.{Value}
 use Rattle.clover_map.specs.Tagged.{Tagged}
+use Rattle.clover_map.specs.declared.call.Entry.{Entry}
 use Rattle.clover_rule.specs.Content.{content, InRange, Spells, inside, Fits}
 use Rattle.clover_rule.specs.History.{Version, Map}
 use Rattle.clover_rule.specs.Image.{Image, Chain}
-use Rattle.clover_rule.specs.Lists.{nth}
-use Rattle.clover_rule.specs.Server.{Ready, Help, Serves, Whole, Sound, Opens, versions_of}
-use Rattle.clover_rule.specs.State.{home, age, Next, word, gen, link, Mem, Place, Chained, Free, Worn, Taken, Loose, Story, tag_in_version, tag_at, now_at, Core, Tale, Standing, only}
-use Rattle.clover_rule.specs.Views.{start_pass}
+use Rattle.clover_rule.specs.Lists.{Within, Each, nth}
+use Rattle.clover_rule.specs.Server.{Owners, Starts, Serves, Ready, Help, Whole, Sound, Opens, versions_of}
+use Rattle.clover_rule.specs.State.{Durable, Stocked, home, age, Next, word, gen, link, Mem, Place, Chained, Free, Worn, Taken, Loose, Story, tag_in_version, tag_at, now_at, Core, Tale, Standing, only}
+use Rattle.clover_rule.specs.Views.{Owned, OwnCalls, ViewOk, IsLink, Past, IsCopied, Numbered, start_pass}
+use Rattle.clover_rule.specs.declared.view.Content.{Content}
 use Rattle.clover_rule.specs.declared.view.Role.{Role}
-use Rattle.clover_rule.specs.declared.view.Role.TheVariants.{Client, Serving}
+use Rattle.clover_rule.specs.declared.view.Role.TheVariants.{Client, Serving, Granting, Noting, Joined}
 use Rattle.clover_rule.specs.declared.view.Server.{Server}
+use Rattle.clover_rule.specs.declared.view.Shown.{Shown}
 use Rattle.clover_rule.specs.declared.view.Task.TheVariants.{Idle}
 use Rattle.clover_rule.specs.declared.view.View.{View}
 use Rattle.clover_words.specs.declared.pool.Pool.{Pool}
@@ -56,10 +59,14 @@ word_is (word b p) a o g l = cc
 below_test : (a b : ℕ) → a < b → ltb a b ≡ true
 below_test a b q = grind (arith, nat_tests)
 
-abbrev pub placed : Option (ℕ × ℕ) → Bool → Place
-placed (Some p) b = Chained p.0
-placed None true = Free
-placed None false = Worn
+abbrev pub rest_place : Option ℕ → Bool → Place
+rest_place (Some i) t = Stocked i
+rest_place None true = Free
+rest_place None false = Worn
+
+abbrev pub placed : Option (ℕ × ℕ) → Place → Place
+placed (Some p) q = Chained p.0
+placed None q = q
 
 abbrev pub slot_in : Option (ℕ × ℕ) → ℕ
 slot_in None = 0
@@ -73,7 +80,7 @@ abbrev pub has : Option (List ℕ) → Bool
 has None = false
 has (Some x) = true
 
-module _ (l : Pool) (im : Image) (sound : Sound l im) (m0 : Map) (used : List ℕ) (m : Mem) (o : Opens l im sound m0 used m) (first : Tagged) where
+module _ (l : Pool) (im : Image) (sound : Sound l im) (m0 : Map) (used : List ℕ) (m : Mem) (o : Opens l im sound m0 used m) (owner : ℕ → Option ℕ) (own : Owners l im o.spot owner) where
   abbrev ready_test : ℕ → Bool
   ready_test b = inside l b && ltb (gen (im.next b)) l.wear
 
@@ -84,7 +91,7 @@ module _ (l : Pool) (im : Image) (sound : Sound l im) (m0 : Map) (used : List �
     sure = λ (s : ℕ). length (versions_of (sound.chain s) (sound.value s));
     slot_of = λ (t : ℕ). slot_in (o.spot (home t));
     rank = λ (t : ℕ). rank_in (o.spot (home t));
-    place = λ (b : ℕ). placed (o.spot b) (ready_test b);
+    place = λ (b : ℕ). placed (o.spot b) (rest_place (owner b) (ready_test b));
     lead = λ (s : ℕ). 0;
     flead = λ (s : ℕ). 0;
     named = λ (s : ℕ). has (o.keys s);
@@ -104,7 +111,7 @@ module _ (l : Pool) (im : Image) (sound : Sound l im) (m0 : Map) (used : List �
       let c = chain_link im (sound.chain s) (im.root s) (sound.walk s) i t a in
       let n : im.next (home t) ≡ now_at opened s i t = word_is (im.next (home t)) (age t) (tag_at opened s (suc i)) c.0 (c.1 ∙ sym (versions_tag (sound.chain s) (sound.value s) (suc i))) in
       record {
-        placed = ap (λ (p : Option (ℕ × ℕ)). placed p (ready_test (home t))) (o.on s i t a);
+        placed = ap (λ (p : Option (ℕ × ℕ)). placed p (rest_place (owner (home t)) (ready_test (home t)))) (o.on s i t a);
         now = (o.next (home t)).0 ∙ n;
         safe = (o.next (home t)).1 ∙ n ∙ ap (word (age t)) (keep (tag_at opened s (suc i)) refl);
       }
@@ -120,28 +127,30 @@ module _ (l : Pool) (im : Image) (sound : Sound l im) (m0 : Map) (used : List �
   off_chain : (b : ℕ) → Loose (opened.place b) → o.spot b ≡ None
   off_chain b f = go (o.spot b) f
     where
-      go : (x : Option (ℕ × ℕ)) → Loose (placed x (ready_test b)) → x ≡ None
+      go : (x : Option (ℕ × ℕ)) → Loose (placed x (rest_place (owner b) (ready_test b))) → x ≡ None
       go None f = refl
       go (Some p) f = absurd f
 
   never_held : (b : ℕ) → opened.place b ≢ Taken
-  never_held b = go (o.spot b) (ready_test b)
+  never_held b = go (o.spot b) (owner b) (ready_test b)
     where
-      go : (x : Option (ℕ × ℕ)) (t : Bool) → placed x t ≢ Taken
-      go (Some p) t e = absurd cc
-      go None true e = absurd cc
-      go None false e = absurd cc
+      go : (x : Option (ℕ × ℕ)) (y : Option ℕ) (t : Bool) → placed x (rest_place y t) ≢ Taken
+      go (Some p) y t e = absurd cc
+      go None (Some i) t e = absurd cc
+      go None None true e = absurd cc
+      go None None false e = absurd cc
 
   chained_at : (b s : ℕ) → opened.place b ≡ Chained s → (i : ℕ) × (t : ℕ) × (tag_at opened s i ≡ Some t) × (0 ≤ i) × (home t ≡ b)
   chained_at b s e = go (o.spot b) refl e
     where
-      go : (x : Option (ℕ × ℕ)) → o.spot b ≡ x → placed x (ready_test b) ≡ Chained s → (i : ℕ) × (t : ℕ) × (tag_at opened s i ≡ Some t) × (0 ≤ i) × (home t ≡ b)
+      go : (x : Option (ℕ × ℕ)) → o.spot b ≡ x → placed x (rest_place (owner b) (ready_test b)) ≡ Chained s → (i : ℕ) × (t : ℕ) × (tag_at opened s i ≡ Some t) × (0 ≤ i) × (home t ≡ b)
       go (Some (s1, i)) q f = let z : s1 ≡ s = cc in let a = o.from b s1 i q in (i, a.0, ap (λ (x : ℕ). tag_at opened x i) (sym z) ∙ versions_tag (sound.chain s1) (sound.value s1) i ∙ a.1, omega arith, a.2)
-      go None q f = absurd (none (ready_test b) f)
+      go None q f = absurd (none (owner b) (ready_test b) f)
         where
-          none : (t : Bool) → placed None t ≢ Chained s
-          none true g = absurd cc
-          none false g = absurd cc
+          none : (y : Option ℕ) (t : Bool) → rest_place y t ≢ Chained s
+          none (Some i) t g = absurd cc
+          none None true g = absurd cc
+          none None false g = absurd cc
 
   pub open_core : Core m opened
   open_core = record {
@@ -184,8 +193,8 @@ module _ (l : Pool) (im : Image) (sound : Sound l im) (m0 : Map) (used : List �
       tags = λ s i t e. let a = on_chain s i t e in range s i t a;
       own = λ b. let z = ap gen (o.next b).0 in let z1 = sound.own b in omega arith;
       below = λ b. let z = ap gen (o.next b).0 in let z1 = ap gen (o.next b).1 in omega arith;
-      ready = λ b f. ready_of b (o.spot b) (ready_test b) refl f;
-      worn = λ b i f. worn_of b i (o.spot b) (ready_test b) refl f;
+      ready = λ b f. ready_of b (o.spot b) (owner b) (ready_test b) refl refl f;
+      worn = λ b i f. worn_of b i (o.spot b) (owner b) (ready_test b) refl f;
       fits = λ s i w e. let a = versions_at (sound.chain s) (sound.value s) i w e in subst (Fits l) (sym a.1) (sound.contents s i w.tag a.0).0;
     };
     keyed = record {
@@ -215,18 +224,20 @@ module _ (l : Pool) (im : Image) (sound : Sound l im) (m0 : Map) (used : List �
           before None q = absurd (cc (short_list (sound.chain s) i q, e))
           before (Some u) q = let c = chain_link im (sound.chain s) (im.root s) (sound.walk s) i u q in sound.target (home u) t (c.1 ∙ e)
 
-      ready_of : (b : ℕ) (x : Option (ℕ × ℕ)) (t : Bool) → ready_test b ≡ t → Ready (placed x t) → (inside l b ≡ true) × (gen (m.next b) < l.wear)
-      ready_of b (Some p) t e f = absurd f
-      ready_of b None false e f = absurd f
-      ready_of b None true e f = let z = ap gen (o.next b).0 in let a = both (inside l b) (gen (im.next b)) l.wear e in (a.0, let c = a.1 in omega arith)
+      ready_of : (b : ℕ) (x : Option (ℕ × ℕ)) (y : Option ℕ) (t : Bool) → owner b ≡ y → ready_test b ≡ t → Ready (placed x (rest_place y t)) → (inside l b ≡ true) × (gen (m.next b) < l.wear)
+      ready_of b (Some p) y t g e f = absurd f
+      ready_of b None (Some i) t g e f = (own.in_pool b i g, let z = ap gen (o.next b).0 in let a = own.young b i g in omega arith)
+      ready_of b None None false g e f = absurd f
+      ready_of b None None true g e f = let z = ap gen (o.next b).0 in let a = both (inside l b) (gen (im.next b)) l.wear e in (a.0, let c = a.1 in omega arith)
         where
           both : (a : Bool) (c d : ℕ) → a && ltb c d ≡ true → (a ≡ true) × (c < d)
           both a c d q = grind (arith, nat_tests)
 
-      worn_of : (b : ℕ) → inside l b ≡ true → (x : Option (ℕ × ℕ)) (t : Bool) → ready_test b ≡ t → placed x t ≡ Worn → gen (m.next b) ≡ l.wear
-      worn_of b i (Some p) t e f = absurd cc
-      worn_of b i None true e f = absurd cc
-      worn_of b i None false e f = let z = ap gen (o.next b).0 in let y = sound.own b in let a : l.wear ≤ gen (im.next b) = out (inside l b) (gen (im.next b)) l.wear i e in omega arith
+      worn_of : (b : ℕ) → inside l b ≡ true → (x : Option (ℕ × ℕ)) (y : Option ℕ) (t : Bool) → ready_test b ≡ t → placed x (rest_place y t) ≡ Worn → gen (m.next b) ≡ l.wear
+      worn_of b i (Some p) y t e f = absurd cc
+      worn_of b i None (Some j) t e f = absurd cc
+      worn_of b i None None true e f = absurd cc
+      worn_of b i None None false e f = let z = ap gen (o.next b).0 in let y = sound.own b in let a : l.wear ≤ gen (im.next b) = out (inside l b) (gen (im.next b)) l.wear i e in omega arith
         where
           out : (a : Bool) (c d : ℕ) → a ≡ true → a && ltb c d ≡ false → d ≤ c
           out a c d q e = grind (arith, nat_tests)
@@ -241,35 +252,49 @@ module _ (l : Pool) (im : Image) (sound : Sound l im) (m0 : Map) (used : List �
     unbound = λ k f. (o.map_else k f, refl);
   }
 
-  abbrev pub fresh_view : Role → Server → View
-  fresh_view ro sv = record { pass = start_pass l first used ro; server = sv }
+  -- the rule of the new run, over views that begin it
+  module _ (vs : List View) (starts : (i : ℕ) (v : View) → nth vs i ≡ Some v → Starts m o.bindings owner i v) (numbered : Numbered vs) (some : (i : ℕ) × (v : View) × (nth vs i ≡ Some v))
+      (serves : (i : ℕ) (v : View) → nth vs i ≡ Some v → v.pass.role ≡ Serving → Serves l m opened Idle v.server)
+      (one : (i j : ℕ) (v w : View) → nth vs i ≡ Some v → nth vs j ≡ Some w → v.pass.role ≡ Serving → w.pass.role ≡ Serving → i ≡ j)
+      (made : (i j n : ℕ) (v w : View) → nth vs i ≡ Some v → nth vs j ≡ Some w → v.pass.role ≡ Serving → w.pass.role ≡ Client n → Within n v.server.clients) where
+    in_stock : (i t : ℕ) → (owner (home t) ≡ Some i) × (gen (m.next (home t)) ≡ age t) → Owned m opened i t
+    in_stock i t d = (ap (λ (x : Option (ℕ × ℕ)). placed x (rest_place (owner (home t)) (ready_test (home t)))) (own.off (home t) i d.0) ∙ ap (λ (y : Option ℕ). rest_place y (ready_test (home t))) d.0, d.1)
 
-  -- the rule of the new run, over the server's view alone
-  module _ (sv : Server) (serves : Serves l m opened Idle sv) where
-    abbrev pub first_views : List View
-    first_views = fresh_view Serving sv ∷ []
+    none_own : (ro : Role) (cs : List Entry) → cs ≡ [] → OwnCalls ro cs []
+    none_own (Client c) cs e = e
+    none_own Serving cs e = tt
+    none_own Granting cs e = tt
+    none_own Noting cs e = tt
+    none_own Joined cs e = tt
 
-    only_view : (i : ℕ) (y : View) → nth first_views i ≡ Some y → (i ≡ 0) × (fresh_view Serving sv ≡ y)
-    only_view zero y e = (refl, cc)
-    only_view (suc i) y e = absurd cc
+    view_starts : (i : ℕ) (v : View) → Starts m o.bindings owner i v → ViewOk m opened [] i v
+    view_starts i v s = record {
+        stocked = each_map (in_stock i) v.pass.stock s.stock; apart = s.apart; names = s.names; most = s.most; added = inl s.added; history = ([], sym (append-nil v.pass.history ∙ s.history)); calls = none_own v.pass.role v.pass.calls s.calls;
+        durable = subst (Each (λ (p : ℕ × ℕ). Durable opened p.0 p.1)) (sym s.durable) tt;
+        links = subst (Each (IsLink opened)) (sym s.links) tt;
+        words = subst (Each (λ (p : Shown). Past m opened p.buffer (word p.own p.link))) (sym s.words) tt;
+        written = subst (Each (λ (c : Content). Owned m opened i c.tag × (m.body (home c.tag) c.place ≡ c.word))) (sym s.written) tt;
+        flushed = subst (Each (λ (c : Content). Owned m opened i c.tag × (m.fbody (home c.tag) c.place ≡ c.word))) (sym s.flushed) tt;
+        copied = subst (Each (IsCopied opened)) (sym s.copied) tt
+      }
 
-    pub open_whole : Whole l m0 used m first_views opened []
+    pub open_whole : Whole l m0 used m vs opened []
     open_whole = record {
       basis = record {
         core = open_core;
         tale = open_tale;
         bodies = λ s i w e g j y q. let a = versions_at (sound.chain s) (sound.value s) i w e in let b = (sound.contents s i w.tag a.0).1 j y (ap (λ (x : Option Value). nth (content x) j) (sym a.1) ∙ q) in ((o.body (home w.tag) j).0 ∙ b, (o.body (home w.tag) j).1 ∙ b);
-        spent = each_map (λ t d. ⊎_elim (λ a. inl (let z = ap gen (o.next (home t)).0 in omega arith)) (λ a. inr (a.0, ap (λ (p : Option (ℕ × ℕ)). placed p (ready_test (home t))) a.2, a.3 ∙ sym (ap gen (o.next (home t)).0))) d.1) used o.used_is;
+        spent = each_map (λ t d. ⊎_elim (λ a. inl (let z = ap gen (o.next (home t)).0 in omega arith)) (λ a. inr (a.0, ap (λ (p : Option (ℕ × ℕ)). placed p (rest_place (owner (home t)) (ready_test (home t)))) a.2, a.3 ∙ sym (ap gen (o.next (home t)).0))) d.1) used o.used_is;
         bound = λ s k q. let a = o.bound s k q in (a, ap has a);
         keyed = λ s1 s2 k e f. sym (o.found s1 k e) ∙ o.found s2 k f;
-        views = λ i y e. rw (← (only_view i y e).1) (record { stocked = tt; apart = tt; durable = tt; links = tt; words = tt; written = tt; flushed = tt; copied = tt; names = (o.bindings, refl); added = inl refl; most = omega arith; history = ([], refl); calls = tt });
-        numbered = λ i j n y z e f s t. (only_view i y e).0 ∙ sym (only_view j z f).0;
-        longest = (0, fresh_view Serving sv, refl, refl);
+        views = λ i y e. view_starts i y (starts i y e);
+        numbered = numbered;
+        longest = (some.0, some.1, some.2, (starts some.0 some.1 some.2).history);
       };
       help = open_help;
-      serves = λ i y e q. rw (← (only_view i y e).1) serves;
-      one = λ i j y z e f s t. (only_view i y e).0 ∙ sym (only_view j z f).0;
+      serves = serves;
+      one = one;
       safe = each_map (λ t d. (d.0, let z = ap gen (o.next (home t)).1 in ⊎_elim (λ a. omega arith) (λ a. let b = a.3 in omega arith) d.1)) used o.used_is;
-      made = λ i j n y z e f s t. absurd (let a : Serving ≡ Client n = ap (λ (q : View). q.pass.role) (only_view j z f).1 ∙ t in cc);
+      made = made;
       entered = λ i y e q. tt;
     }

@@ -8,9 +8,9 @@ use Rattle.clover_map.specs.declared.call.Entry.{Entry}
 use Rattle.clover_rule.specs.Content.{value_meta, Unpacks, inside, tombstone, spelling, IsKey, InRange, Spells, Fits, content}
 use Rattle.clover_rule.specs.History.{ends, Version, Map, used_by}
 use Rattle.clover_rule.specs.Image.{Image, Chain}
-use Rattle.clover_rule.specs.Lists.{Each, nth, upd, Within}
+use Rattle.clover_rule.specs.Lists.{IsPrefix, Each, nth, upd, Within}
 use Rattle.clover_rule.specs.State.{Mem, word, gen, link, home, age, Place, Chained, Stocked, Free, Worn, Taken, Story, tag_at, greater, raised_mem, recycled_mem, Durable}
-use Rattle.clover_rule.specs.Views.{book_at, root_at, line, shown, Book, book, Basis, renewed, Naming, without}
+use Rattle.clover_rule.specs.Views.{Apart, book_at, root_at, line, shown, Book, book, Basis, renewed, Naming, without}
 use Rattle.clover_rule.specs.declared.view.BufferState.{BufferState}
 use Rattle.clover_rule.specs.declared.view.BufferState.TheVariants.{Free as IsFree, Worn as IsWorn, Bound as IsBound, Out as IsOut}
 use Rattle.clover_rule.specs.declared.view.Content.{Content}
@@ -339,6 +339,28 @@ pub record Opens (l : Pool) (im : Image) (sound : Sound l im) (m0 : Map) (used :
   pub map_is : (s : ℕ) (k : List ℕ) → keys s ≡ Some k → ends None (versions_of (sound.chain s) (sound.value s)) ≡ m0 k
   pub map_else : (k : List ℕ) → ((s : ℕ) → keys s ≢ Some k) → m0 k ≡ None
   pub used_is : Each (λ (t : ℕ). (age t < l.wear) × ((age t < gen (im.next (home t))) ⊎ ((s : ℕ) × (i : ℕ) × (spot (home t) ≡ Some (s, i)) × (age t ≡ gen (im.next (home t)))))) used
+
+-- which seat has each buffer in its stock as a run begins: none of them is on a chain or worn
+pub record Owners (l : Pool) (im : Image) (spot : ℕ → Option (ℕ × ℕ)) (owner : ℕ → Option ℕ) : Type 0 where
+  pub off : (b i : ℕ) → owner b ≡ Some i → spot b ≡ None
+  pub in_pool : (b i : ℕ) → owner b ≡ Some i → inside l b ≡ true
+  pub young : (b i : ℕ) → owner b ≡ Some i → gen (im.next b) < l.wear
+
+-- the view of seat i as a run begins: it has a stock and names, and knows nothing else
+pub record Starts (m : Mem) (bindings : List (ℕ × List ℕ)) (owner : ℕ → Option ℕ) (i : ℕ) (v : View) : Type 0 where
+  pub stock : Each (λ (t : ℕ). (owner (home t) ≡ Some i) × (gen (m.next (home t)) ≡ age t)) v.pass.stock
+  pub apart : Apart v.pass.stock
+  pub names : IsPrefix v.pass.names bindings
+  pub most : v.pass.most ≤ m.count
+  pub durable : v.pass.durable ≡ []
+  pub links : v.pass.links ≡ []
+  pub words : v.pass.words ≡ []
+  pub written : v.pass.written ≡ []
+  pub flushed : v.pass.flushed ≡ []
+  pub copied : v.pass.copied ≡ []
+  pub added : v.pass.added ≡ []
+  pub calls : v.pass.calls ≡ []
+  pub history : v.pass.history ≡ []
 
 -- an image after some of restart's stores: dead chains may have lost their root, and buffers on no chain of this image may be at the next generation
 pub record Restarting (l : Pool) (im : Image) (sound : Sound l im) (im2 : Image) : Type 0 where
