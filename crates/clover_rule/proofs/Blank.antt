@@ -4,20 +4,18 @@ use native.Mathlib.Decide.{ℕ_discrete, dec_le}
 use mathlib.Core.Logic.{dite}
 use Rattle.std.specs.Prelude.{Option, Some, None}
 use Rattle.std.proofs.lemmas.Bool.Decides.{nat_tests}
-use Rattle.clover_map.specs.Tagged.{Tagged}
 use Rattle.clover_rule.specs.Content.{inside}
 use Rattle.clover_rule.specs.History.{Map}
 use Rattle.clover_rule.specs.Image.{Image}
 use Rattle.clover_rule.specs.Lists.{nth}
-use Rattle.clover_rule.specs.Server.{Owners, Serves, root_in, book_of, IsWhole, Sound, Opens}
+use Rattle.clover_rule.specs.Server.{Owners, Serves, root_in, book_of, Sound, Opens}
 use Rattle.clover_rule.specs.State.{tag_at, word, gen, Mem, Story}
 use Rattle.clover_rule.specs.Views.{Book, book, line, find_book, find_root}
 use Rattle.clover_rule.specs.declared.view.BookLine.{BookLine}
 use Rattle.clover_rule.specs.declared.view.Server.{Server}
 use Rattle.clover_rule.specs.declared.view.Task.TheVariants.{Idle}
-use Rattle.clover_rule.specs.declared.view.View.{View}
 use Rattle.clover_words.specs.declared.pool.Pool.{Pool}
-use Rattle.clover_rule.proofs.Opening.{opened, open_core, open_whole}
+use Rattle.clover_rule.proofs.Opening.{opened, open_core}
 
 -- the lines of the books that say a function, of the buffers below a number
 abbrev line_of : ℕ → Book → BookLine
@@ -94,7 +92,6 @@ module _ (l : Pool) (im : Image) (sound : Sound l im) (m0 : Map) (used : List �
     books = λ b i. lines_here (λ (x : ℕ). book_of Idle st (st.place x) (gen (m.next x)) x) (l.nodes * 65536) b (inside_below l b i);
   }
 
-
 abbrev blank_image : Image
 blank_image = record { next = λ (b : ℕ). word 0 None; root = λ (s : ℕ). None; body = λ (b j : ℕ). 0; key = λ (s j : ℕ). 0 }
 
@@ -145,4 +142,3 @@ blank_opens l = record {
   where
     none : (i : ℕ) {t : ℕ} → nth [] i ≡ Some t → ⊥
     none i e = absurd cc
-

@@ -3,7 +3,6 @@ use Rattle.std.proofs.Common.{◌≡◌, ℕ, zero, suc, ◌<◌, ◌≤◌, ◌
 use Rattle.std.specs.Prelude.{Option, Some, None}
 use Rattle.std.proofs.lemmas.Bool.Decides.{nat_tests}
 use Rattle.clover_map.specs.declared.bytes.Value.{Value}
-use Rattle.clover_map.specs.Tagged.{Tagged}
 use Rattle.clover_map.specs.declared.call.Entry.{Entry}
 use Rattle.clover_rule.specs.Content.{content, InRange, Spells, inside, Fits}
 use Rattle.clover_rule.specs.History.{Version, Map}
@@ -11,11 +10,10 @@ use Rattle.clover_rule.specs.Image.{Image, Chain}
 use Rattle.clover_rule.specs.Lists.{Within, Each, nth}
 use Rattle.clover_rule.specs.Server.{Owners, Starts, Serves, Ready, Help, Whole, Sound, Opens, versions_of}
 use Rattle.clover_rule.specs.State.{Durable, Stocked, home, age, Next, word, gen, link, Mem, Place, Chained, Free, Worn, Taken, Loose, Story, tag_in_version, tag_at, now_at, Core, Tale, Standing, only}
-use Rattle.clover_rule.specs.Views.{Owned, OwnCalls, ViewOk, IsLink, Past, IsCopied, Numbered, start_pass}
+use Rattle.clover_rule.specs.Views.{Owned, OwnCalls, ViewOk, IsLink, Past, IsCopied, Numbered}
 use Rattle.clover_rule.specs.declared.view.Content.{Content}
 use Rattle.clover_rule.specs.declared.view.Role.{Role}
 use Rattle.clover_rule.specs.declared.view.Role.TheVariants.{Client, Serving, Granting, Noting, Joined}
-use Rattle.clover_rule.specs.declared.view.Server.{Server}
 use Rattle.clover_rule.specs.declared.view.Shown.{Shown}
 use Rattle.clover_rule.specs.declared.view.Task.TheVariants.{Idle}
 use Rattle.clover_rule.specs.declared.view.View.{View}
@@ -269,14 +267,20 @@ module _ (l : Pool) (im : Image) (sound : Sound l im) (m0 : Map) (used : List �
 
     view_starts : (i : ℕ) (v : View) → Starts m o.bindings owner i v → ViewOk m opened [] i v
     view_starts i v s = record {
-        stocked = each_map (in_stock i) v.pass.stock s.stock; apart = s.apart; names = s.names; most = s.most; added = inl s.added; history = ([], sym (append-nil v.pass.history ∙ s.history)); calls = none_own v.pass.role v.pass.calls s.calls;
-        durable = subst (Each (λ (p : ℕ × ℕ). Durable opened p.0 p.1)) (sym s.durable) tt;
-        links = subst (Each (IsLink opened)) (sym s.links) tt;
-        words = subst (Each (λ (p : Shown). Past m opened p.buffer (word p.own p.link))) (sym s.words) tt;
-        written = subst (Each (λ (c : Content). Owned m opened i c.tag × (m.body (home c.tag) c.place ≡ c.word))) (sym s.written) tt;
-        flushed = subst (Each (λ (c : Content). Owned m opened i c.tag × (m.fbody (home c.tag) c.place ≡ c.word))) (sym s.flushed) tt;
-        copied = subst (Each (IsCopied opened)) (sym s.copied) tt
-      }
+      stocked = each_map (in_stock i) v.pass.stock s.stock;
+      apart = s.apart;
+      names = s.names;
+      most = s.most;
+      added = inl s.added;
+      history = ([], sym (append-nil v.pass.history ∙ s.history));
+      calls = none_own v.pass.role v.pass.calls s.calls;
+      durable = subst (Each (λ (p : ℕ × ℕ). Durable opened p.0 p.1)) (sym s.durable) tt;
+      links = subst (Each (IsLink opened)) (sym s.links) tt;
+      words = subst (Each (λ (p : Shown). Past m opened p.buffer (word p.own p.link))) (sym s.words) tt;
+      written = subst (Each (λ (c : Content). Owned m opened i c.tag × (m.body (home c.tag) c.place ≡ c.word))) (sym s.written) tt;
+      flushed = subst (Each (λ (c : Content). Owned m opened i c.tag × (m.fbody (home c.tag) c.place ≡ c.word))) (sym s.flushed) tt;
+      copied = subst (Each (IsCopied opened)) (sym s.copied) tt;
+    }
 
     pub open_whole : Whole l m0 used m vs opened []
     open_whole = record {

@@ -9,6 +9,8 @@ pub mod Steps
 pub mod Meets
 pub mod Told
 pub mod Rule
+pub mod Preset
+pub mod Meant
 pub mod Cut
 pub mod Accesses
 pub mod Laws

@@ -1,10 +1,16 @@
 // The laws, each a contract of a function without a body.
 ghost use Rattle.clover_rule.specs.Cut.{CutLaw};
+ghost use Rattle.clover_rule.specs.Preset.{PresetLaw};
 ghost use Rattle.clover_rule.specs.Laws.{PartsLaw, StepLaw, ToldLaw, TableStepLaw, AccessLaw, TailLaw};
 
 /// The twelve parts of the rule follow from the helping facts.
 pub fn parts_law()
     ensures { PartsLaw }
+{}
+
+/// The preset pool meets the rule.
+pub fn preset_law()
+    ensures { PresetLaw }
 {}
 
 /// Each step that a client may make keeps the rule.

@@ -8,7 +8,9 @@ mod step;
 mod view;
 
 pub use access::{Access, Act, Actor};
-pub use laws::{access_law, cut_law, parts_law, step_law, table_step_law, tail_law, told_law};
+pub use laws::{
+    access_law, cut_law, parts_law, preset_law, step_law, table_step_law, tail_law, told_law,
+};
 pub use step::{Kind, StepName};
 pub use view::{
     BookLine, BufferState, Content, Link, Pass, Refusal, Role, Server, Shown, Task, View,

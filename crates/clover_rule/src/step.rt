@@ -1,5 +1,5 @@
 // How the caller of an access says which step it means. Nothing of it stands at run time.
-use clover_map::Call;
+use clover_map::{Call, Reply};
 use std::marker::Brand;
 
 /// Which step an access is meant as.
@@ -32,6 +32,7 @@ pub enum Kind {
 pub trait StepName {
     ghost use Rattle.std.specs.Prelude.{Bool, Option, ℕ};
     ghost use Rattle.clover_map.specs.declared.call.Call.{Call};
+    ghost use Rattle.clover_map.specs.declared.call.Reply.{Reply};
     ghost use Rattle.clover_rule.specs.declared.step.Kind.{Kind};
 
     /// The kind of the step.
@@ -43,12 +44,19 @@ pub trait StepName {
     /// The slot that the access is made for.
     ghost slot: { ℕ };
 
+    /// The tag whose word the access is on, or the tag that a shortcut is to lead to.
+    ghost tag: { ℕ };
+
     /// The call whose entry the access adds where it decides.
     ghost call: { Option Call };
+
+    /// The reply of that entry, where a load decides.
+    ghost reply: { Reply };
 }
 
 impl StepName for Brand {
     ghost use Rattle.std.specs.Prelude.{false, None};
+    ghost use Rattle.clover_map.specs.declared.call.Reply.TheVariants.{Absent};
     ghost use Rattle.clover_rule.specs.declared.step.Kind.TheVariants.{Follow};
 
     ghost kind = { Follow };
@@ -57,5 +65,9 @@ impl StepName for Brand {
 
     ghost slot = { 0 };
 
+    ghost tag = { 0 };
+
     ghost call = { None };
+
+    ghost reply = { Absent };
 }
