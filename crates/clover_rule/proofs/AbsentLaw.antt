@@ -6,7 +6,8 @@ use Rattle.clover_map.specs.declared.call.Entry.{Entry}
 use Rattle.clover_map.specs.declared.bytes.Held.{Held}
 use Rattle.clover_rule.specs.History.{Version, Map, commits, ends, pair_of, leads}
 use Rattle.clover_rule.specs.Lists.{nth, Within, IsPrefix}
-use Rattle.clover_rule.specs.State.{Mem, Story, Tale}
+use Rattle.clover_rule.specs.Memory.{Mem}
+use Rattle.clover_rule.specs.Story.{Story, Tale}
 use Rattle.clover_rule.specs.Views.{Naming}
 use Rattle.clover_rule.proofs.Keys.{key_discrete}
 use Rattle.clover_rule.proofs.Histories.{leads_commits}

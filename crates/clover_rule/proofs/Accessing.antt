@@ -9,9 +9,10 @@ use Rattle.clover_rule.specs.History.{Version, shows, named}
 use Rattle.clover_rule.specs.Image.{tags}
 use Rattle.clover_rule.specs.Laws.{PartsLaw, StepLaw, ToldLaw, TableStepLaw, AccessLaw, TailLaw}
 use Rattle.clover_rule.specs.Lists.{nth}
+use Rattle.clover_rule.specs.Memory.{Mem, word, home, age}
 use Rattle.clover_rule.specs.Parts.{Walk}
-use Rattle.clover_rule.specs.State.{Story, Mem, word, home, age}
 use Rattle.clover_rule.specs.Steps.{LoadNext, DecideNext, RaiseNext, LinkNext, StoreContent, FlushContent, LoadContent, ReadRoot, ReadShort, StoreShort, ReadCount, AbsentCount, word_of}
+use Rattle.clover_rule.specs.Story.{Story}
 use Rattle.clover_rule.specs.Told.{Told}
 use Rattle.clover_rule.specs.Words.{mem_of, next_of, content_at, buffer_at}
 use Rattle.clover_rule.proofs.Keeps.{keeps}

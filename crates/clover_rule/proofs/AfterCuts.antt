@@ -14,8 +14,9 @@ use Rattle.clover_rule.specs.Cut.{IsCut, image_of, ImageDecodes, IsKnownDurable,
 use Rattle.clover_rule.specs.History.{Survives, Version, Map, shows, kept, leads, ends}
 use Rattle.clover_rule.specs.Image.{Image, IsImage, Reads, ReadsMap, missing, tags, Chain}
 use Rattle.clover_rule.specs.Meets.{Meets, IsCode}
-use Rattle.clover_rule.specs.Server.{Sound}
-use Rattle.clover_rule.specs.State.{Story, Mem, Durable, word}
+use Rattle.clover_rule.specs.Memory.{Mem, word}
+use Rattle.clover_rule.specs.Sound.{Sound}
+use Rattle.clover_rule.specs.Story.{Story, Durable}
 use Rattle.clover_rule.specs.Words.{guarded, mem_of, next_of, root_of, buffer_at, content_at}
 use Rattle.clover_rule.specs.declared.view.View.{View}
 use Rattle.clover_rule.proofs.Steps.{each_within}

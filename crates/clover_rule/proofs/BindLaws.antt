@@ -8,8 +8,10 @@ use Rattle.clover_map.specs.declared.call.Entry.{Entry}
 use Rattle.clover_rule.specs.Content.{content, tombstone, spelling, Fits, IsKey}
 use Rattle.clover_rule.specs.History.{Version, Map, commits, ends, at_key}
 use Rattle.clover_rule.specs.Lists.{nth, upd}
-use Rattle.clover_rule.specs.Server.{Ready, IsStoring, Stage, Help, is_home, book_of, Serves, Whole, IsWhole, BindRoot, server_after, served_view, ServerLaw}
-use Rattle.clover_rule.specs.State.{home, age, gen, Mem, Place, Chained, Story, tag_in_version, tag_at, Core, Tale, unsure}
+use Rattle.clover_rule.specs.Memory.{home, age, gen, Mem}
+use Rattle.clover_rule.specs.Server.{Ready, IsStoring, Stage, Help, is_home, book_of, Serves, Whole, IsWhole}
+use Rattle.clover_rule.specs.ServerSteps.{BindRoot, server_after, served_view, ServerLaw}
+use Rattle.clover_rule.specs.Story.{Place, Chained, Story, tag_in_version, tag_at, Core, Tale, unsure}
 use Rattle.clover_rule.specs.Views.{book, Holds, Stands, Basis, renewed, book_at, root_at}
 use Rattle.clover_rule.specs.declared.view.BufferState.TheVariants.{Bound as IsBound, Out as IsOut}
 use Rattle.clover_rule.specs.declared.view.Role.TheVariants.{Serving}

@@ -8,8 +8,11 @@ use Rattle.clover_rule.specs.Content.{inside}
 use Rattle.clover_rule.specs.History.{Map}
 use Rattle.clover_rule.specs.Image.{Image}
 use Rattle.clover_rule.specs.Lists.{nth}
-use Rattle.clover_rule.specs.Server.{Owners, Serves, root_in, book_of, Sound, Opens}
-use Rattle.clover_rule.specs.State.{tag_at, word, gen, Mem, Story}
+use Rattle.clover_rule.specs.Memory.{word, gen, Mem}
+use Rattle.clover_rule.specs.Opening.{Owners, Opens}
+use Rattle.clover_rule.specs.Server.{Serves, root_in, book_of}
+use Rattle.clover_rule.specs.Sound.{Sound}
+use Rattle.clover_rule.specs.Story.{tag_at, Story}
 use Rattle.clover_rule.specs.Views.{Book, book, line, find_book, find_root}
 use Rattle.clover_rule.specs.declared.view.BookLine.{BookLine}
 use Rattle.clover_rule.specs.declared.view.Server.{Server}

@@ -10,11 +10,14 @@ use Rattle.clover_map.specs.declared.call.Reply.{Reply}
 use Rattle.clover_map.specs.declared.call.Reply.TheVariants.{Absent, Deleted, Differs, Stored}
 use Rattle.clover_map.specs.Does.{held}
 use Rattle.clover_map.specs.declared.call.Reply.TheVariants.{Found}
+use Rattle.clover_rule.specs.Changes.{linked_mem, linked_story}
 use Rattle.clover_rule.specs.Content.{Fits, tombstone, value_meta}
 use Rattle.clover_rule.specs.History.{Version, Map, used_by, Does, named, committed, pair_of, paired, tag_in, Fresh, grown, leads}
+use Rattle.clover_rule.specs.Knowing.{MayLink, link_entry, link_view, SawValue, SawTombstone, CopiedValue}
 use Rattle.clover_rule.specs.Lists.{Each, nth, Within}
-use Rattle.clover_rule.specs.Server.{Ready, Whole, MayLink, link_entry, link_view, SawValue, SawTombstone, CopiedValue}
-use Rattle.clover_rule.specs.State.{home, age, word, gen, Mem, Loose, Story, linked_mem, linked_story}
+use Rattle.clover_rule.specs.Memory.{home, age, word, gen, Mem}
+use Rattle.clover_rule.specs.Server.{Ready, Whole}
+use Rattle.clover_rule.specs.Story.{Loose, Story}
 use Rattle.clover_rule.specs.Views.{Basis, renewed}
 use Rattle.clover_rule.specs.declared.view.Role.TheVariants.{Client}
 use Rattle.clover_rule.specs.declared.view.View.{View}

@@ -5,11 +5,13 @@ use mathlib.Core.Logic.{dite}
 use Rattle.std.specs.Prelude.{Option, Some, None}
 use Rattle.std.proofs.lemmas.Bool.Decides.{nat_tests}
 use Rattle.clover_map.specs.declared.call.Entry.{Entry}
+use Rattle.clover_rule.specs.Changes.{linked_mem, linked_story, raised_mem, raised_story}
 use Rattle.clover_rule.specs.Content.{InRange, Fits}
 use Rattle.clover_rule.specs.History.{Version, Map, used_by}
 use Rattle.clover_rule.specs.Lists.{Each, nth, Within}
+use Rattle.clover_rule.specs.Memory.{home, age, Next, word, gen, Mem, greater, order}
 use Rattle.clover_rule.specs.Server.{Ready, IsWaiting, IsRecycling, AtStage, Help, root_in, is_home, book_of, Serves, Whole}
-use Rattle.clover_rule.specs.State.{home, age, Next, word, gen, Mem, Place, Chained, Taken, Story, tag_at, Core, linked_mem, linked_story, greater, order, raised_mem, raised_story}
+use Rattle.clover_rule.specs.Story.{Place, Chained, Taken, Story, tag_at, Core}
 use Rattle.clover_rule.specs.Views.{book, Basis, renewed}
 use Rattle.clover_rule.specs.declared.view.BufferState.TheVariants.{Bound as IsBound, Out as IsOut}
 use Rattle.clover_rule.specs.declared.view.Role.TheVariants.{Client, Serving}

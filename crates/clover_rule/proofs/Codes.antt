@@ -4,7 +4,7 @@ use native.Mathlib.Decide.{ℕ_discrete, dec_le}
 use mathlib.Core.Logic.{dite}
 use Rattle.std.specs.Prelude.{Some, None}
 use Rattle.std.proofs.lemmas.Bool.Decides.{nat_tests}
-use Rattle.clover_rule.specs.State.{Next, word, gen, order, greater}
+use Rattle.clover_rule.specs.Memory.{Next, word, gen, order, greater}
 use Rattle.clover_rule.specs.Words.{next_code}
 
 abbrev pub Small : Next → Type 0

@@ -10,9 +10,10 @@ use Rattle.clover_map.specs.declared.call.Entry.{Entry}
 use Rattle.clover_map.specs.declared.bytes.Held.{Held}
 use Rattle.clover_rule.specs.Content.{content}
 use Rattle.clover_rule.specs.History.{pair_of, Version, Map, own, used_by, commits, ends, joined, key_of, commit_of, lost_in, grown, Does, named, committed, leads, same_key}
+use Rattle.clover_rule.specs.Knowing.{link_entry}
 use Rattle.clover_rule.specs.Lists.{Each, nth, Within}
-use Rattle.clover_rule.specs.Server.{link_entry}
-use Rattle.clover_rule.specs.State.{home, age, word, gen, Mem, Story, tag_in_version, tag_at, Tale, Durable, unsure}
+use Rattle.clover_rule.specs.Memory.{home, age, word, gen, Mem}
+use Rattle.clover_rule.specs.Story.{Story, tag_in_version, tag_at, Tale, Durable, unsure}
 use Rattle.clover_rule.specs.Views.{IsCopied, OwnCalls, ViewOk, Spent, Basis, renewed, shown}
 use Rattle.clover_rule.specs.declared.view.Role.{Role}
 use Rattle.clover_rule.specs.declared.view.Role.TheVariants.{Client}

@@ -6,8 +6,9 @@ use Rattle.std.proofs.lemmas.Bool.Decides.{nat_tests}
 use Rattle.clover_rule.specs.History.{Version}
 use Rattle.clover_rule.specs.Image.{tags}
 use Rattle.clover_rule.specs.Lists.{nth, Within}
+use Rattle.clover_rule.specs.Memory.{home, age, Next, word, gen, link, Mem}
 use Rattle.clover_rule.specs.Parts.{Walk, ChainsStand, AllButLast, Falls, IsKnown, IsTarget}
-use Rattle.clover_rule.specs.State.{home, age, Next, word, gen, link, Mem, Place, Chained, Stocked, Free, Worn, Taken, Loose, Story, tag_in_version, tag_at, only, Core, Durable}
+use Rattle.clover_rule.specs.Story.{Place, Chained, Stocked, Free, Worn, Taken, Loose, Story, tag_in_version, tag_at, only, Core, Durable}
 use Rattle.clover_rule.specs.Views.{IsLink, Past}
 use Rattle.clover_rule.specs.declared.view.Link.{Link}
 use Rattle.clover_rule.proofs.Tools.{nth_none, nth_past}

@@ -3,7 +3,8 @@ use Rattle.std.proofs.Common.{◌≡◌, ℕ, ◌≢◌, List, [], ◌∷◌, re
 use native.Mathlib.Decide.{ℕ_discrete}
 use mathlib.Core.Logic.{dite}
 use Rattle.clover_rule.specs.Lists.{Each, upd}
-use Rattle.clover_rule.specs.State.{home, Mem, Place, Chained, Loose, Story, Core}
+use Rattle.clover_rule.specs.Memory.{home, Mem}
+use Rattle.clover_rule.specs.Story.{Place, Chained, Loose, Story, Core}
 use Rattle.clover_rule.specs.Views.{handed}
 use Rattle.clover_rule.proofs.Tools.{upd_same, upd_else}
 use Rattle.clover_rule.proofs.Steps.{each_map}

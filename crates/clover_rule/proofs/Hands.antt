@@ -6,8 +6,9 @@ use Rattle.std.specs.Prelude.{Some}
 use Rattle.clover_map.specs.declared.call.Entry.{Entry}
 use Rattle.clover_rule.specs.History.{Map, own, used_by}
 use Rattle.clover_rule.specs.Lists.{Each, nth, upd, Within}
+use Rattle.clover_rule.specs.Memory.{home, age, gen, Mem}
 use Rattle.clover_rule.specs.Server.{Ready, AtStage, Help, root_in, book_of, Serves, Whole}
-use Rattle.clover_rule.specs.State.{home, age, gen, Mem, Place, Chained, Stocked, Free, Worn, Taken, Loose, Story, Core}
+use Rattle.clover_rule.specs.Story.{Place, Chained, Stocked, Free, Worn, Taken, Loose, Story, Core}
 use Rattle.clover_rule.specs.Views.{alone, empty_pass, Owned, ViewOk, Spent, Numbered, handed}
 use Rattle.clover_rule.specs.declared.view.Role.TheVariants.{Client, Serving}
 use Rattle.clover_rule.specs.declared.view.Task.{Task}

@@ -5,8 +5,9 @@ use Rattle.std.specs.Prelude.{Option, Some}
 use Rattle.clover_map.specs.declared.call.Entry.{Entry}
 use Rattle.clover_rule.specs.History.{Map}
 use Rattle.clover_rule.specs.Lists.{Each, nth, Within, IsPrefix}
+use Rattle.clover_rule.specs.Memory.{home, gen, Mem}
 use Rattle.clover_rule.specs.Server.{is_home, book_of, Serves, Whole}
-use Rattle.clover_rule.specs.State.{home, gen, Mem, Place, Stocked, Story}
+use Rattle.clover_rule.specs.Story.{Place, Stocked, Story}
 use Rattle.clover_rule.specs.Views.{alone, empty_pass, Owned, Apart, ViewOk, handed}
 use Rattle.clover_rule.specs.declared.view.Role.TheVariants.{Client, Granting, Joined}
 use Rattle.clover_rule.specs.declared.view.Server.{Server}

@@ -16,9 +16,10 @@ use Rattle.clover_rule.specs.Content.{inside, InRange}
 use Rattle.clover_rule.specs.History.{shows}
 use Rattle.clover_rule.specs.Lists.{nth}
 use Rattle.clover_rule.specs.Meets.{IsCode, Decodes, OfRun, Meets}
+use Rattle.clover_rule.specs.Memory.{Next, word, home, age}
 use Rattle.clover_rule.specs.Server.{Whole}
-use Rattle.clover_rule.specs.State.{Next, word, home, age, Story}
 use Rattle.clover_rule.specs.Steps.{IsClient, counted}
+use Rattle.clover_rule.specs.Story.{Story}
 use Rattle.clover_rule.specs.Views.{renewed}
 use Rattle.clover_rule.specs.Words.{root_code, next_code, root_of, next_of, buffer_at, content_at, mem_of}
 use Rattle.clover_rule.specs.declared.access.Act.{Act}

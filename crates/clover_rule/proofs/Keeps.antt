@@ -18,13 +18,16 @@ use Rattle.clover_map.specs.declared.call.Reply.{Reply}
 use Rattle.clover_map.specs.declared.call.Reply.TheVariants.{Stored, Found, Absent, Deleted, Differs}
 use Rattle.clover_map.specs.declared.call.Entry.{Entry}
 use Rattle.clover_map.specs.Tagged.{Tagged}
+use Rattle.clover_rule.specs.Changes.{linked_mem, linked_story, raised_mem}
 use Rattle.clover_rule.specs.Content.{inside, InRange, Fits}
 use Rattle.clover_rule.specs.History.{shows, named, committed, leads, used_by, Does, Map}
+use Rattle.clover_rule.specs.Knowing.{link_view, link_entry, stored_view, flushed_view, MayLink}
 use Rattle.clover_rule.specs.Lists.{upd, nth, Each, Within}
 use Rattle.clover_rule.specs.Meets.{IsCode, Meets, IsMet}
-use Rattle.clover_rule.specs.Server.{link_view, link_entry, stored_view, flushed_view, Whole, MayLink, Ready}
-use Rattle.clover_rule.specs.State.{Next, word, gen, link, order, greater, Mem, home, age, Durable, Story, tag_at, only, linked_mem, linked_story, raised_mem}
+use Rattle.clover_rule.specs.Memory.{Next, word, gen, link, order, greater, Mem, home, age}
+use Rattle.clover_rule.specs.Server.{Whole, Ready}
 use Rattle.clover_rule.specs.Steps.{IsClient, client, counted, Step, LoadNext, DecideNext, RaiseNext, LinkNext, StoreContent, FlushContent, LoadContent, ReadRoot, ReadShort, StoreShort, ReadCount, AbsentCount, word_of, side_of, becomes, unlinked, linked, act_of, turn_at, Asks, MayDecide, MayReply, MayCommit, MayCall, MayMiss, learned, seen, decided, started, counts, missed, rest_of, value_of, reply_of, next_view, next_history, found, words_after_step, number_of}
+use Rattle.clover_rule.specs.Story.{Durable, Story, tag_at, only}
 use Rattle.clover_rule.specs.Views.{IsLink, renewed, raise_view, Owned}
 use Rattle.clover_rule.specs.Words.{root_code, next_code, root_of, next_of, buffer_at, content_at, mem_of}
 use Rattle.clover_rule.specs.declared.view.Link.{Link}

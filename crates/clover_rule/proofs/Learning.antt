@@ -3,11 +3,13 @@ use Rattle.std.proofs.Common.{◌≡◌, ℕ, zero, suc, ◌≤◌, List, [], �
 use Rattle.std.specs.Prelude.{Option, Some, None}
 use Rattle.std.proofs.lemmas.Bool.Decides.{nat_tests}
 use Rattle.clover_map.specs.declared.call.Entry.{Entry}
+use Rattle.clover_rule.specs.Changes.{greatest}
 use Rattle.clover_rule.specs.History.{Map, used_by}
 use Rattle.clover_rule.specs.Lists.{upd, Each, Within, nth}
+use Rattle.clover_rule.specs.Memory.{Next, word, home, age, Mem}
 use Rattle.clover_rule.specs.Server.{Whole}
-use Rattle.clover_rule.specs.State.{Next, word, home, age, Mem, Story, tag_at, greatest, Durable}
 use Rattle.clover_rule.specs.Steps.{IsClient, client, seen, started, counts, counted}
+use Rattle.clover_rule.specs.Story.{Story, tag_at, Durable}
 use Rattle.clover_rule.specs.Views.{Basis, ViewOk, renewed, Past, IsLink, shown}
 use Rattle.clover_rule.specs.declared.access.Act.{Act}
 use Rattle.clover_rule.specs.declared.view.View.{View}

@@ -4,8 +4,9 @@ use Rattle.std.specs.Prelude.{Option, Some}
 use Rattle.clover_map.specs.declared.call.Entry.{Entry}
 use Rattle.clover_rule.specs.History.{Map, used_by}
 use Rattle.clover_rule.specs.Lists.{nth}
+use Rattle.clover_rule.specs.Memory.{gen, Mem}
 use Rattle.clover_rule.specs.Server.{Ready, AtStage, Help, is_home, book_of, Whole}
-use Rattle.clover_rule.specs.State.{gen, Mem, Place, Chained, Stocked, Free, Worn, Taken, Loose, Story, Core}
+use Rattle.clover_rule.specs.Story.{Place, Chained, Stocked, Free, Worn, Taken, Loose, Story, Core}
 use Rattle.clover_rule.specs.Views.{alone, empty_pass, book, Owned, ViewOk, Basis}
 use Rattle.clover_rule.specs.declared.view.BufferState.TheVariants.{Bound as IsBound, Out as IsOut}
 use Rattle.clover_rule.specs.declared.view.Role.TheVariants.{Client, Noting}

@@ -8,8 +8,11 @@ use Rattle.clover_rule.specs.Content.{content, InRange, Spells, inside, Fits}
 use Rattle.clover_rule.specs.History.{Version, Map}
 use Rattle.clover_rule.specs.Image.{Image, Chain}
 use Rattle.clover_rule.specs.Lists.{Within, Each, nth}
-use Rattle.clover_rule.specs.Server.{Owners, Starts, Serves, Ready, Help, Whole, Sound, Opens, versions_of}
-use Rattle.clover_rule.specs.State.{Durable, Stocked, home, age, Next, word, gen, link, Mem, Place, Chained, Free, Worn, Taken, Loose, Story, tag_in_version, tag_at, now_at, Core, Tale, Standing, only}
+use Rattle.clover_rule.specs.Memory.{home, age, Next, word, gen, link, Mem}
+use Rattle.clover_rule.specs.Opening.{Owners, Starts, Opens}
+use Rattle.clover_rule.specs.Server.{Serves, Ready, Help, Whole}
+use Rattle.clover_rule.specs.Sound.{Sound, versions_of}
+use Rattle.clover_rule.specs.Story.{Durable, Stocked, Place, Chained, Free, Worn, Taken, Loose, Story, tag_in_version, tag_at, now_at, Core, Tale, Standing, only}
 use Rattle.clover_rule.specs.Views.{Owned, OwnCalls, ViewOk, IsLink, Past, IsCopied, Numbered}
 use Rattle.clover_rule.specs.declared.view.Content.{Content}
 use Rattle.clover_rule.specs.declared.view.Role.{Role}

@@ -8,9 +8,11 @@ use Rattle.clover_rule.specs.Content.{Spells, InRange, inside, tombstone, conten
 use Rattle.clover_rule.specs.History.{shows, Map, same_key, ends}
 use Rattle.clover_rule.specs.Image.{Image, Chain}
 use Rattle.clover_rule.specs.Lists.{nth, Within}
+use Rattle.clover_rule.specs.Memory.{Mem, word, home, age}
+use Rattle.clover_rule.specs.Opening.{Opens, Owners}
 use Rattle.clover_rule.specs.Preset.{PresetWords, PresetKeys, PresetViews, PresetLaw, bindings_from}
-use Rattle.clover_rule.specs.Server.{Sound, Opens, Owners, Whole, versions_of}
-use Rattle.clover_rule.specs.State.{Mem, word, home, age}
+use Rattle.clover_rule.specs.Server.{Whole}
+use Rattle.clover_rule.specs.Sound.{Sound, versions_of}
 use Rattle.clover_rule.specs.Words.{mem_of}
 use Rattle.clover_rule.specs.declared.view.View.{View}
 use mathlib.Core.Path.{fun_ext}

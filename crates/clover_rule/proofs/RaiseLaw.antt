@@ -4,9 +4,11 @@ use native.Mathlib.Decide.{ℕ_discrete}
 use Rattle.std.specs.Prelude.{Some}
 use Rattle.std.proofs.lemmas.Bool.Decides.{nat_tests}
 use Rattle.clover_map.specs.declared.call.Entry.{Entry}
+use Rattle.clover_rule.specs.Changes.{raised_mem, raised_story, greatest}
 use Rattle.clover_rule.specs.History.{Map}
 use Rattle.clover_rule.specs.Lists.{nth, Within}
-use Rattle.clover_rule.specs.State.{Mem, Stocked, Story, Core, Tale, unsure, raised_mem, raised_story, greatest}
+use Rattle.clover_rule.specs.Memory.{Mem}
+use Rattle.clover_rule.specs.Story.{Stocked, Story, Core, Tale, unsure}
 use Rattle.clover_rule.specs.Views.{IsLink, ViewOk, Basis, renewed, raise_view, RaiseLaw}
 use Rattle.clover_rule.specs.declared.view.Link.{Link}
 use Rattle.clover_rule.specs.declared.view.View.{View}

@@ -4,9 +4,11 @@ use native.Mathlib.Decide.{ℕ_discrete}
 use mathlib.Core.Logic.{dite}
 use Rattle.std.specs.Prelude.{Some, None}
 use Rattle.clover_map.specs.declared.call.Entry.{Entry}
+use Rattle.clover_rule.specs.Changes.{recycled_mem, recycled_story}
 use Rattle.clover_rule.specs.History.{Map, used_by}
 use Rattle.clover_rule.specs.Lists.{nth}
-use Rattle.clover_rule.specs.State.{home, age, word, gen, Mem, Chained, Stocked, Taken, Story, Tale, recycled_mem, recycled_story}
+use Rattle.clover_rule.specs.Memory.{home, age, word, gen, Mem}
+use Rattle.clover_rule.specs.Story.{Chained, Stocked, Taken, Story, Tale}
 use Rattle.clover_rule.specs.Views.{ViewOk, Spent, Basis, renewed}
 use Rattle.clover_rule.specs.declared.view.View.{View}
 use Rattle.clover_rule.proofs.Tools.{upd_else}

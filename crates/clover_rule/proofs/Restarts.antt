@@ -6,8 +6,10 @@ use Rattle.clover_rule.specs.Content.{Spells}
 use Rattle.clover_rule.specs.History.{Map, used_by, ends}
 use Rattle.clover_rule.specs.Image.{Image, IsImage, Chain}
 use Rattle.clover_rule.specs.Lists.{Each, nth}
-use Rattle.clover_rule.specs.Server.{Whole, Sound, Restarting, versions_of}
-use Rattle.clover_rule.specs.State.{home, age, gen, link, Mem, Story}
+use Rattle.clover_rule.specs.Memory.{home, age, gen, link, Mem}
+use Rattle.clover_rule.specs.Server.{Whole}
+use Rattle.clover_rule.specs.Sound.{Sound, Restarting, versions_of}
+use Rattle.clover_rule.specs.Story.{Story}
 use Rattle.clover_rule.specs.declared.view.View.{View}
 use Rattle.clover_words.specs.declared.pool.Pool.{Pool}
 use Rattle.clover_rule.proofs.Steps.{each_map}

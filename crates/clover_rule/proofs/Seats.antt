@@ -7,8 +7,9 @@ use Rattle.clover_map.specs.declared.call.Entry.{Entry}
 use Rattle.clover_rule.specs.Content.{inside}
 use Rattle.clover_rule.specs.History.{Map}
 use Rattle.clover_rule.specs.Lists.{Each, nth, upd, Within, IsPart}
+use Rattle.clover_rule.specs.Memory.{home, age, gen, Mem}
 use Rattle.clover_rule.specs.Server.{root_in, is_home, book_of, Serves, Whole}
-use Rattle.clover_rule.specs.State.{home, age, gen, Mem, Place, Stocked, Free, Taken, Story}
+use Rattle.clover_rule.specs.Story.{Place, Stocked, Free, Taken, Story}
 use Rattle.clover_rule.specs.Views.{find_book, line, alone, empty_pass, Book, book, Apart, ViewOk, handed, book_at}
 use Rattle.clover_rule.specs.declared.view.BookLine.{BookLine}
 use Rattle.clover_rule.specs.declared.view.BufferState.TheVariants.{Free as IsFree, Out as IsOut}

@@ -7,8 +7,10 @@ use Rattle.clover_map.specs.declared.call.Entry.{Entry}
 use Rattle.clover_rule.specs.Content.{spelling, tombstone}
 use Rattle.clover_rule.specs.History.{Map}
 use Rattle.clover_rule.specs.Lists.{nth, upd, Within}
-use Rattle.clover_rule.specs.Server.{Ready, IsStoring, Stage, Help, book_of, Serves, Whole, IsWhole, ServerStep, Begin, FlushMeta, StoreKey, FlushKey, server_after, served_view, ServerLaw}
-use Rattle.clover_rule.specs.State.{home, age, Next, word, gen, link, Mem, Place, Taken, Loose, Story}
+use Rattle.clover_rule.specs.Memory.{home, age, Next, word, gen, link, Mem}
+use Rattle.clover_rule.specs.Server.{Ready, IsStoring, Stage, Help, book_of, Serves, Whole, IsWhole}
+use Rattle.clover_rule.specs.ServerSteps.{ServerStep, Begin, FlushMeta, StoreKey, FlushKey, server_after, served_view, ServerLaw}
+use Rattle.clover_rule.specs.Story.{Place, Taken, Loose, Story}
 use Rattle.clover_rule.specs.Views.{book, renewed, book_at, line}
 use Rattle.clover_rule.specs.declared.view.BufferState.TheVariants.{Out as IsOut}
 use Rattle.clover_rule.specs.declared.view.Role.TheVariants.{Serving}

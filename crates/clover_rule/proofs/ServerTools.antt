@@ -6,8 +6,10 @@ use Rattle.std.specs.Prelude.{Option, Some, None}
 use Rattle.clover_map.specs.declared.call.Entry.{Entry}
 use Rattle.clover_rule.specs.History.{Version, Map, used_by}
 use Rattle.clover_rule.specs.Lists.{Each, nth, upd, Within}
-use Rattle.clover_rule.specs.Server.{Help, root_in, is_home, book_of, Serves, Whole, ServerStep, LoadRoot, FlushLink, StoreRoot, StoreFlushedRoot, ExchangeRoot, FreeOld, Begin, FlushMeta, StoreKey, FlushKey, BindRoot, BindFlushedRoot, StoreCount, server_after, served_view}
-use Rattle.clover_rule.specs.State.{home, gen, link, Mem, Place, Chained, Stocked, Free, Worn, Taken, Loose, Story, Core, Tale}
+use Rattle.clover_rule.specs.Memory.{home, gen, link, Mem}
+use Rattle.clover_rule.specs.Server.{Help, root_in, is_home, book_of, Serves, Whole}
+use Rattle.clover_rule.specs.ServerSteps.{ServerStep, LoadRoot, FlushLink, StoreRoot, StoreFlushedRoot, ExchangeRoot, FreeOld, Begin, FlushMeta, StoreKey, FlushKey, BindRoot, BindFlushedRoot, StoreCount, server_after, served_view}
+use Rattle.clover_rule.specs.Story.{Place, Chained, Stocked, Free, Worn, Taken, Loose, Story, Core, Tale}
 use Rattle.clover_rule.specs.Views.{book, Holds, Stands, ViewOk, Spent, Basis, renewed}
 use Rattle.clover_rule.specs.declared.view.BufferState.TheVariants.{Free as IsFree, Bound as IsBound, Out as IsOut}
 use Rattle.clover_rule.specs.declared.view.Role.TheVariants.{Serving}

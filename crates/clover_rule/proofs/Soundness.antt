@@ -7,8 +7,10 @@ use Rattle.clover_rule.specs.Content.{content, InRange, Spells, Fits}
 use Rattle.clover_rule.specs.History.{Version, Map, ends, leads, kept}
 use Rattle.clover_rule.specs.Image.{Image, IsImage, Chain, missing, sift, tags}
 use Rattle.clover_rule.specs.Lists.{nth}
-use Rattle.clover_rule.specs.Server.{versions_of, holding, AtStage, Stage, Help, Whole, Sound}
-use Rattle.clover_rule.specs.State.{home, gen, link, Mem, Place, Chained, Stocked, Free, Worn, Taken, Loose, Story, tag_in_version, tag_at, Core, only}
+use Rattle.clover_rule.specs.Memory.{home, gen, link, Mem}
+use Rattle.clover_rule.specs.Server.{holding, AtStage, Stage, Help, Whole}
+use Rattle.clover_rule.specs.Sound.{versions_of, Sound}
+use Rattle.clover_rule.specs.Story.{Place, Chained, Stocked, Free, Worn, Taken, Loose, Story, tag_in_version, tag_at, Core, only}
 use Rattle.clover_rule.specs.declared.view.Task.{Task}
 use Rattle.clover_rule.specs.declared.view.Task.TheVariants.{Idle, Storing, Rooted, Waiting, Loaded, Raised, Led, Both, Exchanged}
 use Rattle.clover_rule.specs.declared.view.View.{View}

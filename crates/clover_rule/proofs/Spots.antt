@@ -5,8 +5,8 @@ use mathlib.Core.Logic.{dite}
 use Rattle.std.specs.Prelude.{Option, Some, None}
 use Rattle.clover_rule.specs.Image.{Image, Chain}
 use Rattle.clover_rule.specs.Lists.{nth}
-use Rattle.clover_rule.specs.Server.{Sound}
-use Rattle.clover_rule.specs.State.{home}
+use Rattle.clover_rule.specs.Memory.{home}
+use Rattle.clover_rule.specs.Sound.{Sound}
 use Rattle.clover_words.specs.declared.pool.Pool.{Pool}
 
 next_place : Option ℕ → Option ℕ

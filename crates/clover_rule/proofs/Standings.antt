@@ -6,7 +6,8 @@ use Rattle.std.specs.Prelude.{Option, Some, None}
 use Rattle.std.proofs.lemmas.Bool.Decides.{nat_tests}
 use Rattle.clover_rule.specs.History.{Version}
 use Rattle.clover_rule.specs.Lists.{nth}
-use Rattle.clover_rule.specs.State.{home, age, Next, word, gen, link, Mem, Story, tag_in_version, tag_at, only, Core}
+use Rattle.clover_rule.specs.Memory.{home, age, Next, word, gen, link, Mem}
+use Rattle.clover_rule.specs.Story.{Story, tag_in_version, tag_at, only, Core}
 use Rattle.clover_rule.proofs.Tools.{nth_within, nth_past}
 
 -- a tag at a place, of the version there

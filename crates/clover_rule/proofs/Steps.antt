@@ -4,7 +4,8 @@ use Rattle.std.specs.Prelude.{Some}
 use Rattle.clover_map.specs.declared.call.Entry.{Entry}
 use Rattle.clover_rule.specs.History.{Version, own}
 use Rattle.clover_rule.specs.Lists.{Each, nth, IsPart, Within, IsPrefix}
-use Rattle.clover_rule.specs.State.{home, Next, word, gen, Mem, Stocked, Story, tag_in_version, tag_at, Durable}
+use Rattle.clover_rule.specs.Memory.{home, Next, word, gen, Mem}
+use Rattle.clover_rule.specs.Story.{Stocked, Story, tag_in_version, tag_at, Durable}
 use Rattle.clover_rule.specs.Views.{IsLink, Past, IsCopied, Owned, OwnCalls, ViewOk}
 use Rattle.clover_rule.specs.declared.view.Content.{Content}
 use Rattle.clover_rule.specs.declared.view.Link.{Link}

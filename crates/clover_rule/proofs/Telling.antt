@@ -15,9 +15,10 @@ use Rattle.clover_rule.specs.Content.{InRange, IsKey}
 use Rattle.clover_rule.specs.History.{shows}
 use Rattle.clover_rule.specs.Lists.{Each, Within, nth}
 use Rattle.clover_rule.specs.Meets.{Meets, IsMet}
+use Rattle.clover_rule.specs.Memory.{Next, Mem, gen, link, home}
 use Rattle.clover_rule.specs.Server.{Ready}
-use Rattle.clover_rule.specs.State.{Next, Story, Mem, Durable, gen, link, tag_at, home}
 use Rattle.clover_rule.specs.Steps.{Step, Asks, LoadNext, DecideNext, RaiseNext, LinkNext, StoreContent, FlushContent, LoadContent, ReadRoot, ReadShort, StoreShort, ReadCount, AbsentCount, word_of, side_of, next_view, next_history, found, words_after_step}
+use Rattle.clover_rule.specs.Story.{Story, Durable, tag_at}
 use Rattle.clover_rule.specs.Told.{Facts, IsShown, Told, TableLaw}
 use Rattle.clover_rule.specs.Words.{buffer_at, content_at, mem_of}
 use Rattle.clover_rule.specs.declared.view.View.{View}

@@ -12,7 +12,7 @@ use Rattle.clover_words.specs.Place.{IsBuffer, IsWithin, HasSide, address_of, co
 use Rattle.clover_words.proofs.Places.{copy_set, copy_kept}
 use Rattle.clover_rule.specs.Content.{inside}
 use Rattle.clover_rule.specs.Lists.{upd}
-use Rattle.clover_rule.specs.State.{word, Mem}
+use Rattle.clover_rule.specs.Memory.{word, Mem}
 use Rattle.clover_rule.specs.Words.{root_code, next_code, root_of, next_of, buffer_at, content_at, guarded, mem_of}
 use Rattle.clover_rule.proofs.Tools.{upd_same, upd_else}
 

@@ -15,10 +15,11 @@ use Rattle.clover_rule.specs.History.{Version, commits, commit_of, key_of, leads
 use Rattle.clover_rule.specs.Image.{tags}
 use Rattle.clover_rule.specs.Lists.{nth, Within, Each}
 use Rattle.clover_rule.specs.Meets.{Meets}
+use Rattle.clover_rule.specs.Memory.{age, Next, word, gen, link, home, order, Mem}
 use Rattle.clover_rule.specs.Parts.{Falls}
 use Rattle.clover_rule.specs.Rule.{held_by, BuffersInOnePlace, ChainsAndContents, Rule, LinksAndRootsFlushed, NextWordsRise, StocksAtRest, AtRest, DurableTagsKnown, TargetsStand, CopiesAreWhole, ShortcutsKnown, NamesAndCount, tail_pair, HistoryAndMap, ViewsAndHistory}
 use Rattle.clover_rule.specs.Server.{IsWaiting, waiting_name, moving, holding, AtStage, root_in, is_home, book_of}
-use Rattle.clover_rule.specs.State.{Waits, Loose, tag_in_version, age, Next, word, gen, link, home, only, order, Mem, Place, Chained, Stocked, Free, Worn, Taken, Story, tag_at, Core}
+use Rattle.clover_rule.specs.Story.{Waits, Loose, tag_in_version, only, Place, Chained, Stocked, Free, Worn, Taken, Story, tag_at, Core}
 use Rattle.clover_rule.specs.Views.{Owned, book, Spent, Past, IsLink, Holds}
 use Rattle.clover_rule.specs.Words.{mem_of}
 use Rattle.clover_rule.specs.declared.view.BufferState.TheVariants.{Worn as IsWorn, Bound as IsBound, Out as IsOut}

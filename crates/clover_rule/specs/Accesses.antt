@@ -16,8 +16,8 @@ use Rattle.clover_map.specs.declared.call.Reply.TheVariants.{Stored, Found, Abse
 use Rattle.clover_rule.specs.Content.{content, tombstone, value_meta, Spells}
 use Rattle.clover_rule.specs.History.{named}
 use Rattle.clover_rule.specs.Lists.{nth, Within}
+use Rattle.clover_rule.specs.Memory.{Mem, home}
 use Rattle.clover_rule.specs.Parts.{Walk}
-use Rattle.clover_rule.specs.State.{Mem, home}
 use Rattle.clover_rule.specs.Steps.{unlinked, linked, value_of}
 use Rattle.clover_rule.specs.Words.{buffer_at, content_at, mem_of}
 use Rattle.clover_rule.specs.declared.access.Access.{Access}

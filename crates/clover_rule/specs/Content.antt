@@ -8,7 +8,7 @@ use Rattle.clover_words.specs.Meta.{meta_word}
 use Rattle.clover_words.specs.Pack.{packed, words_of, AreBytes}
 use Rattle.clover_map.specs.declared.bytes.Value.{Value}
 use Rattle.clover_rule.specs.Lists.{nth}
-use Rattle.clover_rule.specs.State.{home, age}
+use Rattle.clover_rule.specs.Memory.{home, age}
 
 -- the meta words of a tombstone and of a value
 abbrev pub tombstone : ℕ

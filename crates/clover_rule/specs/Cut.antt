@@ -14,9 +14,9 @@ use Rattle.clover_rule.specs.History.{ends, kept, Last}
 use Rattle.clover_rule.specs.Image.{Image}
 use Rattle.clover_rule.specs.Lists.{Within}
 use Rattle.clover_rule.specs.Meets.{IsCode}
+use Rattle.clover_rule.specs.Memory.{word}
 use Rattle.clover_rule.specs.Rule.{Rule}
-use Rattle.clover_rule.specs.Server.{Sound, versions_of}
-use Rattle.clover_rule.specs.State.{word}
+use Rattle.clover_rule.specs.Sound.{Sound, versions_of}
 use Rattle.clover_rule.specs.Words.{next_of, root_of, buffer_at, content_at, guarded}
 use Rattle.clover_rule.specs.declared.view.View.{View}
 

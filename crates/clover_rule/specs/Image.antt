@@ -3,7 +3,8 @@ use Prim.Native.Nat.{zero, suc}
 use Rattle.std.specs.Prelude.{◌≡◌, ℕ, ◌≢◌, ◌⊎◌, List, [], ◌∷◌, map, Bool, true, false, cond, ◌&&◌, Option, Some, None}
 use Rattle.clover_map.specs.declared.bytes.Held.{Held}
 use Rattle.clover_rule.specs.History.{Version, Map, ends}
-use Rattle.clover_rule.specs.State.{Mem, Next, gen, link, home, age, Story, tag_at, unsure}
+use Rattle.clover_rule.specs.Memory.{Mem, Next, gen, link, home, age}
+use Rattle.clover_rule.specs.Story.{Story, tag_at, unsure}
 
 pub record Image : Type 0 where
   pub next : ℕ → Next

@@ -12,8 +12,8 @@ use Rattle.clover_rule.specs.History.{named}
 use Rattle.clover_rule.specs.Lists.{nth}
 use Rattle.clover_rule.specs.Meets.{Meets}
 use Rattle.clover_rule.specs.Rule.{Rule}
-use Rattle.clover_rule.specs.State.{Story}
 use Rattle.clover_rule.specs.Steps.{Step, Asks, word_of, side_of, becomes, act_of, found, words_after_step, next_view, next_history, DecideNext, unlinked}
+use Rattle.clover_rule.specs.Story.{Story}
 use Rattle.clover_rule.specs.Told.{Told, TableHolds}
 use Rattle.clover_rule.specs.Words.{mem_of}
 use Rattle.clover_rule.specs.declared.view.View.{View}

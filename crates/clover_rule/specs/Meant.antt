@@ -7,11 +7,11 @@ use Rattle.clover_words.specs.declared.word.Side.{Side}
 use Rattle.clover_words.specs.declared.word.Side.TheVariants.{Current, Flushed}
 use Rattle.clover_map.specs.declared.call.Call.{Call}
 use Rattle.clover_map.specs.declared.call.Reply.{Reply}
+use Rattle.clover_rule.specs.Steps.{Step, LoadNext, DecideNext, RaiseNext, LinkNext, StoreContent, FlushContent, LoadContent, ReadRoot, ReadShort, StoreShort, ReadCount, AbsentCount, act_of}
+use Rattle.clover_rule.specs.Words.{root_of}
 use Rattle.clover_rule.specs.declared.access.Act.TheVariants.{Load, Store, Exchange, Raise}
 use Rattle.clover_rule.specs.declared.step.Kind.{Kind}
 use Rattle.clover_rule.specs.declared.step.Kind.TheVariants.{Decide, Copy, Start, Count, Lead}
-use Rattle.clover_rule.specs.Steps.{Step, LoadNext, DecideNext, RaiseNext, LinkNext, StoreContent, FlushContent, LoadContent, ReadRoot, ReadShort, StoreShort, ReadCount, AbsentCount, act_of}
-use Rattle.clover_rule.specs.Words.{root_of}
 
 -- the place of a content word in its buffer
 abbrev pub place_in : Word → ℕ

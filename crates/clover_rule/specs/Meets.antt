@@ -11,7 +11,7 @@ use Rattle.std.specs.Prelude.{Some}
 use Rattle.clover_rule.specs.History.{shows}
 use Rattle.clover_rule.specs.Lists.{nth}
 use Rattle.clover_rule.specs.Server.{Whole}
-use Rattle.clover_rule.specs.State.{Story}
+use Rattle.clover_rule.specs.Story.{Story}
 use Rattle.clover_rule.specs.Words.{next_code, root_code, next_of, root_of, mem_of}
 use Rattle.clover_rule.specs.declared.view.View.{View}
 

@@ -2,7 +2,7 @@
 use Prim.Native.Nat.{suc}
 use Rattle.std.specs.Prelude.{◌≡◌, ℕ, ◌<◌, List, [], ◌∷◌, Option, Some, None}
 use Rattle.clover_rule.specs.Lists.{Each, Within}
-use Rattle.clover_rule.specs.State.{Mem, Next, word, gen, link, home, age, order}
+use Rattle.clover_rule.specs.Memory.{Mem, Next, word, gen, link, home, age, order}
 use Rattle.clover_rule.specs.declared.view.Shown.{Shown}
 use Rattle.clover_rule.specs.declared.view.View.{View}
 

@@ -7,9 +7,9 @@ use Rattle.clover_rule.specs.Content.{inside, tombstone, spelling, IsKey}
 use Rattle.clover_rule.specs.History.{shows}
 use Rattle.clover_rule.specs.Lists.{nth}
 use Rattle.clover_rule.specs.Meets.{OfRun, Decodes}
+use Rattle.clover_rule.specs.Memory.{Mem, word, home, age}
+use Rattle.clover_rule.specs.Opening.{Starts}
 use Rattle.clover_rule.specs.Rule.{Rule}
-use Rattle.clover_rule.specs.Server.{Starts}
-use Rattle.clover_rule.specs.State.{Mem, word, home, age}
 use Rattle.clover_rule.specs.Views.{Numbered}
 use Rattle.clover_rule.specs.Words.{mem_of}
 use Rattle.clover_rule.specs.declared.view.Role.TheVariants.{Serving}

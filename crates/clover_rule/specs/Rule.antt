@@ -11,9 +11,10 @@ use Rattle.clover_rule.specs.Content.{content, inside}
 use Rattle.clover_rule.specs.History.{Version, used_by, commit_of, paired}
 use Rattle.clover_rule.specs.Lists.{Each, nth, Within, IsPrefix, IsPart}
 use Rattle.clover_rule.specs.Meets.{Meets}
+use Rattle.clover_rule.specs.Memory.{Mem, word, gen, home, age}
 use Rattle.clover_rule.specs.Parts.{ChainsStand, AllButLast, HasPassed, IsKnown, IsTarget, HasValues}
 use Rattle.clover_rule.specs.Server.{waiting_name}
-use Rattle.clover_rule.specs.State.{Mem, word, gen, home, age, Place, Chained, Stocked, Free, Worn, Taken, Story}
+use Rattle.clover_rule.specs.Story.{Place, Chained, Stocked, Free, Worn, Taken, Story}
 use Rattle.clover_rule.specs.Views.{Apart, Holds, book, book_at, OwnCalls}
 use Rattle.clover_rule.specs.Words.{mem_of}
 use Rattle.clover_rule.specs.declared.view.BufferState.TheVariants.{Free as IsFree, Worn as IsWorn}

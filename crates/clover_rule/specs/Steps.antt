@@ -14,11 +14,12 @@ use Rattle.clover_map.specs.declared.call.Call.TheVariants.{Get, Put, Delete, Sw
 use Rattle.clover_map.specs.declared.call.Reply.{Reply}
 use Rattle.clover_map.specs.declared.call.Reply.TheVariants.{Stored, Found, Absent, Deleted, Differs}
 use Rattle.clover_map.specs.declared.call.Entry.{Entry}
+use Rattle.clover_rule.specs.Changes.{greatest}
 use Rattle.clover_rule.specs.Content.{content, Fits}
 use Rattle.clover_rule.specs.History.{named}
+use Rattle.clover_rule.specs.Knowing.{CopiedValue, SawValue, SawTombstone, link_entry, link_view, stored_view, flushed_view}
 use Rattle.clover_rule.specs.Lists.{Within, nth}
-use Rattle.clover_rule.specs.Server.{CopiedValue, SawValue, SawTombstone, link_entry, link_view, stored_view, flushed_view}
-use Rattle.clover_rule.specs.State.{Next, word, home, age, greatest}
+use Rattle.clover_rule.specs.Memory.{Next, word, home, age}
 use Rattle.clover_rule.specs.Views.{raise_view, shown}
 use Rattle.clover_rule.specs.Words.{next_code, root_code, next_of, root_of, buffer_at, content_at}
 use Rattle.clover_rule.specs.declared.access.Act.{Act}

@@ -11,7 +11,7 @@ use Rattle.atomic_table.specs.Table.{State, Me, Allows}
 use Rattle.clover_rule.specs.Content.{InRange, IsKey}
 use Rattle.clover_rule.specs.Lists.{Each, IsPrefix}
 use Rattle.clover_rule.specs.Meets.{IsCode, IsMet}
-use Rattle.clover_rule.specs.State.{gen, link}
+use Rattle.clover_rule.specs.Memory.{gen, link}
 use Rattle.clover_rule.specs.Steps.{Step, Asks, word_of, side_of, becomes, next_view, next_history}
 use Rattle.clover_rule.specs.Views.{OwnCalls, Apart}
 use Rattle.clover_rule.specs.Words.{next_of, root_of}

@@ -8,7 +8,7 @@ use Rattle.clover_words.specs.declared.word.Word.TheVariants.{Next as NextOf, Me
 use Rattle.clover_words.specs.declared.word.Side.TheVariants.{Current, Flushed}
 use Rattle.clover_words.specs.Place.{copy_in}
 use Rattle.clover_rule.specs.Content.{inside}
-use Rattle.clover_rule.specs.State.{Next, word, Mem}
+use Rattle.clover_rule.specs.Memory.{Next, word, Mem}
 
 -- a root, a shortcut and a next word as numbers; a tag is its number
 abbrev pub root_code : Option ℕ → ℕ

@@ -1,40 +1,11 @@
--- The words of a pool as decoded values, the story behind them, and the facts that hold of both.
-use Prim.Native.Nat.{suc}
-use Rattle.std.specs.Prelude.{◌≡◌, ℕ, ◌/◌, ◌%◌, ◌+◌, ◌<◌, ◌≤◌, ◌≢◌, ◌⊎◌, List, [], ◌∷◌, ◌++◌, length, Bool, true, false, cond, ltb, leb, Option, Some, None}
-use Rattle.clover_map.specs.declared.call.Entry.{Entry}
+-- The story behind the words, which no code holds: the versions of each slot, and the core facts that hold of it and the words.
 use Rattle.clover_rule.specs.History.{Version, Map, Legal, commits, ends, Unread}
-use Rattle.clover_rule.specs.Lists.{nth, upd}
+use Rattle.clover_rule.specs.Lists.{nth}
+use Rattle.clover_rule.specs.Memory.{home, age, Next, word, gen, link, Mem}
 use Rattle.clover_rule.specs.declared.view.Task.{Task}
-
--- the buffer and the generation of a tag, and the tag of a buffer at a generation
-unfoldable pub home : ℕ → ℕ
-home t = t / 1048576
-
-unfoldable pub age : ℕ → ℕ
-age t = t % 1048576
-
--- a next word: its own generation and its link. A `data` type, since the tactics take a constructor apart and a record literal not
-pub data Next : Type 0 where
-  word : ℕ → Option ℕ → Next
-
-abbrev pub gen : Next → ℕ
-gen (word a l) = a
-
-abbrev pub link : Next → Option ℕ
-link (word a l) = l
-
--- the copies of the words: by buffer, by buffer and place, by slot
-pub record Mem : Type 0 where
-  pub next : ℕ → Next
-  pub fnext : ℕ → Next
-  pub body : ℕ → ℕ → ℕ
-  pub fbody : ℕ → ℕ → ℕ
-  pub root : ℕ → Option ℕ
-  pub froot : ℕ → Option ℕ
-  pub short : ℕ → Option ℕ
-  pub count : ℕ
-  pub key : ℕ → ℕ → ℕ
-  pub fkey : ℕ → ℕ → ℕ
+use Prim.Native.Nat.{suc}
+use Rattle.std.specs.Prelude.{◌≡◌, ℕ, ◌<◌, ◌≤◌, ◌≢◌, ◌⊎◌, List, [], ◌++◌, length, Bool, true, false, ltb, leb, Option, Some, None}
+use Rattle.clover_map.specs.declared.call.Entry.{Entry}
 
 pub data Place : Type 0 where
   Chained : ℕ → Place
@@ -130,39 +101,3 @@ pub record Tale (st : Story) (m0 : Map) (used : List ℕ) (h : List Entry) : Typ
 -- the version at place i of slot s is durable
 abbrev pub Durable : Story → ℕ → ℕ → Type 0
 Durable st s t = (i : ℕ) × (tag_at st s i ≡ Some t) × (i < st.sure s)
-
-abbrev pub linked_mem : Mem → ℕ → ℕ → Mem
-linked_mem m u t = record m { next = upd m.next (home u) (word (age u) (Some t)) }
-
-abbrev pub linked_story : Story → ℕ → Version → Story
-linked_story st s w = record st {
-  log = upd st.log s (st.log s ++ w ∷ []);
-  slot_of = upd st.slot_of w.tag s;
-  rank = upd st.rank w.tag (length (st.log s));
-  place = upd st.place (home w.tag) (Chained s);
-}
-
--- the greater of two values of one next word
-abbrev pub order : Next → ℕ
-order (word a None) = a + a
-order (word a (Some t)) = suc (a + a)
-
-abbrev pub greater : Next → Next → Next
-greater o n = cond (ltb (order o) (order n)) n o
-
-abbrev pub greatest : ℕ → ℕ → ℕ
-greatest a b = cond (ltb a b) b a
-
--- a raise to the link of the version u at place i of slot s
-abbrev pub raised_mem : Mem → ℕ → ℕ → Mem
-raised_mem m u t = record m { fnext = upd m.fnext (home u) (greater (m.fnext (home u)) (word (age u) (Some t))) }
-
-abbrev pub raised_story : Story → ℕ → ℕ → Story
-raised_story st s i = record st { sure = upd st.sure s (greatest (st.sure s) (suc (suc i))) }
-
--- the recycling exchange at the root version r of slot s
-abbrev pub recycled_mem : Mem → ℕ → Mem
-recycled_mem m r = record m { next = upd m.next (home r) (word (suc (age r)) None) }
-
-abbrev pub recycled_story : Story → ℕ → ℕ → Story
-recycled_story st s r = record st { gone = upd st.gone s (suc (st.gone s)); place = upd st.place (home r) Taken }

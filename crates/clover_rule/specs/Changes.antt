@@ -1,0 +1,35 @@
+-- How the words and the story change by a link, a raise and a recycling.
+use Rattle.clover_rule.specs.History.{Version}
+use Rattle.clover_rule.specs.Lists.{upd}
+use Rattle.clover_rule.specs.Memory.{home, age, word, Mem, greater}
+use Rattle.clover_rule.specs.Story.{Story, Chained, Taken}
+use Prim.Native.Nat.{suc}
+use Rattle.std.specs.Prelude.{ℕ, [], ◌∷◌, ◌++◌, length, cond, ltb, Some, None}
+
+abbrev pub linked_mem : Mem → ℕ → ℕ → Mem
+linked_mem m u t = record m { next = upd m.next (home u) (word (age u) (Some t)) }
+
+abbrev pub linked_story : Story → ℕ → Version → Story
+linked_story st s w = record st {
+  log = upd st.log s (st.log s ++ w ∷ []);
+  slot_of = upd st.slot_of w.tag s;
+  rank = upd st.rank w.tag (length (st.log s));
+  place = upd st.place (home w.tag) (Chained s);
+}
+
+abbrev pub greatest : ℕ → ℕ → ℕ
+greatest a b = cond (ltb a b) b a
+
+-- a raise to the link of the version u at place i of slot s
+abbrev pub raised_mem : Mem → ℕ → ℕ → Mem
+raised_mem m u t = record m { fnext = upd m.fnext (home u) (greater (m.fnext (home u)) (word (age u) (Some t))) }
+
+abbrev pub raised_story : Story → ℕ → ℕ → Story
+raised_story st s i = record st { sure = upd st.sure s (greatest (st.sure s) (suc (suc i))) }
+
+-- the recycling exchange at the root version r of slot s
+abbrev pub recycled_mem : Mem → ℕ → Mem
+recycled_mem m r = record m { next = upd m.next (home r) (word (suc (age r)) None) }
+
+abbrev pub recycled_story : Story → ℕ → ℕ → Story
+recycled_story st s r = record st { gone = upd st.gone s (suc (st.gone s)); place = upd st.place (home r) Taken }
