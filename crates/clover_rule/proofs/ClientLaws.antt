@@ -30,7 +30,7 @@ module _ (l : Pool) (m0 : Map) (used : List ℕ) (m : Mem) (vs : List View) (st 
 
   -- the raise over a link that the client hops over or wrote
   pub raise_whole : (n : ℕ) → v.pass.role ≡ Client n → (q : Link) → Within q v.pass.links
-      → (st' : Story) × Whole l m0 used (raised_mem m q.from q.to) (renewed vs id (raise_view v q)) st' h
+      → (st' : Story) × Whole l m0 used (raised_mem m q.from q.to) (renewed vs id (raise_view v q)) st' h × ((b : ℕ) → st'.place b ≡ st.place b)
   raise_whole n role q p =
       let a = known m0 used m vs st h r id v at q p in
       let g = raise_grows m0 used m vs st h r id v at q p in (
@@ -41,6 +41,7 @@ module _ (l : Pool) (m0 : Map) (used : List ℕ) (m : Mem) (vs : List View) (st 
             (raise_serves l m st r.core w.help q.slot a.0 q.from q.to record { from = a.1; to = a.2 } h g)
             (each_map (λ t d. (d.0, go t (ℕ_discrete (home t) (home q.from)) d.1)) (used_by used h) w.safe)
             (λ cs x y. y),
+        λ b. refl,
       )
     where
       go : (t : ℕ) → Dec (home t ≡ home q.from) → age t ≤ gen (m.fnext (home t)) → age t ≤ gen ((raised_mem m q.from q.to).fnext (home t))

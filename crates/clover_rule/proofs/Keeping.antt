@@ -14,18 +14,18 @@ use Rattle.clover_map.specs.declared.call.Entry.{Entry}
 use Rattle.clover_map.specs.Tagged.{Tagged}
 use Rattle.clover_rule.specs.Content.{inside, InRange}
 use Rattle.clover_rule.specs.History.{shows}
-use Rattle.clover_rule.specs.Lists.{nth}
-use Rattle.clover_rule.specs.Meets.{IsCode, Decodes, OfRun, Meets}
-use Rattle.clover_rule.specs.Memory.{Next, word, home, age}
+use Rattle.clover_rule.specs.Lists.{Within, nth}
+use Rattle.clover_rule.specs.Meets.{InStocks, IsCode, Decodes, OfRun, Meets}
+use Rattle.clover_rule.specs.Memory.{home, Next, word, age}
 use Rattle.clover_rule.specs.Server.{Whole}
 use Rattle.clover_rule.specs.Steps.{IsClient, counted}
-use Rattle.clover_rule.specs.Story.{Story}
+use Rattle.clover_rule.specs.Story.{Stocked, Story}
 use Rattle.clover_rule.specs.Views.{renewed}
 use Rattle.clover_rule.specs.Words.{root_code, next_code, root_of, next_of, buffer_at, content_at, mem_of}
 use Rattle.clover_rule.specs.declared.access.Act.{Act}
 use Rattle.clover_rule.specs.declared.view.View.{View}
 use Rattle.clover_rule.proofs.Ties.{guard_true, test_below, and_true}
-use Rattle.clover_rule.proofs.Steps.{nth_set}
+use Rattle.clover_rule.proofs.Steps.{nth_set, set_here, set_away}
 use Rattle.clover_rule.proofs.Learning.{recount}
 
 pub decodes_set : (p : Pool) (ws : List ℕ) (w0 : Word) (s0 : Side) (n : ℕ) → Decodes p ws → IsWithin p w0 → HasSide w0 s0 → address_of p w0 s0 < length ws → IsCode w0 n → Decodes p (slice_set ws (address_of p w0 s0) n)
@@ -77,14 +77,23 @@ pub record SameRun (v y : View) : Type 0 where
   pub used : y.pass.used ≡ v.pass.used
 
 module _ (p : Pool) (first : Tagged) (used : List ℕ) (ws : List ℕ) (vs : List View) (st : Story) (h : List Entry) (r : Meets p first used ws vs st h) (id : ℕ) (v : View) (at : nth vs id ≡ Some v) (cl : IsClient v) where
-  pub stepped : (w0 : Word) (s0 : Side) (n : ℕ) → IsWithin p w0 → HasSide w0 s0 → IsCode w0 n → (y : View) → SameRun v y → IsClient y → (st' : Story) (h' : List Entry)
+  -- the stocks of the views after
+  in_renewed : (y : View) (st' : Story) → ((t : ℕ) → st'.place (home t) ≡ Stocked id → Within t v.pass.stock → Within t y.pass.stock) → (i : ℕ) (x : View) → nth vs i ≡ Some x → (t : ℕ) → Within t x.pass.stock → (c : ℕ) → home t ≡ c → st'.place c ≡ Stocked i → Dec (i ≡ id)
+      → (z : View) × (nth (renewed vs id y) i ≡ Some z) × (u : ℕ) × Within u z.pass.stock × (home u ≡ c)
+  in_renewed y st' stock i x q t w c e f (yes d) =
+      let same : x ≡ v = (let z : Some x ≡ Some v = sym q ∙ ap (nth vs) d ∙ at in cc) in
+      (y, ap (nth (renewed vs id y)) d ∙ set_here vs id y v at, t, stock t (ap st'.place e ∙ f ∙ ap Stocked d) (subst (λ (z : View). Within t z.pass.stock) same w), e)
+  in_renewed y st' stock i x q t w c e f (no d) = (x, set_away vs id i y d ∙ q, t, w, e)
+
+  pub stepped : (w0 : Word) (s0 : Side) (n : ℕ) → IsWithin p w0 → HasSide w0 s0 → IsCode w0 n → (y : View) → SameRun v y → IsClient y → (st' : Story) (h' : List Entry) → ((b i : ℕ) → st'.place b ≡ Stocked i → st.place b ≡ Stocked i) → ((t : ℕ) → st'.place (home t) ≡ Stocked id → Within t v.pass.stock → Within t y.pass.stock)
       → Whole p (shows first) used (mem_of p (slice_set ws (address_of p w0 s0) n)) (renewed vs id y) st' h'
       → (b : Bool) (a : Act) (k : ℕ) → Meets p first used (slice_set ws (address_of p w0 s0) n) (renewed vs id (counted b a k y)) st' h'
-  stepped w0 s0 n hw hs code y run cy st' h' w b a k =
+  stepped w0 s0 n hw hs code y run cy st' h' places stock w b a k =
       let hl : address_of p w0 s0 < length ws = let q = address_below p w0 s0 hw hs in let e = r.sized in omega arith in
       record {
         sized = length-set ws (address_of p w0 s0) n ∙ r.sized;
         decodes = decodes_set p ws w0 s0 n r.decodes hw hs hl code;
         same = λ i z q. ⊎_elim (λ d. let o = r.same id v at in subst (OfRun p first used) d.1 (record { of_pool = run.pool ∙ o.of_pool; from_map = run.map ∙ o.from_map; from_used = run.used ∙ o.from_used })) (λ d. r.same i z d.1) (nth_set vs id i (counted b a k y) z q);
+        stocks = λ c i e. let x = r.stocks c i (places c i e) in in_renewed (counted b a k y) st' stock i x.0 x.1 x.2 x.3 c x.4 e (ℕ_discrete i id);
         whole = recount p (shows first) used (mem_of p (slice_set ws (address_of p w0 s0) n)) vs st' h' id v at y cy b a k w;
       }

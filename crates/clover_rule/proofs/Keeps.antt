@@ -18,22 +18,25 @@ use Rattle.clover_map.specs.declared.call.Reply.{Reply}
 use Rattle.clover_map.specs.declared.call.Reply.TheVariants.{Stored, Found, Absent, Deleted, Differs}
 use Rattle.clover_map.specs.declared.call.Entry.{Entry}
 use Rattle.clover_map.specs.Tagged.{Tagged}
+use Rattle.clover_map.specs.declared.bytes.Value.{Value}
 use Rattle.clover_rule.specs.Changes.{linked_mem, linked_story, raised_mem}
 use Rattle.clover_rule.specs.Content.{inside, InRange, Fits}
 use Rattle.clover_rule.specs.History.{shows, named, committed, leads, used_by, Does, Map}
 use Rattle.clover_rule.specs.Knowing.{link_view, link_entry, stored_view, flushed_view, MayLink}
-use Rattle.clover_rule.specs.Lists.{upd, nth, Each, Within}
+use Rattle.clover_rule.specs.Lists.{Within, upd, nth, Each}
 use Rattle.clover_rule.specs.Meets.{IsCode, Meets, IsMet}
 use Rattle.clover_rule.specs.Memory.{Next, word, gen, link, order, greater, Mem, home, age}
 use Rattle.clover_rule.specs.Server.{Whole, Ready}
 use Rattle.clover_rule.specs.Steps.{IsClient, client, counted, Step, LoadNext, DecideNext, RaiseNext, LinkNext, StoreContent, FlushContent, LoadContent, ReadRoot, ReadShort, StoreShort, ReadCount, AbsentCount, word_of, side_of, becomes, unlinked, linked, act_of, turn_at, Asks, MayDecide, MayReply, MayCommit, MayCall, MayMiss, learned, seen, decided, started, counts, missed, rest_of, value_of, reply_of, next_view, next_history, found, words_after_step, number_of}
-use Rattle.clover_rule.specs.Story.{Durable, Story, tag_at, only}
+use Rattle.clover_rule.specs.Story.{Chained, Stocked, Durable, Story, tag_at, only}
 use Rattle.clover_rule.specs.Views.{IsLink, renewed, raise_view, Owned}
 use Rattle.clover_rule.specs.Words.{root_code, next_code, root_of, next_of, buffer_at, content_at, mem_of}
 use Rattle.clover_rule.specs.declared.view.Link.{Link}
 use Rattle.clover_rule.specs.declared.view.Role.{Role}
 use Rattle.clover_rule.specs.declared.view.Role.TheVariants.{Client}
 use Rattle.clover_rule.specs.declared.view.View.{View}
+use Rattle.clover_map.specs.declared.bytes.Value.{Value}
+use Rattle.clover_rule.proofs.Tools.{upd_same, upd_else}
 use Rattle.clover_rule.proofs.Ties.{write_next, write_fnext, write_body, write_fbody, write_short, next_again, root_again, content_side}
 use Rattle.clover_rule.proofs.Codes.{raise_on_codes, OneLink, Small}
 use Rattle.clover_rule.proofs.Keeping.{stepped, SameRun, tag_small, link_code, inside_of, read_next, read_fnext, read_body, read_root, read_short}
@@ -55,6 +58,14 @@ same_self v = record { role = refl; pool = refl; map = refl; used = refl }
 seen_run : (s t : ℕ) (v : View) (n : Next) → SameRun v (seen s t v n)
 seen_run s t v (word a None) = record { role = refl; pool = refl; map = refl; used = refl }
 seen_run s t v (word a (Some u)) = record { role = refl; pool = refl; map = refl; used = refl }
+
+seen_stock : (s t : ℕ) (v : View) (n : Next) (z : ℕ) → Within z v.pass.stock → Within z (seen s t v n).pass.stock
+seen_stock s t v (word a None) z w = w
+seen_stock s t v (word a (Some u)) z w = w
+
+started_stock : (s : ℕ) (v : View) (o : Option ℕ) (z : ℕ) → Within z v.pass.stock → Within z (started s v o).pass.stock
+started_stock s v None z w = w
+started_stock s v (Some t) z w = w
 
 started_run : (s : ℕ) (v : View) (o : Option ℕ) → SameRun v (started s v o)
 started_run s v None = same_self v
@@ -114,11 +125,11 @@ module _ (p : Pool) (first : Tagged) (used : List ℕ) (ws : List ℕ) (vs : Lis
   room w0 s0 hw hs = let q = address_below p w0 s0 hw hs in let e = r.sized in omega arith
 
   -- a step that leaves its word
-  quiet_step : (a : Step) → HasSide (word_of a) (side_of a) → IsWithin p (word_of a) → IsClient v → (b : Bool) (y : View) → SameRun v y → (k : ℕ) (h' : List Entry) → Whole p m0 used m (renewed vs id y) st h' → After a b (found p a ws) y k h'
-  quiet_step a hs hw cl b y run k h' w =
+  quiet_step : (a : Step) → HasSide (word_of a) (side_of a) → IsWithin p (word_of a) → IsClient v → (b : Bool) (y : View) → SameRun v y → ((t : ℕ) → Within t v.pass.stock → Within t y.pass.stock) → (k : ℕ) (h' : List Entry) → Whole p m0 used m (renewed vs id y) st h' → After a b (found p a ws) y k h'
+  quiet_step a hs hw cl b y run sk k h' w =
       let same : slice_set ws (address_of p (word_of a) (side_of a)) (found p a ws) ≡ ws = set-get_or ws (address_of p (word_of a) (side_of a)) 0 in (
         st,
-        stepped p first used ws vs st h r id v at cl (word_of a) (side_of a) (found p a ws) hw hs (r.decodes (word_of a) (side_of a) hw hs) y run (still v y cl run) st h'
+        stepped p first used ws vs st h r id v at cl (word_of a) (side_of a) (found p a ws) hw hs (r.decodes (word_of a) (side_of a) hw hs) y run (still v y cl run) st h' (λ c i e. e) (λ t e z. sk t z)
             (subst (λ (q : List ℕ). Whole p m0 used (mem_of p q) (renewed vs id y) st h') (sym same) w) b (act_of a (found p a ws)) k,
       )
 
@@ -127,7 +138,7 @@ module _ (p : Pool) (first : Tagged) (used : List ℕ) (ws : List ℕ) (vs : Lis
       let i : inside p (home t) ≡ true = inside_of p (home t) (subst (IsWithin p) ew hw) in
       let x : ℕ = found p a ws in
       let is : x ≡ copy_in p ws (NextOf (buffer_at (home t))) Current = ap (λ (z : Word). slice_index ws (address_of p z (side_of a))) ew ∙ ap (λ (z : Side). slice_index ws (address_of p (NextOf (buffer_at (home t))) z)) es in
-      quiet_step a hs hw cl b (seen s t v (next_of x)) (seen_run s t v (next_of x)) k h
+      quiet_step a hs hw cl b (seen s t v (next_of x)) (seen_run s t v (next_of x)) (seen_stock s t v (next_of x)) k h
       (seen_whole p m0 used m vs st h r.whole id v at cl s t d (next_of x) (read_next p ws (home t) i ∙ ap next_of (sym is)))
 
   at_tail : (t x : ℕ) → inside p (home t) ≡ true → x ≡ copy_in p ws (NextOf (buffer_at (home t))) Current → x ≡ unlinked t → m.next (home t) ≡ word (age t) None
@@ -160,7 +171,7 @@ module _ (p : Pool) (first : Tagged) (used : List ℕ) (ws : List ℕ) (vs : Lis
       by_test x (unlinked t) (λ (z : Bool). After a b x (cond z (decided v h t c y) (seen s t v (next_of x))) (cond z 0 1) (cond z (h ++ link_entry v (client v) c y ∷ []) h))
       (λ e. let f : m.next (home t) ≡ word (age t) None = at_tail t x (inside_of p (home t) hw) refl e in
       let d = reply_does s t c y may.tail may.name f may.client may.reply in
-      quiet_step a tt hw may.client b (decided v h t c y) (record { role = refl; pool = refl; map = refl; used = refl }) 0 (h ++ link_entry v (client v) c y ∷ [])
+      quiet_step a tt hw may.client b (decided v h t c y) (record { role = refl; pool = refl; map = refl; used = refl }) (λ z q. q) 0 (h ++ link_entry v (client v) c y ∷ [])
       (load_whole p m0 used m vs st h r.whole id v at s (named c) t may.tail may.name f (client v) may.client c y refl d.0 d.1))
       (λ n. load_next b a s t refl refl hw tt may.client may.tail 1)
 
@@ -175,6 +186,17 @@ module _ (p : Pool) (first : Tagged) (used : List ℕ) (ws : List ℕ) (vs : Lis
   link_wrote s u t (Swap k e x) rest p1 fits may f = subst (λ (z : ℕ). Whole p m0 used (linked_mem m u t) (renewed vs id (link_view v h (client v) s u t (Swap k z x) (Stored t) rest)) (linked_story st s (record { tag = t; value = Some x })) (h ++ link_entry v (client v) (Swap k z x) (Stored t) ∷ []))
       (sym may.0) (swap_decides p m0 used m vs st h r.whole id v at (client v) s k u t x rest p1 may.1 fits f)
   link_wrote s u t (Get k) rest p1 fits may f = absurd may
+
+  -- the linked buffer leaves the stock, and no other one does
+  link_places : (s t : ℕ) (y : Option Value) (c i : ℕ) → (linked_story st s (record { tag = t; value = y })).place c ≡ Stocked i → st.place c ≡ Stocked i
+  link_places s t y c i e = dite (ℕ_discrete c (home t))
+      (λ d. absurd (let z : Chained s ≡ Stocked i = sym (ap (upd st.place (home t) (Chained s)) d ∙ upd_same st.place (home t) (Chained s)) ∙ e in cc))
+      (λ d. sym (upd_else st.place (home t) c (Chained s) d) ∙ e)
+
+  link_stocks : (s t : ℕ) (y : Option Value) (rest : List ℕ) → v.pass.stock ≡ t ∷ rest → (z : ℕ) → (linked_story st s (record { tag = t; value = y })).place (home z) ≡ Stocked id → Within z v.pass.stock → Within z (rest_of v.pass.stock)
+  link_stocks s t y rest q z e w = subst (λ (l : List ℕ). Within z (rest_of l)) (sym q) (⊎_elim
+      (λ d. absurd (let f : Chained s ≡ Stocked id = sym (ap (λ (a : ℕ). upd st.place (home t) (Chained s) (home a)) (sym d) ∙ upd_same st.place (home t) (Chained s)) ∙ e in cc))
+      (λ d. d) (subst (Within z) q w))
 
   link_next : (b : Bool) (s u t : ℕ) (c : Call) → IsWithin p (NextOf (buffer_at (home u))) → MayCommit p v s u t c
       → After (LinkNext s u t c) b (becomes (LinkNext s u t c) (found p (LinkNext s u t c) ws)) (learned (LinkNext s u t c) h v (found p (LinkNext s u t c) ws)) (turn_at u (found p (LinkNext s u t c) ws)) (next_history (LinkNext s u t c) h v (found p (LinkNext s u t c) ws))
@@ -191,10 +213,12 @@ module _ (p : Pool) (first : Tagged) (used : List ℕ) (ws : List ℕ) (vs : Lis
       let st1 : Story = linked_story st s (record { tag = t; value = value_of c }) in
       let h1 : List Entry = h ++ link_entry v (client v) c (reply_of t c) ∷ [] in
       let w1 : Whole p m0 used (linked_mem m u t) (renewed vs id y) st1 h1 = subst (λ (q : List ℕ). Whole p m0 used (linked_mem m u t) (renewed vs id (link_view v h (client v) s u t c (reply_of t c) q)) st1 h1) (sym (ap rest_of may.stock)) w0 in
+      let places = link_places s t (value_of c) in
+      let stocks = link_stocks s t (value_of c) may.rest may.stock in
       let mem : mem_of p (slice_set ws (address_of p (NextOf (buffer_at (home u))) Current) (linked u t)) ≡ linked_mem m u t =
       write_next p ws (linked u t) (home u) i (room (NextOf (buffer_at (home u))) Current hw tt) ∙ ap (λ (q : Next). record m { next = upd m.next (home u) q }) code in (
         st1,
-        stepped p first used ws vs st h r id v at may.client (NextOf (buffer_at (home u))) Current (linked u t) hw tt (ap next_code code) y (record { role = refl; pool = refl; map = refl; used = refl }) may.client st1 h1
+        stepped p first used ws vs st h r id v at may.client (NextOf (buffer_at (home u))) Current (linked u t) hw tt (ap next_code code) y (record { role = refl; pool = refl; map = refl; used = refl }) may.client st1 h1 places stocks
             (subst (λ (q : Mem). Whole p m0 used q (renewed vs id y) st1 h1) (sym mem) w1) b (act_of a x) 0,
       ))
       (λ n. load_next b a s u refl refl hw tt may.client may.tail 1)
@@ -230,7 +254,7 @@ module _ (p : Pool) (first : Tagged) (used : List ℕ) (ws : List ℕ) (vs : Lis
       ∙ ap (λ (q : Next). record m { fnext = upd m.fnext (home l.from) q }) (value ∙ ap (λ (z : Next). greater z n) (sym was)) in
       let w = raise_whole p m0 used m vs st h r.whole id v at (client v) cl l d in (
         w.0,
-        stepped p first used ws vs st h r id v at cl (NextOf (buffer_at (home l.from))) Flushed (max x (linked l.from l.to)) hw tt code (raise_view v l) (record { role = refl; pool = refl; map = refl; used = refl }) cl w.0 h
+        stepped p first used ws vs st h r id v at cl (NextOf (buffer_at (home l.from))) Flushed (max x (linked l.from l.to)) hw tt code (raise_view v l) (record { role = refl; pool = refl; map = refl; used = refl }) cl w.0 h (λ c j e. sym (w.2 c) ∙ e) (λ z e q. q)
             (subst (λ (q : Mem). Whole p m0 used q (renewed vs id (raise_view v l)) w.0 h) (sym mem) w.1) b (act_of a x) 0,
       )
 
@@ -240,7 +264,7 @@ module _ (p : Pool) (first : Tagged) (used : List ℕ) (ws : List ℕ) (vs : Lis
       let hs : HasSide (content_at (home t) j) Current = content_side (home t) j Current in
       let mem = write_body p ws x (home t) j q.0 q.1 (room (content_at (home t) j) Current hw hs) in (
         st,
-        stepped p first used ws vs st h r id v at cl (content_at (home t) j) Current x hw hs (content_code (home t) j x) (stored_view v t j x) (record { role = refl; pool = refl; map = refl; used = refl }) cl st h
+        stepped p first used ws vs st h r id v at cl (content_at (home t) j) Current x hw hs (content_code (home t) j x) (stored_view v t j x) (record { role = refl; pool = refl; map = refl; used = refl }) cl st h (λ c i e. e) (λ z e q. q)
             (subst (λ (z : Mem). Whole p m0 used z (renewed vs id (stored_view v t j x)) st h) (sym mem) (store_whole p m0 used m vs st h r.whole id v at (client v) cl t j x own)) b (act_of (StoreContent t j x) (found p (StoreContent t j x) ws)) 0,
       )
 
@@ -250,7 +274,7 @@ module _ (p : Pool) (first : Tagged) (used : List ℕ) (ws : List ℕ) (vs : Lis
       let hs : HasSide (content_at (home t) j) Flushed = content_side (home t) j Flushed in
       let mem = write_fbody p ws x (home t) j q.0 q.1 (room (content_at (home t) j) Flushed hw hs) in (
         st,
-        stepped p first used ws vs st h r id v at cl (content_at (home t) j) Flushed x hw hs (content_code (home t) j x) (flushed_view v t j x) (record { role = refl; pool = refl; map = refl; used = refl }) cl st h
+        stepped p first used ws vs st h r id v at cl (content_at (home t) j) Flushed x hw hs (content_code (home t) j x) (flushed_view v t j x) (record { role = refl; pool = refl; map = refl; used = refl }) cl st h (λ c i e. e) (λ z e q. q)
             (subst (λ (z : Mem). Whole p m0 used z (renewed vs id (flushed_view v t j x)) st h) (sym mem) (flush_whole p m0 used m vs st h r.whole id v at (client v) cl t j x own)) b (act_of (FlushContent t j x) (found p (FlushContent t j x) ws)) 0,
       )
 
@@ -258,18 +282,18 @@ module _ (p : Pool) (first : Tagged) (used : List ℕ) (ws : List ℕ) (vs : Lis
   load_content b s t j hw cl d =
       let q = content_buffer p (home t) j hw in
       let x : ℕ = found p (LoadContent s t j) ws in
-      quiet_step (LoadContent s t j) (content_side (home t) j Current) hw cl b (learned (LoadContent s t j) h v x) (record { role = refl; pool = refl; map = refl; used = refl }) 0 h
+      quiet_step (LoadContent s t j) (content_side (home t) j Current) hw cl b (learned (LoadContent s t j) h v x) (record { role = refl; pool = refl; map = refl; used = refl }) (λ z q. q) 0 h
       (subst (λ (z : ℕ). Whole p m0 used m (renewed vs id (record v { pass = record v.pass { copied = (s, record { tag = t; place = j; word = z }) ∷ v.pass.copied } })) st h) (read_body p ws (home t) j q.0 q.1) (copied_whole p m0 used m vs st h r.whole id v at cl s t j d))
 
   read_slot : (b : Bool) (a : Step) (s : ℕ) → HasSide (word_of a) (side_of a) → IsWithin p (word_of a) → IsClient v → ((t : ℕ) → root_of (found p a ws) ≡ Some t → Durable st s t) → After a b (found p a ws) (started s v (root_of (found p a ws))) 0 h
-  read_slot b a s hs hw cl f = quiet_step a hs hw cl b (started s v (root_of (found p a ws))) (started_run s v (root_of (found p a ws))) 0 h (started_whole p m0 used m vs st h r.whole id v at cl s (root_of (found p a ws)) f)
+  read_slot b a s hs hw cl f = quiet_step a hs hw cl b (started s v (root_of (found p a ws))) (started_run s v (root_of (found p a ws))) (started_stock s v (root_of (found p a ws))) 0 h (started_whole p m0 used m vs st h r.whole id v at cl s (root_of (found p a ws)) f)
 
   store_short : (b : Bool) (s t : ℕ) → s < p.slots → IsClient v → Within (s, t) v.pass.durable → After (StoreShort s t) b (root_code (Some t)) v 0 h
   store_short b s t hw cl d =
       let mem : mem_of p (slice_set ws (address_of p (Short s) Current) (root_code (Some t))) ≡ record m { short = upd m.short s (Some t) } =
       write_short p ws (root_code (Some t)) s hw (room (Short s) Current hw tt) ∙ ap (λ (q : Option ℕ). record m { short = upd m.short s q }) (root_again (Some t)) in (
         st,
-        stepped p first used ws vs st h r id v at cl (Short s) Current (root_code (Some t)) hw tt (ap root_code (root_again (Some t))) v (same_self v) cl st h
+        stepped p first used ws vs st h r id v at cl (Short s) Current (root_code (Some t)) hw tt (ap root_code (root_again (Some t))) v (same_self v) cl st h (λ c i e. e) (λ z e q. q)
             (subst (λ (z : Mem). Whole p m0 used z (renewed vs id v) st h) (sym mem) (lead_whole p m0 used m vs st h r.whole id v at cl s t d)) b (act_of (StoreShort s t) (found p (StoreShort s t) ws)) 0,
       )
 
@@ -279,9 +303,9 @@ module _ (p : Pool) (first : Tagged) (used : List ℕ) (ws : List ℕ) (vs : Lis
       let a : Step = AbsentCount c in
       let x : ℕ = found p a ws in
       by_test x (length v.pass.names) (λ (z : Bool). After a b x (cond z (missed v h c x) (counts v x)) 0 (cond z (h ++ link_entry v (client v) c Absent ∷ []) h))
-      (λ e. quiet_step a tt tt cl b (missed v h c x) (record { role = refl; pool = refl; map = refl; used = refl }) 0 (h ++ link_entry v (client v) c Absent ∷ [])
+      (λ e. quiet_step a tt tt cl b (missed v h c x) (record { role = refl; pool = refl; map = refl; used = refl }) (λ z q. q) 0 (h ++ link_entry v (client v) c Absent ∷ [])
       (let d = miss_does c mc (absent_now p m0 used m vs st h r.whole id v at (named c) away e) in count_whole p m0 used m vs st h r.whole id v at (named c) away e (client v) cl c Absent refl d.0 d.1))
-      (λ n. quiet_step a tt tt cl b (counts v x) (record { role = refl; pool = refl; map = refl; used = refl }) 0 h (counts_whole p m0 used m vs st h r.whole id v at cl))
+      (λ n. quiet_step a tt tt cl b (counts v x) (record { role = refl; pool = refl; map = refl; used = refl }) (λ z q. q) 0 h (counts_whole p m0 used m vs st h r.whole id v at cl))
     where
       miss_does : (c : Call) → MayMiss c → leads m0 h (named c) ≡ None → (committed c Absent ≡ None) × Does (leads m0 h (named c)) (used_by used h) c Absent
       miss_does (Get k) q e = (refl, e)
@@ -301,5 +325,5 @@ module _ (p : Pool) (first : Tagged) (used : List ℕ) (ws : List ℕ) (vs : Lis
   keeps (ReadRoot s) b (hw, cl) = read_slot b (ReadRoot s) s tt hw cl (λ t e. root_durable p m0 used m vs st h r.whole id v at cl s t (read_root p ws s hw ∙ e))
   keeps (ReadShort s) b (hw, cl) = read_slot b (ReadShort s) s tt hw cl (λ t e. r.whole.help.short s t (read_short p ws s hw ∙ e))
   keeps (StoreShort s t) b (hw, (cl, d)) = store_short b s t hw cl d
-  keeps ReadCount b (hw, cl) = quiet_step ReadCount tt tt cl b (counts v (found p ReadCount ws)) (record { role = refl; pool = refl; map = refl; used = refl }) 0 h (counts_whole p m0 used m vs st h r.whole id v at cl)
+  keeps ReadCount b (hw, cl) = quiet_step ReadCount tt tt cl b (counts v (found p ReadCount ws)) (record { role = refl; pool = refl; map = refl; used = refl }) (λ z q. q) 0 h (counts_whole p m0 used m vs st h r.whole id v at cl)
   keeps (AbsentCount c) b (hw, (cl, mc, away)) = absent_count b c cl mc away

@@ -1,5 +1,5 @@
 -- The rule holds of the preset pool.
-use Rattle.std.proofs.Common.{◌≡◌, ℕ, zero, suc, ◌+◌, ◌<◌, List, [], ◌∷◌, length, Bool, true, false, cond, eqb, refl, sym, ap, ◌∙◌, inl, inr, ⊎_elim, arith, subst, eq-eqb, ne_eqb, eqb-true}
+use Rattle.std.proofs.Common.{◌≡◌, ℕ, zero, suc, ◌+◌, ◌<◌, List, [], ◌∷◌, length, Bool, true, false, cond, eqb, ltb, ◌&&◌, refl, sym, ap, ◌∙◌, inl, inr, ⊎_elim, arith, subst, eq-eqb, ne_eqb, eqb-true}
 use native.Mathlib.Decide.{ℕ_discrete, dec_le}
 use mathlib.Core.Logic.{dite}
 use Rattle.std.specs.Prelude.{Option, Some, None}
@@ -8,18 +8,20 @@ use Rattle.clover_rule.specs.Content.{Spells, InRange, inside, tombstone, conten
 use Rattle.clover_rule.specs.History.{shows, Map, same_key, ends}
 use Rattle.clover_rule.specs.Image.{Image, Chain}
 use Rattle.clover_rule.specs.Lists.{nth, Within}
+use Rattle.clover_rule.specs.Meets.{InStocks}
 use Rattle.clover_rule.specs.Memory.{Mem, word, home, age}
 use Rattle.clover_rule.specs.Opening.{Opens, Owners}
 use Rattle.clover_rule.specs.Preset.{PresetWords, PresetKeys, PresetViews, PresetLaw, bindings_from}
 use Rattle.clover_rule.specs.Server.{Whole}
 use Rattle.clover_rule.specs.Sound.{Sound, versions_of}
+use Rattle.clover_rule.specs.Story.{Chained, Stocked, Free, Worn}
 use Rattle.clover_rule.specs.Words.{mem_of}
 use Rattle.clover_rule.specs.declared.view.View.{View}
 use mathlib.Core.Path.{fun_ext}
 use Rattle.clover_rule.proofs.Tools.{nth_within, nth_none}
 use Rattle.clover_rule.proofs.Keys.{key_discrete, eq_key, ne_key}
 use Rattle.clover_rule.proofs.Spelling.{one_key}
-use Rattle.clover_rule.proofs.Opening.{opened, open_whole}
+use Rattle.clover_rule.proofs.Opening.{opened, open_whole, placed, rest_place}
 use Rattle.clover_rule.proofs.TwelveParts.{rule_holds}
 
 nth_some : {A : Type 0} (l : List A) (i : ℕ) → i < length l → (x : A) × (nth l i ≡ Some x)
@@ -205,6 +207,16 @@ module _ (p : Pool) (keys : List (List ℕ)) (tomb : ℕ → ℕ) (m : Mem) (w :
     unfolding opens
     preset_whole = open_whole p im sound map_empty [] m opens owner owners vs v.starts v.numbered v.some (λ i y e q. absurd (v.unserved i y e q)) (λ i j y z e f q g. absurd (v.unserved i y e q)) (λ i j n y z e f q g. absurd (v.unserved i y e q))
 
+    pub preset_stocks : InStocks vs (opened p im sound map_empty [] m opens owner owners)
+    unfolding opens
+    preset_stocks b i e = go (spot_of tomb (length keys) b) (owner b) (inside p b && ltb 0 p.wear) refl e
+      where
+        go : (x : Option (ℕ × ℕ)) (y : Option ℕ) (t : Bool) → owner b ≡ y → placed x (rest_place y t) ≡ Stocked i → (z : View) × (nth vs i ≡ Some z) × (u : ℕ) × Within u z.pass.stock × (home u ≡ b)
+        go (Some q) y t f g = absurd (let z : Chained q.0 ≡ Stocked i = g in cc)
+        go None (Some j) t f g = v.held b i (f ∙ ap Some (let z : Stocked j ≡ Stocked i = g in cc))
+        go None None true f g = absurd (let z : Free ≡ Stocked i = g in cc)
+        go None None false f g = absurd (let z : Worn ≡ Stocked i = g in cc)
+
 pub preset_law : PresetLaw
 preset_law p first ws vs keys tomb owner sized decodes same empty words ks views =
     let shown : (λ (j : List ℕ). None) ≡ shows first = fun_ext (λ j. sym (empty j)) in
@@ -213,6 +225,7 @@ preset_law p first ws vs keys tomb owner sized decodes same empty words ks views
       sized = sized;
       decodes = decodes;
       same = same;
+        stocks = preset_stocks p keys tomb (mem_of p ws) words ks owner vs views;
       whole = subst (λ (f : Map). Whole p f [] (mem_of p ws) vs (opened p (im p keys tomb (mem_of p ws) words ks) (sound p keys tomb (mem_of p ws) words ks) (λ (j : List ℕ). None) [] (mem_of p ws) (opens p keys tomb (mem_of p ws) words ks) owner (owners p keys tomb (mem_of p ws) words ks owner vs views)) []) shown
           (preset_whole p keys tomb (mem_of p ws) words ks owner vs views);
     })

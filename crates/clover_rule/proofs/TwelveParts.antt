@@ -22,7 +22,7 @@ use Rattle.clover_rule.specs.Server.{IsWaiting, waiting_name, moving, holding, A
 use Rattle.clover_rule.specs.Story.{Waits, Loose, tag_in_version, only, Place, Chained, Stocked, Free, Worn, Taken, Story, tag_at, Core}
 use Rattle.clover_rule.specs.Views.{Owned, book, Spent, Past, IsLink, Holds}
 use Rattle.clover_rule.specs.Words.{mem_of}
-use Rattle.clover_rule.specs.declared.view.BufferState.TheVariants.{Worn as IsWorn, Bound as IsBound, Out as IsOut}
+use Rattle.clover_rule.specs.declared.view.BufferState.TheVariants.{Free as IsFree, Worn as IsWorn, Bound as IsBound, Out as IsOut}
 use Rattle.clover_rule.specs.declared.view.Link.{Link}
 use Rattle.clover_rule.specs.declared.view.Shown.{Shown}
 use Rattle.clover_rule.specs.declared.view.Task.{Task}
@@ -185,12 +185,34 @@ module _ (p : Pool) (first : Tagged) (used : List ℕ) (ws : List ℕ) (vs : Lis
   taken_here (Loaded s k t) a b e = absurd cc
   taken_here (Raised s k t) a b e = absurd cc
 
+  -- and back: what a place says is so
+  unmoved : (q : Place) (b : ℕ) (x : Place) → moved q b ≡ x → ((s : ℕ) → x ≢ Chained s) → x ≢ Taken → q ≡ x
+  unfolding moved
+  unmoved (Chained s) b x e n k = go (is_home (recycled_of st s) b) e
+    where
+      go : (z : Bool) → cond z Taken (Chained s) ≡ x → Chained s ≡ x
+      go true f = absurd (k (sym f))
+      go false f = f
+  unmoved (Stocked i) b x e n k = e
+  unmoved Free b x e n k = e
+  unmoved Worn b x e n k = e
+  unmoved Taken b x e n k = e
+
+  free_now : (T : Task) (g b : ℕ) → book_of T st Free g b ≡ book g IsFree
+  free_now T g b = refl
+
+  worn_now : (T : Task) (g b : ℕ) → book_of T st Worn g b ≡ book g IsWorn
+  worn_now T g b = refl
+
   part_1 : BuffersInOnePlace p vs (chain_of st) place_at
   unfolding moved
   part_1 = record {
     chained = chained_here;
     on_chain = chained_back;
     stocked = λ i v e. let ok = r.whole.basis.views i v e in (each_map (λ t q. ap (λ (z : Place). moved z (home t)) q.0) v.pass.stock ok.stocked, ok.apart);
+    in_stock = λ b i e. r.stocks b i (unmoved (st.place b) b (Stocked i) e (λ s. λ z. absurd cc) (λ z. absurd cc));
+    is_free = λ v sv b i e. let s = r.whole.serves sv.0 v sv.1 sv.2 in (gen (m.next b), s.books b i ∙ ap (λ (q : Place). book_of st.task st q (gen (m.next b)) b) (unmoved (st.place b) b Free e (λ z. λ y. absurd cc) (λ z. absurd cc)) ∙ free_now st.task (gen (m.next b)) b);
+    is_worn = λ v sv b i e. let s = r.whole.serves sv.0 v sv.1 sv.2 in (gen (m.next b), s.books b i ∙ ap (λ (q : Place). book_of st.task st q (gen (m.next b)) b) (unmoved (st.place b) b Worn e (λ z. λ y. absurd cc) (λ z. absurd cc)) ∙ worn_now st.task (gen (m.next b)) b);
     free = λ v sv b g i e. let s = r.whole.serves sv.0 v sv.1 sv.2 in ap (λ (z : Place). moved z b) (free_place st.task st (st.place b) (gen (m.next b)) b g (sym (s.books b i) ∙ e)).0;
     worn = λ v sv b g i e. let s = r.whole.serves sv.0 v sv.1 sv.2 in ap (λ (z : Place). moved z b) (worn_place st.task (st.place b) (gen (m.next b)) b g (sym (s.books b i) ∙ e));
     taken = λ v sv b e. let s = r.whole.serves sv.0 v sv.1 sv.2 in taken_here st.task r.whole.help.stage.here b (sym (ap held_by s.task_is) ∙ e);

@@ -9,9 +9,10 @@ use Rattle.clover_map.specs.declared.call.Entry.{Entry}
 use Rattle.clover_map.specs.Tagged.{Tagged}
 use Rattle.std.specs.Prelude.{Some}
 use Rattle.clover_rule.specs.History.{shows}
-use Rattle.clover_rule.specs.Lists.{nth}
+use Rattle.clover_rule.specs.Lists.{nth, Within}
+use Rattle.clover_rule.specs.Memory.{home}
 use Rattle.clover_rule.specs.Server.{Whole}
-use Rattle.clover_rule.specs.Story.{Story}
+use Rattle.clover_rule.specs.Story.{Stocked, Story}
 use Rattle.clover_rule.specs.Words.{next_code, root_code, next_of, root_of, mem_of}
 use Rattle.clover_rule.specs.declared.view.View.{View}
 
@@ -32,11 +33,17 @@ pub record OfRun (p : Pool) (first : Tagged) (used : List ℕ) (v : View) : Type
   pub from_map : v.pass.map ≡ first
   pub from_used : v.pass.used ≡ used
 
+-- each buffer whose place is a stock is in that stock
+abbrev pub InStocks : List View → Story → Type 0
+InStocks vs st = (b i : ℕ) → st.place b ≡ Stocked i → (v : View) × (nth vs i ≡ Some v) × (t : ℕ) × Within t v.pass.stock × (home t ≡ b)
+
 -- the words, the views of all actors and the history, with the story behind them, of a run that began with this map and these used tags
 pub record Meets (p : Pool) (first : Tagged) (used : List ℕ) (ws : List ℕ) (vs : List View) (st : Story) (h : List Entry) : Type 0 where
   pub sized : length ws ≡ pool_words p
   pub decodes : Decodes p ws
   pub same : (i : ℕ) (v : View) → nth vs i ≡ Some v → OfRun p first used v
+  -- a buffer whose place is a stock is in that stock
+  pub stocks : InStocks vs st
   pub whole : Whole p (shows first) used (mem_of p ws) vs st h
 
 -- there is such a story

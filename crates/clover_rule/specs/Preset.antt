@@ -5,7 +5,7 @@ use Rattle.clover_words.specs.declared.pool.Pool.{Pool}
 use Rattle.clover_map.specs.Tagged.{Tagged}
 use Rattle.clover_rule.specs.Content.{inside, tombstone, spelling, IsKey}
 use Rattle.clover_rule.specs.History.{shows}
-use Rattle.clover_rule.specs.Lists.{nth}
+use Rattle.clover_rule.specs.Lists.{Within, nth}
 use Rattle.clover_rule.specs.Meets.{OfRun, Decodes}
 use Rattle.clover_rule.specs.Memory.{Mem, word, home, age}
 use Rattle.clover_rule.specs.Opening.{Starts}
@@ -47,6 +47,7 @@ pub record PresetViews (p : Pool) (keys : List (List ℕ)) (tomb : ℕ → ℕ) 
   pub starts : (i : ℕ) (v : View) → nth vs i ≡ Some v → Starts m (bindings_from 0 keys) owner i v
   pub off : (b i : ℕ) → owner b ≡ Some i → (s : ℕ) → s < length keys → home (tomb s) ≡ b → ⊥
   pub in_pool : (b i : ℕ) → owner b ≡ Some i → inside p b ≡ true
+  pub held : (b i : ℕ) → owner b ≡ Some i → (v : View) × (nth vs i ≡ Some v) × (t : ℕ) × Within t v.pass.stock × (home t ≡ b)
   pub numbered : Numbered vs
   pub some : (i : ℕ) × (v : View) × (nth vs i ≡ Some v)
   pub unserved : (i : ℕ) (v : View) → nth vs i ≡ Some v → v.pass.role ≡ Serving → ⊥

@@ -42,8 +42,11 @@ pub record BuffersInOnePlace (p : Pool) (vs : List View) (chain : ℕ → List �
   pub chained : (s t : ℕ) → Within t (chain s) → place (home t) ≡ Chained s
   pub on_chain : (b s : ℕ) → place b ≡ Chained s → (t : ℕ) × Within t (chain s) × (home t ≡ b)
   pub stocked : (i : ℕ) (v : View) → nth vs i ≡ Some v → Each (λ (t : ℕ). place (home t) ≡ Stocked i) v.pass.stock × Apart v.pass.stock
+  pub in_stock : (b i : ℕ) → place b ≡ Stocked i → (v : View) × (nth vs i ≡ Some v) × (t : ℕ) × Within t v.pass.stock × (home t ≡ b)
   pub free : (v : View) → IsServer vs v → (b g : ℕ) → inside p b ≡ true → book_at v.server b ≡ book g IsFree → place b ≡ Free
+  pub is_free : (v : View) → IsServer vs v → (b : ℕ) → inside p b ≡ true → place b ≡ Free → (g : ℕ) × (book_at v.server b ≡ book g IsFree)
   pub worn : (v : View) → IsServer vs v → (b g : ℕ) → inside p b ≡ true → book_at v.server b ≡ book g IsWorn → place b ≡ Worn
+  pub is_worn : (v : View) → IsServer vs v → (b : ℕ) → inside p b ≡ true → place b ≡ Worn → (g : ℕ) × (book_at v.server b ≡ book g IsWorn)
   pub taken : (v : View) → IsServer vs v → (b : ℕ) → held_by v.server.task ≡ Some b → place b ≡ Taken
 
 -- Part 2. Each slot with a root has a chain, and chains share no buffer; both copies of each content word on a chain, or of the version under recycling, are the committed content.
