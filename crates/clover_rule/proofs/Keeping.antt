@@ -15,7 +15,7 @@ use Rattle.clover_map.specs.Tagged.{Tagged}
 use Rattle.clover_rule.specs.Content.{inside, InRange}
 use Rattle.clover_rule.specs.History.{shows}
 use Rattle.clover_rule.specs.Lists.{Within, nth}
-use Rattle.clover_rule.specs.Meets.{InStocks, IsCode, Decodes, OfRun, Meets}
+use Rattle.clover_rule.specs.Meets.{IsCode, Decodes, OfRun, Meets}
 use Rattle.clover_rule.specs.Memory.{home, Next, word, age}
 use Rattle.clover_rule.specs.Server.{Whole}
 use Rattle.clover_rule.specs.Steps.{IsClient, counted}

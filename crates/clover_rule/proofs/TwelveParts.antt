@@ -204,6 +204,54 @@ module _ (p : Pool) (first : Tagged) (used : List ℕ) (ws : List ℕ) (vs : Lis
   worn_now : (T : Task) (g b : ℕ) → book_of T st Worn g b ≡ book g IsWorn
   worn_now T g b = refl
 
+  held_same : (T : Task) (b : ℕ) → holding T ≡ Some b → held_by T ≡ Some b
+  held_same (Storing s k t n) b e = e
+  held_same (Exchanged s y t) b e = e
+  held_same Idle b e = absurd cc
+  held_same (Rooted s k t) b e = absurd cc
+  held_same (Waiting s k t) b e = absurd cc
+  held_same (Loaded s y t) b e = absurd cc
+  held_same (Raised s y t) b e = absurd cc
+  held_same (Led s y t) b e = absurd cc
+  held_same (Both s y t) b e = absurd cc
+
+  -- the slot whose root is on its way is the task's
+  not_settled : (s : ℕ) → st.lead s ≡ suc (st.gone s) → (moving st.task ≢ Some s) → ⊥
+  not_settled s l n = let z = (r.whole.help.stage.settled s n).0 in omega arith
+
+  moved_same : (s1 y1 s y : ℕ) → tag_at st s1 (st.gone s1) ≡ Some y1 → recycled_of st s ≡ Some y → moving st.task ≡ Some s1 → ◌≡◌ {A = Option ℕ} (Some (home y1)) (Some (home y))
+  moved_same s1 y1 s y g f q = go (ℕ_discrete s1 s)
+    where
+      go : Dec (s1 ≡ s) → ◌≡◌ {A = Option ℕ} (Some (home y1)) (Some (home y))
+      go (yes d) = ap (λ (z : ℕ). Some (home z)) (let z : Some y1 ≡ Some y = sym g ∙ ap (λ (i : ℕ). tag_at st i (st.gone i)) d ∙ (recycled_at s y f).1 in cc)
+      go (no n) = absurd (not_settled s (recycled_at s y f).0 (λ z. n (let x : Some s1 ≡ Some s = sym q ∙ z in cc)))
+
+  leaving_task : (T : Task) → st.task ≡ T → AtStage p m st T → (s y : ℕ) → recycled_of st s ≡ Some y → held_by T ≡ Some (home y)
+  leaving_task (Led s1 y1 t) e a s y f = moved_same s1 y1 s y a.0.root f (ap moving e)
+  leaving_task (Both s1 y1 t) e a s y f = moved_same s1 y1 s y a.0.root f (ap moving e)
+  leaving_task Idle e a s y f = absurd (not_settled s (recycled_at s y f).0 (λ q. let z : ◌≡◌ {A = Option ℕ} None (Some s) = sym (ap moving e) ∙ q in cc))
+  leaving_task (Storing s1 k t n) e a s y f = absurd (not_settled s (recycled_at s y f).0 (λ q. let z : ◌≡◌ {A = Option ℕ} None (Some s) = sym (ap moving e) ∙ q in cc))
+  leaving_task (Rooted s1 k t) e a s y f = absurd (not_settled s (recycled_at s y f).0 (λ q. let z : ◌≡◌ {A = Option ℕ} None (Some s) = sym (ap moving e) ∙ q in cc))
+  leaving_task (Waiting s1 k t) e a s y f = absurd (not_settled s (recycled_at s y f).0 (λ q. let z : ◌≡◌ {A = Option ℕ} None (Some s) = sym (ap moving e) ∙ q in cc))
+  leaving_task (Loaded s1 y1 t) e a s y f = absurd (not_settled s (recycled_at s y f).0 (λ q. let z : ◌≡◌ {A = Option ℕ} None (Some s) = sym (ap moving e) ∙ q in cc))
+  leaving_task (Raised s1 y1 t) e a s y f = absurd (not_settled s (recycled_at s y f).0 (λ q. let z : ◌≡◌ {A = Option ℕ} None (Some s) = sym (ap moving e) ∙ q in cc))
+  leaving_task (Exchanged s1 y1 t) e a s y f = absurd (not_settled s (recycled_at s y f).0 (λ q. let z : ◌≡◌ {A = Option ℕ} None (Some s) = sym (ap moving e) ∙ q in cc))
+
+  taken_back : (b : ℕ) → place_at b ≡ Taken → held_by st.task ≡ Some b
+  unfolding moved
+  taken_back b e = go (st.place b) refl e
+    where
+      test : (s : ℕ) (x : Bool) → is_home (recycled_of st s) b ≡ x → cond x Taken (Chained s) ≡ Taken → held_by st.task ≡ Some b
+      test s true q f = let z = is_home_some (recycled_of st s) b q in leaving_task st.task refl r.whole.help.stage.here s z.0 z.1 ∙ ap (λ (y : ℕ). Some y) z.2
+      test s false q f = absurd (let z : Chained s ≡ Taken = f in cc)
+
+      go : (q : Place) → st.place b ≡ q → moved q b ≡ Taken → held_by st.task ≡ Some b
+      go (Chained s) f g = test s (is_home (recycled_of st s) b) refl g
+      go (Stocked i) f g = absurd (let z : Stocked i ≡ Taken = g in cc)
+      go Free f g = absurd (let z : Free ≡ Taken = g in cc)
+      go Worn f g = absurd (let z : Worn ≡ Taken = g in cc)
+      go Taken f g = held_same st.task b (r.whole.help.stage.holds b f)
+
   part_1 : BuffersInOnePlace p vs (chain_of st) place_at
   unfolding moved
   part_1 = record {
@@ -215,6 +263,7 @@ module _ (p : Pool) (first : Tagged) (used : List ℕ) (ws : List ℕ) (vs : Lis
     is_worn = λ v sv b i e. let s = r.whole.serves sv.0 v sv.1 sv.2 in (gen (m.next b), s.books b i ∙ ap (λ (q : Place). book_of st.task st q (gen (m.next b)) b) (unmoved (st.place b) b Worn e (λ z. λ y. absurd cc) (λ z. absurd cc)) ∙ worn_now st.task (gen (m.next b)) b);
     free = λ v sv b g i e. let s = r.whole.serves sv.0 v sv.1 sv.2 in ap (λ (z : Place). moved z b) (free_place st.task st (st.place b) (gen (m.next b)) b g (sym (s.books b i) ∙ e)).0;
     worn = λ v sv b g i e. let s = r.whole.serves sv.0 v sv.1 sv.2 in ap (λ (z : Place). moved z b) (worn_place st.task (st.place b) (gen (m.next b)) b g (sym (s.books b i) ∙ e));
+    is_taken = λ v sv b e. let s = r.whole.serves sv.0 v sv.1 sv.2 in ap held_by s.task_is ∙ taken_back b e;
     taken = λ v sv b e. let s = r.whole.serves sv.0 v sv.1 sv.2 in taken_here st.task r.whole.help.stage.here b (sym (ap held_by s.task_is) ∙ e);
   }
 

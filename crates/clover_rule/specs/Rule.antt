@@ -48,6 +48,7 @@ pub record BuffersInOnePlace (p : Pool) (vs : List View) (chain : ℕ → List �
   pub worn : (v : View) → IsServer vs v → (b g : ℕ) → inside p b ≡ true → book_at v.server b ≡ book g IsWorn → place b ≡ Worn
   pub is_worn : (v : View) → IsServer vs v → (b : ℕ) → inside p b ≡ true → place b ≡ Worn → (g : ℕ) × (book_at v.server b ≡ book g IsWorn)
   pub taken : (v : View) → IsServer vs v → (b : ℕ) → held_by v.server.task ≡ Some b → place b ≡ Taken
+  pub is_taken : (v : View) → IsServer vs v → (b : ℕ) → place b ≡ Taken → held_by v.server.task ≡ Some b
 
 -- Part 2. Each slot with a root has a chain, and chains share no buffer; both copies of each content word on a chain, or of the version under recycling, are the committed content.
 pub record ChainsAndContents (m : Mem) (chain : ℕ → List ℕ) (recycled : ℕ → Option ℕ) (value : ℕ → Option Value) (h : List Entry) : Type 0 where
