@@ -1,4 +1,5 @@
 pub mod Keys
+pub mod Reading
 pub mod Codecs
 pub mod Presets
 pub mod Accessing

@@ -1,0 +1,63 @@
+-- How a step reads to its actor, with the words as the codecs give them.
+use Rattle.std.proofs.Common.{◌≡◌, ◌≢◌, ℕ, ◌+◌, ◌*◌, ◌^◌, ◌==◌, List, [], ◌∷◌, ◌++◌, Bool, true, false, cond, refl, sym, ap, ◌∙◌, subst, eq-eqb, ne_eqb}
+use Rattle.std.specs.Prelude.{Option, Some, None}
+use Rattle.clover_words.specs.declared.pool.Pool.{Pool}
+use Rattle.clover_words.specs.Tag.{TagParts, IsTag, tag_number}
+use Rattle.clover_words.specs.Next.{NextParts, IsNext, next_word}
+use Rattle.clover_words.proofs.Spellings.{one_next}
+use Rattle.clover_map.specs.declared.call.Call.{Call}
+use Rattle.clover_map.specs.declared.call.Reply.{Reply}
+use Rattle.clover_map.specs.declared.call.Entry.{Entry}
+use Rattle.clover_rule.specs.Knowing.{link_entry, link_view}
+use Rattle.clover_rule.specs.Lists.{Each}
+use Rattle.clover_rule.specs.Memory.{Next, word, home, gen, link}
+use Rattle.clover_rule.specs.Steps.{LoadNext, DecideNext, LinkNext, ReadRoot, ReadShort, act_of, unlinked, turn_at, counted, seen, decided, started, client, reply_of, rest_of, next_history}
+use Rattle.clover_rule.specs.Told.{Told, ToldAt}
+use Rattle.clover_rule.specs.Words.{next_of}
+use Rattle.clover_rule.specs.declared.view.View.{View}
+use Rattle.clover_rule.proofs.Codecs.{tag_option, next_of_word, unlinked_is}
+
+-- the word shows the tag's generation, unlinked
+abbrev pub IsTailWord : TagParts → NextParts → Type 0
+IsTailWord t n = (n.own ≡ t.generation) × (n.link ≡ None)
+
+pub tail_word : (t : TagParts) (n : NextParts) → IsTag t → IsTailWord t n → next_word n ≡ unlinked (tag_number t)
+tail_word t n h (a, b) = ap next_word (λ i. record { own = a i; link = b i }) ∙ sym (unlinked_is t h)
+
+pub word_tail : (t : TagParts) (n : NextParts) → IsTag t → IsNext n → next_word n ≡ unlinked (tag_number t) → IsTailWord t n
+word_tail t n h k e = let q : n ≡ record { own = t.generation; link = None } = one_next n (record { own = t.generation; link = None }) k (record { own = h.generation; link = tt }) (e ∙ unlinked_is t h) in (ap (λ (z : NextParts). z.own) q, ap (λ (z : NextParts). z.link) q)
+
+-- a load of a next word on a walk
+pub load_reads : (p : Pool) (s t : ℕ) (b : Bool) (v : View) (x : ℕ) (w : View) (n : NextParts) → IsNext n → next_word n ≡ x → Told p (LoadNext s t) b v x w
+    → w ≡ counted b (act_of (LoadNext s t) x) (turn_at t x) (seen s t v (word n.own (tag_option n.link)))
+load_reads p s t b v x w n k e told = told.1.next ∙ ap (λ (z : Next). counted b (act_of (LoadNext s t) x) (turn_at t x) (seen s t v z)) (ap next_of (sym e) ∙ next_of_word n k)
+
+-- a deciding load that showed the tail: the entry stands behind the history of that moment
+pub decide_reads : (p : Pool) (s t : ℕ) (c : Call) (r : Reply) (b : Bool) (v : View) (x : ℕ) (w : View) → x ≡ unlinked t → (told : Told p (DecideNext s t c r) b v x w)
+    → (w ≡ counted b (act_of (DecideNext s t c r) x) 0 (decided v told.0 t c r)) × (next_history (DecideNext s t c r) told.0 v x ≡ told.0 ++ link_entry v (client v) c r ∷ [])
+decide_reads p s t c r b v x w e told = let q : (x == unlinked t) ≡ true = eq-eqb x (unlinked t) e in
+    (told.1.next ∙ ap (λ (z : Bool). counted b (act_of (DecideNext s t c r) x) (cond z 0 1) (cond z (decided v told.0 t c r) (seen s t v (next_of x)))) q,
+    ap (λ (z : Bool). cond z (told.0 ++ link_entry v (client v) c r ∷ []) told.0) q)
+
+-- and one that did not is a load of a walk that made a turn
+pub decide_misses : (p : Pool) (s t : ℕ) (c : Call) (r : Reply) (b : Bool) (v : View) (x : ℕ) (w : View) (n : NextParts) → IsNext n → next_word n ≡ x → x ≢ unlinked t → (told : Told p (DecideNext s t c r) b v x w)
+    → (w ≡ counted b (act_of (DecideNext s t c r) x) 1 (seen s t v (word n.own (tag_option n.link)))) × (next_history (DecideNext s t c r) told.0 v x ≡ told.0)
+decide_misses p s t c r b v x w n k e d told = let q : (x == unlinked t) ≡ false = ne_eqb x (unlinked t) d in
+    (told.1.next ∙ ap (λ (z : Bool). counted b (act_of (DecideNext s t c r) x) (cond z 0 1) (cond z (decided v told.0 t c r) (seen s t v (next_of x)))) q
+    ∙ ap (λ (z : Next). counted b (act_of (DecideNext s t c r) x) 1 (seen s t v z)) (ap next_of (sym e) ∙ next_of_word n k),
+    ap (λ (z : Bool). cond z (told.0 ++ link_entry v (client v) c r ∷ []) told.0) q)
+
+-- an exchange that wrote
+pub link_reads : (p : Pool) (s u t : ℕ) (c : Call) (b : Bool) (v : View) (x : ℕ) (w : View) → x ≡ unlinked u → (told : Told p (LinkNext s u t c) b v x w)
+    → (w ≡ counted b (act_of (LinkNext s u t c) x) 0 (link_view v told.0 (client v) s u t c (reply_of t c) (rest_of v.pass.stock))) × (next_history (LinkNext s u t c) told.0 v x ≡ told.0 ++ link_entry v (client v) c (reply_of t c) ∷ [])
+link_reads p s u t c b v x w e told = let q : (x == unlinked u) ≡ true = eq-eqb x (unlinked u) e in
+    (told.1.next ∙ ap (λ (z : Bool). counted b (act_of (LinkNext s u t c) x) (cond z 0 1) (cond z (link_view v told.0 (client v) s u t c (reply_of t c) (rest_of v.pass.stock)) (seen s u v (next_of x)))) q,
+    ap (λ (z : Bool). cond z (told.0 ++ link_entry v (client v) c (reply_of t c) ∷ []) told.0) q)
+
+-- and one that did not
+pub link_misses : (p : Pool) (s u t : ℕ) (c : Call) (b : Bool) (v : View) (x : ℕ) (w : View) (n : NextParts) → IsNext n → next_word n ≡ x → x ≢ unlinked u → (told : Told p (LinkNext s u t c) b v x w)
+    → (w ≡ counted b (act_of (LinkNext s u t c) x) 1 (seen s u v (word n.own (tag_option n.link)))) × (next_history (LinkNext s u t c) told.0 v x ≡ told.0)
+link_misses p s u t c b v x w n k e d told = let q : (x == unlinked u) ≡ false = ne_eqb x (unlinked u) d in
+    (told.1.next ∙ ap (λ (z : Bool). counted b (act_of (LinkNext s u t c) x) (cond z 0 1) (cond z (link_view v told.0 (client v) s u t c (reply_of t c) (rest_of v.pass.stock)) (seen s u v (next_of x)))) q
+    ∙ ap (λ (z : Next). counted b (act_of (LinkNext s u t c) x) 1 (seen s u v z)) (ap next_of (sym e) ∙ next_of_word n k),
+    ap (λ (z : Bool). cond z (told.0 ++ link_entry v (client v) c (reply_of t c) ∷ []) told.0) q)
