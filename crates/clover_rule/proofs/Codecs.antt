@@ -1,5 +1,5 @@
 -- The numbers of tags, next words, roots and meta words are those of the codecs, and what the rule allows decodes.
-use Rattle.std.proofs.Common.{◌≡◌, ℕ, zero, suc, ◌+◌, ◌-◌, ◌*◌, ◌/◌, ◌%◌, ◌^◌, ◌<◌, ◌≤◌, ◌&&◌, Bool, true, false, refl, sym, ap, ◌∙◌, arith, subst, nat_lt}
+use Rattle.std.proofs.Common.{◌≡◌, ℕ, ◌+◌, ◌*◌, ◌/◌, ◌%◌, ◌^◌, ◌<◌, refl, sym, ap, ◌∙◌, arith, subst}
 use Rattle.std.specs.Prelude.{Option, Some, None}
 use Rattle.clover_words.specs.declared.pool.Pool.{Pool}
 use Rattle.clover_words.specs.declared.word.Buffer.{Buffer}
@@ -7,13 +7,13 @@ use Rattle.clover_words.specs.declared.word.Word.TheVariants.{Next as NextOf, Ro
 use Rattle.clover_words.specs.Place.{IsBuffer}
 use Rattle.clover_words.specs.Tag.{TagParts, IsTag, tag_number}
 use Rattle.clover_words.specs.Next.{NextParts, IsNext, IsLink, next_word, root_word}
-use Rattle.clover_rule.specs.Content.{InRange, inside}
-use Rattle.clover_rule.specs.Memory.{word, Next, gen, link, home, age}
+use Rattle.clover_rule.specs.Content.{InRange}
+use Rattle.clover_rule.specs.Memory.{word, home, age}
 use Rattle.clover_rule.specs.Steps.{unlinked, linked}
 use Rattle.clover_rule.specs.Told.{IsShown}
 use Rattle.clover_rule.specs.Words.{next_of, root_of, next_code, root_code, buffer_at}
 use Rattle.clover_rule.proofs.Ties.{next_again, root_again, buffer_in}
-use Rattle.clover_rule.proofs.Keeping.{tag_small, inside_of}
+use Rattle.clover_rule.proofs.Keeping.{inside_of}
 
 -- a tag's number says its buffer and its generation
 pub home_tag : (t : TagParts) → IsTag t → home (tag_number t) ≡ t.node * 65536 + t.index
@@ -83,9 +83,11 @@ shown_next p b x (code, (low, target)) = go (root_of (x % 8796093022208)) refl
   where
     go : (o : Option ℕ) → root_of (x % 8796093022208) ≡ o → (n : NextParts) × IsNext n × (next_word n ≡ x)
     go None e = (record { own = x / 8796093022208; link = None }, record { own = (let w = p.wear_fits in omega arith); link = tt }, ap (λ (z : Option ℕ). next_code (word (x / 8796093022208) z)) (sym e) ∙ code)
-    go (Some t) e = let i = target t e in
-        (record { own = x / 8796093022208; link = Some (tag_parts t) }, record { own = (let w = p.wear_fits in omega arith); link = range_tag p t i },
-        ap (λ (z : ℕ). (x / 8796093022208) * 2 ^ 43 + (2 ^ 42 + z)) (parts_again t) ∙ ap (λ (z : Option ℕ). next_code (word (x / 8796093022208) z)) (sym e) ∙ code)
+    go (Some t) e = let i = target t e in (
+      record { own = x / 8796093022208; link = Some (tag_parts t) },
+      record { own = (let w = p.wear_fits in omega arith); link = range_tag p t i },
+      ap (λ (z : ℕ). (x / 8796093022208) * 2 ^ 43 + (2 ^ 42 + z)) (parts_again t) ∙ ap (λ (z : Option ℕ). next_code (word (x / 8796093022208) z)) (sym e) ∙ code,
+    )
 
 shown_link : (p : Pool) (x : ℕ) → root_code (root_of x) ≡ x → ((t : ℕ) → root_of x ≡ Some t → InRange p t) → (o : Option TagParts) × IsLink o × (root_word o ≡ x)
 shown_link p x code target = go (root_of x) refl

@@ -1,4 +1,5 @@
 pub mod Keys
+pub mod Longest
 pub mod Reading
 pub mod Codecs
 pub mod Presets

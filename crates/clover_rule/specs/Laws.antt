@@ -11,7 +11,7 @@ use Rattle.clover_rule.specs.Accesses.{CameBack, words_after_act, IsTail}
 use Rattle.clover_rule.specs.History.{named}
 use Rattle.clover_rule.specs.Lists.{nth}
 use Rattle.clover_rule.specs.Meets.{Meets}
-use Rattle.clover_rule.specs.Rule.{Rule}
+use Rattle.clover_rule.specs.Rule.{Rule, longest}
 use Rattle.clover_rule.specs.Steps.{Step, Asks, word_of, side_of, becomes, act_of, found, words_after_step, next_view, next_history, DecideNext, unlinked}
 use Rattle.clover_rule.specs.Story.{Story}
 use Rattle.clover_rule.specs.Told.{Told, TableHolds}
@@ -21,6 +21,10 @@ use Rattle.clover_rule.specs.declared.view.View.{View}
 -- The twelve parts follow from the helping facts.
 abbrev pub PartsLaw : Type 0
 PartsLaw = (p : Pool) (first : Tagged) (used ws : List ℕ) (vs : List View) (st : Story) (h : List Entry) → Meets p first used ws vs st h → Rule p first used ws vs h
+
+-- The history is the longest that a view holds.
+abbrev pub LongestLaw : Type 0
+LongestLaw = (p : Pool) (first : Tagged) (used ws : List ℕ) (vs : List View) (h : List Entry) → Rule p first used ws vs h → longest vs ≡ h
 
 -- Whatever the words, the views and the history are, a step that its actor may make keeps the rule.
 abbrev pub StepLaw : Type 0

@@ -1,5 +1,5 @@
 -- The rule: what the words, the views of all actors and one history have to do with each other between any two steps. Its twelve parts, and the helping facts.
-use Rattle.std.specs.Prelude.{◌≡◌, ◌≢◌, ℕ, ◌≤◌, ◌⊎◌, List, [], ◌∷◌, ◌++◌, length, true, Option, Some, None}
+use Rattle.std.specs.Prelude.{◌≡◌, cond, leb, ◌≢◌, ℕ, ◌≤◌, ◌⊎◌, List, [], ◌∷◌, ◌++◌, length, true, Option, Some, None}
 use Rattle.clover_words.specs.declared.pool.Pool.{Pool}
 use Rattle.clover_map.specs.declared.bytes.Value.{Value}
 use Rattle.clover_map.specs.declared.bytes.Held.{Held}
@@ -114,6 +114,14 @@ pub record HistoryAndMap (p : Pool) (first : Tagged) (used : List ℕ) (m : Mem)
   pub old : Each (λ (t : ℕ). age t ≤ gen (m.next (home t))) (used_by used h)
   pub unstocked : (v : View) → Within v vs → Each (λ (t : ℕ). Within t v.pass.stock → ⊥) (used_by used h)
   pub unfree : (v : View) → IsServer vs v → Each (λ (t : ℕ). inside p (home t) ≡ true → book_at v.server (home t) ≡ book (age t) IsFree → ⊥) (used_by used h)
+
+-- the longest history that a view holds
+abbrev pub longer_of : List Entry → List Entry → List Entry
+longer_of a b = cond (leb (length a) (length b)) b a
+
+abbrev pub longest : List View → List Entry
+longest [] = []
+longest (v ∷ vs) = longer_of v.pass.history (longest vs)
 
 -- Part 12. Each view's history begins the history, which one view holds, and its own calls are the entries of its client there. No two clients have one number, and a number that the server did not make has no view and no entry.
 pub record ViewsAndHistory (vs : List View) (h : List Entry) : Type 0 where

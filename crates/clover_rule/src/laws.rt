@@ -1,7 +1,7 @@
 // The laws, each a contract of a function without a body.
 ghost use Rattle.clover_rule.specs.Cut.{CutLaw};
 ghost use Rattle.clover_rule.specs.Preset.{PresetLaw};
-ghost use Rattle.clover_rule.specs.Laws.{PartsLaw, StepLaw, ToldLaw, TableStepLaw, AccessLaw, TailLaw};
+ghost use Rattle.clover_rule.specs.Laws.{PartsLaw, LongestLaw, StepLaw, ToldLaw, TableStepLaw, AccessLaw, TailLaw};
 
 /// The twelve parts of the rule follow from the helping facts.
 pub fn parts_law()
@@ -11,6 +11,11 @@ pub fn parts_law()
 /// The preset pool meets the rule.
 pub fn preset_law()
     ensures { PresetLaw }
+{}
+
+/// The history is the longest that a view holds.
+pub fn longest_law()
+    ensures { LongestLaw }
 {}
 
 /// Each step that a client may make keeps the rule.
