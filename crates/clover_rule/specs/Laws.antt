@@ -9,6 +9,7 @@ use Rattle.clover_map.specs.Tagged.{Tagged}
 use Rattle.atomic_table.specs.Table.{Me, Allows}
 use Rattle.clover_rule.specs.Accesses.{CameBack, words_after_act, IsTail}
 use Rattle.clover_rule.specs.History.{named}
+use Rattle.clover_rule.specs.ServerSteps.{ServerStep, ServerLaw}
 use Rattle.clover_rule.specs.Lists.{nth}
 use Rattle.clover_rule.specs.Meets.{Meets}
 use Rattle.clover_rule.specs.Rule.{Rule, longest}
@@ -40,6 +41,10 @@ ToldLaw = (p : Pool) (first : Tagged) (used ws : List ℕ) (vs : List View) (h :
 abbrev pub TableStepLaw : Type 0
 TableStepLaw = (p : Pool) (first : Tagged) (used : List ℕ) (slots id : ℕ) (me : Me (Unit {0}) View) (a : Step) (b : Bool) → Asks p a me.0
     → Allows {S = Unit {0}} (TableHolds p first used) slots id me (address_of p (word_of a) (side_of a)) (becomes a) (λ x you. Told p a b me.0 x you.0 × (you.1 ≡ me.1))
+
+-- Each step of the server's binding and recycling keeps the helping facts over the decoded words.
+abbrev pub ServerStepLaw : Type 0
+ServerStepLaw = (p : Pool) (a : ServerStep) → ServerLaw p a
 
 -- The access of a step comes back with what the words give, and leaves what the step leaves.
 abbrev pub AccessLaw : Type 0

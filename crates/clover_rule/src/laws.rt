@@ -1,7 +1,7 @@
 // The laws, each a contract of a function without a body.
 ghost use Rattle.clover_rule.specs.Cut.{CutLaw};
 ghost use Rattle.clover_rule.specs.Preset.{PresetLaw};
-ghost use Rattle.clover_rule.specs.Laws.{PartsLaw, LongestLaw, StepLaw, ToldLaw, TableStepLaw, AccessLaw, TailLaw};
+ghost use Rattle.clover_rule.specs.Laws.{PartsLaw, LongestLaw, StepLaw, ToldLaw, TableStepLaw, ServerStepLaw, AccessLaw, TailLaw};
 
 /// The twelve parts of the rule follow from the helping facts.
 pub fn parts_law()
@@ -31,6 +31,11 @@ pub fn told_law()
 /// Each step is one that a table whose rule is this one allows.
 pub fn table_step_law()
     ensures { TableStepLaw }
+{}
+
+/// Each step of the server keeps the helping facts over the decoded words.
+pub fn server_step_law()
+    ensures { ServerStepLaw }
 {}
 
 /// The access of a step comes back with what the words give.
