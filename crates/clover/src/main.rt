@@ -2,20 +2,28 @@
 //! and ends with the status that the call answers.
 #![tactic(auto)]
 
-use clover_main::{StdSink, StdSource, clover};
+use clover_main::{Refusal, StdSink, StdSource, clover, refuse};
 use std::env;
+use std::io::ErrorKind;
 use std::process::ExitCode;
 
 fn main(rt: HostRuntime) -> ExitCode {
-    let alloc = rt.alloc();
     let mut source = StdSource::make(rt.reader());
     let mut sink = StdSink::make(std::io::writer(&rt));
-    // Words that cannot be had, as those that are no text, are those of no command.
-    let words = words(&rt).unwrap_or(Vec::new(alloc));
-    ExitCode::from(clover(alloc, &words, &mut source, &mut sink))
+    ExitCode::from(match words(&rt) {
+        Ok(words) => clover(rt.alloc(), &words, &mut source, &mut sink),
+        Err(refusal) => refuse(&mut sink, refusal),
+    })
 }
 
-/// The words behind the program's name.
-fn words(rt: &HostRuntime) -> Option<Vec<String>> {
-    env::args(rt).ok()?.skip(1).collect(rt.alloc()).ok()
+/// The words behind the program's name. Words that are no text are those of no command.
+fn words(rt: &HostRuntime) -> Result<Vec<String>, Refusal> {
+    match env::args(rt) {
+        Ok(arguments) => arguments
+            .skip(1)
+            .collect(rt.alloc())
+            .map_err(|_| Refusal::OutOfMemory),
+        Err(error) if error.kind() == ErrorKind::OutOfMemory => Err(Refusal::OutOfMemory),
+        Err(_) => Err(Refusal::BadWords),
+    }
 }

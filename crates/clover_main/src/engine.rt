@@ -20,7 +20,7 @@ mod words;
 
 use clover_map::{Call, Key, OutOfMemory, Reply, Value};
 use clover_words::{Pool, Setup, Tag, dealt, tombstone};
-pub use running::run;
+pub use running::{RunText, run};
 use std::alloc::Global;
 use version::{append, bind, read_version, tag_of};
 

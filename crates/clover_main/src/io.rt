@@ -1,6 +1,6 @@
 // Where the input comes from and where the output goes. Both count their faults, and tell the bytes
 // that went through them where they can.
-ghost use Rattle.std.specs.Prelude.{List, ℕ, Option, OnOk, OnErr};
+ghost use Rattle.std.specs.Prelude.{List, ℕ, ◌++◌, Option, OnOk, OnErr};
 ghost use Rattle.std.specs.Io.{ReadsAtMost};
 ghost use Rattle.std.specs.Io.KnownBytes.{ReadConsumes, Appends};
 ghost use Rattle.clover_main.specs.Causes.{HasCause, AppendsFront};
@@ -36,4 +36,16 @@ pub trait Sink {
         ensures ok { OnOk result (Appends (taken self.old) (taken self.new) piece.now) }
         ensures err { OnErr result (AppendsFront (taken self.old) (taken self.new) piece.now) }
         ensures cause { HasCause (faults self.old) (faults self.new) result };
+}
+
+/// Puts one piece behind another, or fails with a front of both taken.
+pub fn put_both<K: Sink>(sink: &mut K, first: &[u8], second: &[u8]) -> Result<(), Failed>
+    ensures ok { OnOk result (Appends (K.taken sink.old) (K.taken sink.new) (first.now ++ second.now)) }
+    ensures err { OnErr result (AppendsFront (K.taken sink.old) (K.taken sink.new) (first.now ++ second.now)) }
+    ensures cause { HasCause (K.faults sink.old) (K.faults sink.new) result }
+{
+    match sink.put(first) {
+        Ok(()) => sink.put(second),
+        Err(failed) => Err(failed),
+    }
 }

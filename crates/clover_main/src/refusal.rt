@@ -4,7 +4,7 @@ ghost use Rattle.std.specs.Io.KnownBytes.{Appends};
 ghost use Rattle.clover_main.specs.Causes.{AppendsFront, HasCause, Writes};
 ghost use Rattle.clover_main.specs.Refusing.{status_of, line_of};
 
-use crate::io::{Failed, Sink};
+use crate::io::{Failed, Sink, put_both};
 use itoa::Buffer;
 
 /// Why a command was refused.
@@ -65,18 +65,6 @@ fn put_bad_line<K: Sink>(sink: &mut K, number: u64) -> Result<(), Failed>
     let mut buffer = Buffer::new();
     match put_both(sink, b"error badline ", buffer.format(number).as_bytes()) {
         Ok(()) => sink.put(b" unbuilt\n"),
-        Err(failed) => Err(failed),
-    }
-}
-
-/// Puts one piece behind another.
-fn put_both<K: Sink>(sink: &mut K, first: &[u8], second: &[u8]) -> Result<(), Failed>
-    ensures ok { OnOk result (Appends (K.taken sink.old) (K.taken sink.new) (first.now ++ second.now)) }
-    ensures err { OnErr result (AppendsFront (K.taken sink.old) (K.taken sink.new) (first.now ++ second.now)) }
-    ensures cause { HasCause (K.faults sink.old) (K.faults sink.new) result }
-{
-    match sink.put(first) {
-        Ok(()) => sink.put(second),
         Err(failed) => Err(failed),
     }
 }

@@ -1,12 +1,12 @@
 // The command that replays a script.
-ghost use Rattle.std.specs.Prelude.{◌≡◌, ◌≤◌, ℕ, List, Some, IfOk, IfErr};
+ghost use Rattle.std.specs.Prelude.{◌≡◌, ◌≤◌, ◌++◌, ℕ, List, Some, IfOk, IfErr};
 ghost use Rattle.clover_main.specs.Causes.{Rose, Writes};
 ghost use Rattle.clover_main.specs.Refusing.{HasShown, status_of, line_of};
 ghost use Rattle.clover_main.specs.Replay.{HasRun, Replays, StopsShort, Refuses, IsExact};
 ghost use Rattle.clover_main.specs.declared.refusal.Refusal.TheVariants.{OutOfMemory};
 
-use crate::engine::run;
-use crate::io::{Sink, Source};
+use crate::engine::{RunText, run};
+use crate::io::{Sink, Source, put_both};
 use crate::read::read_all;
 use crate::refusal::{Refusal, refuse};
 use clover_script::{ScriptFault, check_script, first_line};
@@ -43,7 +43,7 @@ fn attempt<S: Source, K: Sink>(alloc: Global, source: &mut S, sink: &mut K) -> u
     ensures no_other { result ≤ 4 }
 {
     match answers(alloc, source) {
-        Ok(text) => match sink.put(&text) {
+        Ok(text) => match put_both(sink, &text.answers, &text.history) {
             Ok(()) => 0,
             Err(_) => 3,
         },
@@ -52,8 +52,8 @@ fn attempt<S: Source, K: Sink>(alloc: Global, source: &mut S, sink: &mut K) -> u
 }
 
 /// The text of the run of the source's script.
-fn answers<S: Source>(alloc: Global, source: &mut S) -> Result<Vec<u8>, Refusal>
-    ensures ok { IfOk result (λ out. HasRun (S.left source.old) (S.left source.new) out.items) }
+fn answers<S: Source>(alloc: Global, source: &mut S) -> Result<RunText, Refusal>
+    ensures ok { IfOk result (λ out. HasRun (S.left source.old) (S.left source.new) (out.answers.items ++ out.history.items)) }
     ensures quiet { IfOk result (λ out. S.faults source.new ≡ S.faults source.old) }
     ensures err { IfErr result (λ refusal. HasShown (S.left source.old) (S.left source.new) (S.faults source.old) (S.faults source.new) refusal) }
 {

@@ -9,6 +9,9 @@ const SCRIPT: &[u8] =
 const PRINTED: &[u8] =
     b"1 stored 0.0.0\n1 found 0.0.0 =hello\nhistory\nh 1 1 1 put a =hello stored 0.0.0\nh 1 1 2 get a found 0.0.0 =hello\nend\n";
 
+// the first of the two pieces in which that is put
+const ANSWERS: &[u8] = b"1 stored 0.0.0\n1 found 0.0.0 =hello\nhistory\n";
+
 const UNBUILT: &[u8] = b"pool nodes=1 buffers=4 slots=2 words=2 wear=3 clients=1 batch=2\njump 1\n";
 
 #[derive(Clone, Copy)]
@@ -22,7 +25,7 @@ struct Case {
 }
 
 // What fails, and what is answered and printed then.
-const CASES: [Case; 11] = [
+const CASES: [Case; 13] = [
     // the take that gives the text, and the one that finds its end
     Case {
         text: SCRIPT,
@@ -49,7 +52,7 @@ const CASES: [Case; 11] = [
         status: 0,
         printed: PRINTED,
     },
-    // the one piece of the output, by the list and for want of room
+    // the first and the second piece of the output, by the list and for want of room
     Case {
         text: SCRIPT,
         failing_takes: &[],
@@ -69,8 +72,24 @@ const CASES: [Case; 11] = [
     Case {
         text: SCRIPT,
         failing_takes: &[],
+        room: 45,
+        failing_puts: &[],
+        status: 3,
+        printed: ANSWERS,
+    },
+    Case {
+        text: SCRIPT,
+        failing_takes: &[],
         room: 4096,
         failing_puts: &[2],
+        status: 3,
+        printed: ANSWERS,
+    },
+    Case {
+        text: SCRIPT,
+        failing_takes: &[],
+        room: 4096,
+        failing_puts: &[3],
         status: 0,
         printed: PRINTED,
     },

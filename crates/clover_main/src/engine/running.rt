@@ -20,10 +20,10 @@ use std::alloc::Global;
 
 /// Runs the lines behind a script's pool line, and gives the text of the run: a line for each answer,
 /// and then the history. Err for want of memory alone.
-pub fn run(alloc: Global, outline: &Outline, body: &[u8]) -> Result<Vec<u8>, OutOfMemory>
+pub fn run(alloc: Global, outline: &Outline, body: &[u8]) -> Result<RunText, OutOfMemory>
     requires short { length body.now ≤ 16777216 }
     requires script { (calls : List Call) × Serves outline.now.setup calls outline.now.names × (outline.now.setup.pool.slots ≤ buffers_total outline.now.setup.pool) × (lines_of body.now ≡ map call_line calls) }
-    ensures { IfOk result (λ out. (calls : List Call) → All IsCall calls → lines_of body.now ≡ map call_line calls → IsRunText calls out.items) }
+    ensures { IfOk result (λ out. (calls : List Call) → All IsCall calls → lines_of body.now ≡ map call_line calls → IsRunText calls (out.answers.items ++ out.history.items)) }
 {
     let mut engine = Engine::make(alloc, &outline.setup, outline.names.keys())?;
     let mut text = RunText::make(alloc);
@@ -35,45 +35,45 @@ pub fn run(alloc: Global, outline: &Outline, body: &[u8]) -> Result<Vec<u8>, Out
         number += 1;
         rest = after;
     }
-    text.whole()
+    text.end()?;
+    Ok(text)
 }
 
-// The text of a run as it grows: the lines of the answers, and those of the history.
+/// The text of a run, in two pieces: the lines of the answers, and those of the history. They grow side
+/// by side, so neither is copied to stand behind the other.
 #[derive(Drop)]
-struct RunText {
-    answers: Vec<u8>,
-    entries: Vec<u8>,
+pub struct RunText {
+    pub answers: Vec<u8>,
+    pub history: Vec<u8>,
 }
 
 impl RunText {
     fn make(alloc: Global) -> RunText
-        ensures { (result.answers.items ≡ []) × (result.entries.items ≡ []) }
+        ensures { (result.answers.items ≡ []) × (result.history.items ≡ []) }
     {
         RunText {
             answers: Vec::new(alloc),
-            entries: Vec::new(alloc),
+            history: Vec::new(alloc),
         }
     }
 
     // Adds an entry's two lines.
     fn add(&mut self, entry: &Entry) -> Result<(), OutOfMemory>
         ensures answers { OnOk result (self.new.answers.items ≡ self.old.answers.items ++ answer_line entry.now) }
-        ensures entries { OnOk result (self.new.entries.items ≡ self.old.entries.items ++ entry_line entry.now) }
+        ensures history { OnOk result (self.new.history.items ≡ self.old.history.items ++ entry_line entry.now) }
     {
         push_answer(&mut self.answers, entry)?;
-        push_entry(&mut self.entries, entry)?;
+        push_entry(&mut self.history, entry)?;
         Ok(())
     }
 
-    // The whole text.
-    fn whole(self) -> Result<Vec<u8>, OutOfMemory>
-        ensures { IfOk result (λ out. out.items ≡ self.answers.items ++ codes "history\n" ++ self.entries.items ++ codes "end\n") }
+    // Adds the line between the pieces, and the last one.
+    fn end(&mut self) -> Result<(), OutOfMemory>
+        ensures { OnOk result (self.new.answers.items ++ self.new.history.items ≡ self.old.answers.items ++ codes "history\n" ++ self.old.history.items ++ codes "end\n") }
     {
-        let mut out = self.answers;
-        out.extend_from_slice(b"history\n")?;
-        out.extend_from_slice(&self.entries)?;
-        out.extend_from_slice(b"end\n")?;
-        Ok(out)
+        self.answers.extend_from_slice(b"history\n")?;
+        self.history.extend_from_slice(b"end\n")?;
+        Ok(())
     }
 }
 
@@ -90,7 +90,7 @@ fn run_line(
     requires call { (call : Call) × IsCall call × (written call ≤ 1024) × (line.now ≡ call_line call) × IsServed engine.old.setup engine.old.puts call × Contains names.now (key_of call) }
     ensures { OnOk result ((entry : Entry) × IsStep names.now engine.old engine.new line.now number entry
         × (text.new.answers.items ≡ text.old.answers.items ++ answer_line entry)
-        × (text.new.entries.items ≡ text.old.entries.items ++ entry_line entry)) }
+        × (text.new.history.items ≡ text.old.history.items ++ entry_line entry)) }
 {
     let entry = entry_of(alloc, engine, names, line, number)?;
     text.add(&entry)

@@ -1,6 +1,6 @@
 use Rattle.std.proofs.lemmas.Result.{on_err_weaker}
 use Rattle.clover_main.proofs.Puts.{front_of_first, front_of_second}
-use Rattle.clover_main.proofs.refusal.put_both.Goals as goal
+use Rattle.clover_main.proofs.io.put_both.Goals as goal
 
 pub returns-in-Ok-clause-err : goal.returns-in-Ok-clause-err
 returns-in-Ok-clause-err g c =
