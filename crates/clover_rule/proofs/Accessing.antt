@@ -1,27 +1,18 @@
--- A step's access replays, and what a deciding load shows is the tail of its key.
-use Rattle.std.proofs.Common.{◌≡◌, ℕ, zero, suc, ◌≤◌, List, [], ◌∷◌, ◌++◌, length, drop, refl, sym, ap, ◌∙◌, arith, subst}
-use Rattle.std.specs.Prelude.{Some, None, slice_set, slice_index}
+-- The laws of a step: it keeps the rule, it tells its actor facts, and its access replays.
+use Rattle.std.proofs.Common.{◌≡◌, ℕ, List, refl, sym}
+use Rattle.std.specs.Prelude.{slice_set, slice_index}
 use Rattle.std.proofs.lemmas.List.{set-get_or}
 use Rattle.clover_words.specs.declared.word.Word.TheVariants.{Next as NextOf}
 use Rattle.clover_words.specs.declared.word.Side.TheVariants.{Current}
 use Rattle.clover_words.specs.Place.{address_of}
-use Rattle.clover_rule.specs.History.{Version, shows, named}
-use Rattle.clover_rule.specs.Image.{tags}
-use Rattle.clover_rule.specs.Laws.{PartsLaw, StepLaw, ToldLaw, TableStepLaw, AccessLaw, TailLaw}
-use Rattle.clover_rule.specs.Lists.{nth}
-use Rattle.clover_rule.specs.Memory.{Mem, word, home, age}
-use Rattle.clover_rule.specs.Parts.{Walk}
+use Rattle.clover_rule.specs.Laws.{PartsLaw, StepLaw, ToldLaw, TableStepLaw, AccessLaw}
+use Rattle.clover_rule.specs.Memory.{home}
 use Rattle.clover_rule.specs.Steps.{LoadNext, DecideNext, RaiseNext, LinkNext, StoreContent, FlushContent, LoadContent, ReadRoot, ReadShort, StoreShort, ReadCount, AbsentCount, word_of}
-use Rattle.clover_rule.specs.Story.{Story}
 use Rattle.clover_rule.specs.Told.{Told}
-use Rattle.clover_rule.specs.Words.{mem_of, next_of, content_at, buffer_at}
+use Rattle.clover_rule.specs.Words.{content_at, buffer_at}
 use Rattle.clover_rule.proofs.Keeps.{keeps}
-use Rattle.clover_rule.proofs.Keeping.{inside_of, read_next}
-use Rattle.clover_rule.proofs.Ties.{next_again}
 use Rattle.clover_rule.proofs.Telling.{told, table_law}
 use Rattle.clover_rule.proofs.TwelveParts.{rule_holds}
-use Rattle.clover_rule.proofs.Derived.{chains}
-use Rattle.clover_rule.proofs.Decide.{tail_durable, slot_bound, last, version}
 
 pub parts_law : PartsLaw
 parts_law = rule_holds
@@ -52,29 +43,3 @@ access_law p ws (ReadShort s) = (refl, same_words ws (address_of p (word_of (Rea
 access_law p ws (StoreShort s t) = (tt, refl)
 access_law p ws ReadCount = (refl, same_words ws (address_of p (word_of ReadCount) Current))
 access_law p ws (AbsentCount c) = (refl, same_words ws (address_of p (word_of ReadCount) Current))
-
--- a list of versions ends with its last one
-split_last : (ws : List Version) (i : ℕ) (w : Version) → nth ws i ≡ Some w → length ws ≡ suc i → (n : ℕ) → n ≤ i → (ts : List ℕ) × (tags (drop n ws) ≡ ts ++ w.tag ∷ [])
-split_last [] i w e l n h = absurd cc
-split_last (x ∷ []) zero w e l zero h = ([], let q : x ≡ w = (let z : Some x ≡ Some w = e in cc) in ap (λ (y : Version). y.tag ∷ []) q)
-split_last (x ∷ []) zero w e l (suc n) h = absurd (omega arith)
-split_last (x ∷ []) (suc i) w e l n h = absurd cc
-split_last (x ∷ y ∷ ws) zero w e l n h = absurd (omega arith)
-split_last (x ∷ y ∷ ws) (suc i) w e l zero h = let q = split_last (y ∷ ws) i w e (omega arith) zero (omega arith) in (x.tag ∷ q.0, ap (λ (ts : List ℕ). x.tag ∷ ts) q.1)
-split_last (x ∷ y ∷ ws) (suc i) w e l (suc n) h = split_last (y ∷ ws) i w e (omega arith) n (omega arith)
-
-pub tail_law : TailLaw
-tail_law p first used ws vs h id v s t c y r at (hw, may) e =
-    let st : Story = r.story in
-    let m : Mem = mem_of p ws in
-    let w = r.helped.whole in
-    let f : m.next (home t) ≡ word (age t) None = read_next p ws (home t) (inside_of p (home t) hw) ∙ ap next_of e ∙ next_again (age t) None (omega arith) in
-    let b = w.basis in
-    let bound = slot_bound (shows first) used m vs st h b id v at s (named c) t may.tail may.name f in
-    let d = tail_durable (shows first) used m vs st h b id v at s (named c) t may.tail may.name f in
-    let x = version (shows first) used m vs st h b id v at s (named c) t may.tail may.name f in
-    let l = last (shows first) used m vs st h b id v at s (named c) t may.tail may.name f in
-    let low = b.core.rooted s (omega arith) in
-    let most = b.core.sure_most s in
-    let q = split_last (st.log s) d.0 x.0 x.1 l (st.lead s) (omega arith) in
-    (s, q.0, w.help.keyed.current s (named c) bound.0, subst (λ (ts : List ℕ). Walk m (m.root s) ts) (q.1 ∙ ap (λ (z : ℕ). q.0 ++ z ∷ []) x.2) ((chains m st b.core).walk s))

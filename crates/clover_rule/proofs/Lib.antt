@@ -6,6 +6,7 @@ pub mod Presets
 pub mod Accessing
 pub mod AfterCuts
 pub mod TwelveParts
+pub mod Tails
 pub mod Telling
 pub mod Keeps
 pub mod Keeping

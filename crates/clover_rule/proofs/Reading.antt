@@ -34,40 +34,40 @@ word_tail t n h k e = let q : n ≡ record { own = t.generation; link = None } =
 -- a load of a next word on a walk
 pub load_reads : (p : Pool) (s t : ℕ) (b : Bool) (v : View) (x : ℕ) (w : View) (n : NextParts) → IsNext n → next_word n ≡ x → Told p (LoadNext s t) b v x w
     → w ≡ counted b (act_of (LoadNext s t) x) (turn_at t x) (seen s t v (word n.own (tag_option n.link)))
-load_reads p s t b v x w n k e told = told.1.next ∙ ap (λ (z : Next). counted b (act_of (LoadNext s t) x) (turn_at t x) (seen s t v z)) (ap next_of (sym e) ∙ next_of_word n k)
+load_reads p s t b v x w n k e told = told.2.next ∙ ap (λ (z : Next). counted b (act_of (LoadNext s t) x) (turn_at t x) (seen s t v z)) (ap next_of (sym e) ∙ next_of_word n k)
 
 -- a deciding load that showed the tail: the entry stands behind the history of that moment
 pub decide_reads : (p : Pool) (s t : ℕ) (c : Call) (r : Reply) (b : Bool) (v : View) (x : ℕ) (w : View) → x ≡ unlinked t → (told : Told p (DecideNext s t c r) b v x w)
-    → (w ≡ counted b (act_of (DecideNext s t c r) x) 0 (decided v told.0 t c r)) × (next_history (DecideNext s t c r) told.0 v x ≡ told.0 ++ link_entry v (client v) c r ∷ [])
+    → (w ≡ counted b (act_of (DecideNext s t c r) x) 0 (decided v told.1 t c r)) × (next_history (DecideNext s t c r) told.1 v x ≡ told.1 ++ link_entry v (client v) c r ∷ [])
 decide_reads p s t c r b v x w e told = let q : (x == unlinked t) ≡ true = eq-eqb x (unlinked t) e in (
-  told.1.next ∙ ap (λ (z : Bool). counted b (act_of (DecideNext s t c r) x) (cond z 0 1) (cond z (decided v told.0 t c r) (seen s t v (next_of x)))) q,
-  ap (λ (z : Bool). cond z (told.0 ++ link_entry v (client v) c r ∷ []) told.0) q,
+  told.2.next ∙ ap (λ (z : Bool). counted b (act_of (DecideNext s t c r) x) (cond z 0 1) (cond z (decided v told.1 t c r) (seen s t v (next_of x)))) q,
+  ap (λ (z : Bool). cond z (told.1 ++ link_entry v (client v) c r ∷ []) told.1) q,
 )
 
 -- and one that did not is a load of a walk that made a turn
 pub decide_misses : (p : Pool) (s t : ℕ) (c : Call) (r : Reply) (b : Bool) (v : View) (x : ℕ) (w : View) (n : NextParts) → IsNext n → next_word n ≡ x → x ≢ unlinked t → (told : Told p (DecideNext s t c r) b v x w)
-    → (w ≡ counted b (act_of (DecideNext s t c r) x) 1 (seen s t v (word n.own (tag_option n.link)))) × (next_history (DecideNext s t c r) told.0 v x ≡ told.0)
+    → (w ≡ counted b (act_of (DecideNext s t c r) x) 1 (seen s t v (word n.own (tag_option n.link)))) × (next_history (DecideNext s t c r) told.1 v x ≡ told.1)
 decide_misses p s t c r b v x w n k e d told = let q : (x == unlinked t) ≡ false = ne_eqb x (unlinked t) d in (
-  told.1.next ∙ ap (λ (z : Bool). counted b (act_of (DecideNext s t c r) x) (cond z 0 1) (cond z (decided v told.0 t c r) (seen s t v (next_of x)))) q
+  told.2.next ∙ ap (λ (z : Bool). counted b (act_of (DecideNext s t c r) x) (cond z 0 1) (cond z (decided v told.1 t c r) (seen s t v (next_of x)))) q
       ∙ ap (λ (z : Next). counted b (act_of (DecideNext s t c r) x) 1 (seen s t v z)) (ap next_of (sym e) ∙ next_of_word n k),
-  ap (λ (z : Bool). cond z (told.0 ++ link_entry v (client v) c r ∷ []) told.0) q,
+  ap (λ (z : Bool). cond z (told.1 ++ link_entry v (client v) c r ∷ []) told.1) q,
 )
 
 -- an exchange that wrote
 pub link_reads : (p : Pool) (s u t : ℕ) (c : Call) (b : Bool) (v : View) (x : ℕ) (w : View) → x ≡ unlinked u → (told : Told p (LinkNext s u t c) b v x w)
-    → (w ≡ counted b (act_of (LinkNext s u t c) x) 0 (link_view v told.0 (client v) s u t c (reply_of t c) (rest_of v.pass.stock))) × (next_history (LinkNext s u t c) told.0 v x ≡ told.0 ++ link_entry v (client v) c (reply_of t c) ∷ [])
+    → (w ≡ counted b (act_of (LinkNext s u t c) x) 0 (link_view v told.1 (client v) s u t c (reply_of t c) (rest_of v.pass.stock))) × (next_history (LinkNext s u t c) told.1 v x ≡ told.1 ++ link_entry v (client v) c (reply_of t c) ∷ [])
 link_reads p s u t c b v x w e told = let q : (x == unlinked u) ≡ true = eq-eqb x (unlinked u) e in (
-  told.1.next ∙ ap (λ (z : Bool). counted b (act_of (LinkNext s u t c) x) (cond z 0 1) (cond z (link_view v told.0 (client v) s u t c (reply_of t c) (rest_of v.pass.stock)) (seen s u v (next_of x)))) q,
-  ap (λ (z : Bool). cond z (told.0 ++ link_entry v (client v) c (reply_of t c) ∷ []) told.0) q,
+  told.2.next ∙ ap (λ (z : Bool). counted b (act_of (LinkNext s u t c) x) (cond z 0 1) (cond z (link_view v told.1 (client v) s u t c (reply_of t c) (rest_of v.pass.stock)) (seen s u v (next_of x)))) q,
+  ap (λ (z : Bool). cond z (told.1 ++ link_entry v (client v) c (reply_of t c) ∷ []) told.1) q,
 )
 
 -- and one that did not
 pub link_misses : (p : Pool) (s u t : ℕ) (c : Call) (b : Bool) (v : View) (x : ℕ) (w : View) (n : NextParts) → IsNext n → next_word n ≡ x → x ≢ unlinked u → (told : Told p (LinkNext s u t c) b v x w)
-    → (w ≡ counted b (act_of (LinkNext s u t c) x) 1 (seen s u v (word n.own (tag_option n.link)))) × (next_history (LinkNext s u t c) told.0 v x ≡ told.0)
+    → (w ≡ counted b (act_of (LinkNext s u t c) x) 1 (seen s u v (word n.own (tag_option n.link)))) × (next_history (LinkNext s u t c) told.1 v x ≡ told.1)
 link_misses p s u t c b v x w n k e d told = let q : (x == unlinked u) ≡ false = ne_eqb x (unlinked u) d in (
-  told.1.next ∙ ap (λ (z : Bool). counted b (act_of (LinkNext s u t c) x) (cond z 0 1) (cond z (link_view v told.0 (client v) s u t c (reply_of t c) (rest_of v.pass.stock)) (seen s u v (next_of x)))) q
+  told.2.next ∙ ap (λ (z : Bool). counted b (act_of (LinkNext s u t c) x) (cond z 0 1) (cond z (link_view v told.1 (client v) s u t c (reply_of t c) (rest_of v.pass.stock)) (seen s u v (next_of x)))) q
       ∙ ap (λ (z : Next). counted b (act_of (LinkNext s u t c) x) 1 (seen s u v z)) (ap next_of (sym e) ∙ next_of_word n k),
-  ap (λ (z : Bool). cond z (told.0 ++ link_entry v (client v) c (reply_of t c) ∷ []) told.0) q,
+  ap (λ (z : Bool). cond z (told.1 ++ link_entry v (client v) c (reply_of t c) ∷ []) told.1) q,
 )
 
 -- the next word of a tag's buffer, and what a step on it asks
@@ -85,4 +85,4 @@ asks_load_next p v s t h b cl d = (within_next p t h b, (cl, d))
 
 -- what a load of a tag's next word found decodes
 pub told_decodes : (p : Pool) (s : ℕ) (t : TagParts) (b : Bool) (v : View) (x : ℕ) (w : View) → Told p (LoadNext s (tag_number t)) b v x w → (n : NextParts) × IsNext n × (next_word n ≡ x)
-told_decodes p s t b v x w told = shown_next p (buffer_at (home (tag_number t))) x told.1.number
+told_decodes p s t b v x w told = shown_next p (buffer_at (home (tag_number t))) x told.2.number

@@ -28,6 +28,7 @@ use Rattle.clover_rule.proofs.TaggedMaps.{legal_history}
 use Rattle.clover_rule.proofs.Derived.{current_past}
 use Rattle.clover_rule.proofs.Keeping.{read_next, read_fnext, read_root, read_short, inside_of}
 use Rattle.clover_rule.proofs.Keeps.{keeps}
+use Rattle.clover_rule.proofs.Tails.{says}
 use Rattle.clover_rule.proofs.Soundness.{cut_sound, flushed_image, flushed_is}
 use Rattle.clover_map.specs.Legal as Runs
 use Rattle.clover_rule.proofs.Ties.{content_side}
@@ -130,10 +131,13 @@ pub told : (p : Pool) (first : Tagged) (used : List ℕ) (ws : List ℕ) (vs : L
 told p first used ws vs h id v (st, r) at a b asks =
     let w : View = next_view b a h v (found p a ws) in
     let after = keeps p first used ws vs st h r id v at a b asks in (
+      ws,
       h,
       record {
+        here = refl;
         before = facts p first used ws vs st h r id v at;
         number = number_shown p first used ws vs st h r a asks.0;
+        says = says p first used ws vs st h r id v at a asks;
         next = refl;
         after = facts p first used (words_after_step p a ws) (slice_set vs id w) after.0 (next_history a h v (found p a ws)) after.1 id w (set_here vs id w v at);
       },

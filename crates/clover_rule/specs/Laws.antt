@@ -2,21 +2,17 @@
 use Rattle.std.specs.Prelude.{◌≡◌, ℕ, List, slice_set, Bool, Some}
 use Rattle.clover_words.specs.declared.pool.Pool.{Pool}
 use Rattle.clover_words.specs.Place.{address_of}
-use Rattle.clover_map.specs.declared.call.Call.{Call}
-use Rattle.clover_map.specs.declared.call.Reply.{Reply}
 use Rattle.clover_map.specs.declared.call.Entry.{Entry}
 use Rattle.clover_map.specs.Tagged.{Tagged}
 use Rattle.atomic_table.specs.Table.{Me, Allows}
-use Rattle.clover_rule.specs.Accesses.{CameBack, words_after_act, IsTail}
-use Rattle.clover_rule.specs.History.{named}
+use Rattle.clover_rule.specs.Accesses.{CameBack, words_after_act}
 use Rattle.clover_rule.specs.ServerSteps.{ServerStep, ServerLaw}
 use Rattle.clover_rule.specs.Lists.{nth}
 use Rattle.clover_rule.specs.Meets.{Meets}
 use Rattle.clover_rule.specs.Rule.{Rule, longest}
-use Rattle.clover_rule.specs.Steps.{Step, Asks, word_of, side_of, becomes, act_of, found, words_after_step, next_view, next_history, DecideNext, unlinked}
+use Rattle.clover_rule.specs.Steps.{Step, Asks, word_of, side_of, becomes, act_of, found, words_after_step, next_view, next_history}
 use Rattle.clover_rule.specs.Story.{Story}
 use Rattle.clover_rule.specs.Told.{Told, TableHolds}
-use Rattle.clover_rule.specs.Words.{mem_of}
 use Rattle.clover_rule.specs.declared.view.View.{View}
 
 -- The twelve parts follow from the helping facts.
@@ -49,8 +45,3 @@ ServerStepLaw = (p : Pool) (a : ServerStep) → ServerLaw p a
 -- The access of a step comes back with what the words give, and leaves what the step leaves.
 abbrev pub AccessLaw : Type 0
 AccessLaw = (p : Pool) (ws : List ℕ) (a : Step) → CameBack p ws (act_of a (found p a ws)) × (words_after_act p ws (act_of a (found p a ws)) ≡ words_after_step p a ws)
-
--- Where a deciding load shows a tag unlinked, it is the tail of the call's key.
-abbrev pub TailLaw : Type 0
-TailLaw = (p : Pool) (first : Tagged) (used ws : List ℕ) (vs : List View) (h : List Entry) (id : ℕ) (v : View) (s t : ℕ) (c : Call) (r : Reply) → Rule p first used ws vs h → nth vs id ≡ Some v → Asks p (DecideNext s t c r) v
-    → found p (DecideNext s t c r) ws ≡ unlinked t → IsTail (mem_of p ws) (named c) t

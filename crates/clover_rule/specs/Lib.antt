@@ -13,9 +13,9 @@ pub mod Steps
 pub mod Meets
 pub mod Parts
 pub mod Rule
-pub mod Told
 pub mod Meant
 pub mod Accesses
+pub mod Told
 pub mod Image
 pub mod Sound
 pub mod Cut

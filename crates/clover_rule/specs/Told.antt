@@ -8,13 +8,15 @@ use Rattle.clover_map.specs.declared.call.Entry.{Entry}
 use Rattle.clover_map.specs.Tagged.{Tagged}
 use Rattle.clover_map.specs.Legal.{Legal}
 use Rattle.atomic_table.specs.Table.{State, Me, Allows}
+use Rattle.clover_rule.specs.Accesses.{IsTail}
 use Rattle.clover_rule.specs.Content.{InRange, IsKey}
-use Rattle.clover_rule.specs.Lists.{Each, IsPrefix}
+use Rattle.clover_rule.specs.History.{named}
+use Rattle.clover_rule.specs.Lists.{Each, IsPrefix, Within}
 use Rattle.clover_rule.specs.Meets.{IsCode, IsMet}
 use Rattle.clover_rule.specs.Memory.{gen, link}
-use Rattle.clover_rule.specs.Steps.{Step, Asks, word_of, side_of, becomes, next_view, next_history}
+use Rattle.clover_rule.specs.Steps.{Step, ReadRoot, DecideNext, LinkNext, Asks, word_of, side_of, becomes, found, next_view, next_history, unlinked}
 use Rattle.clover_rule.specs.Views.{OwnCalls, Apart}
-use Rattle.clover_rule.specs.Words.{next_of, root_of}
+use Rattle.clover_rule.specs.Words.{next_of, root_of, mem_of}
 use Rattle.clover_rule.specs.declared.view.Link.{Link}
 use Rattle.clover_rule.specs.declared.view.View.{View}
 
@@ -39,15 +41,24 @@ IsShown p (Root s) x = IsCode (Root s) x × ((t : ℕ) → root_of x ≡ Some t 
 IsShown p (Short s) x = IsCode (Short s) x × ((t : ℕ) → root_of x ≡ Some t → InRange p t)
 IsShown p w x = Unit {0}
 
--- a step of the actor v found the number x and left the view w, the first of its call or a later one
-pub record ToldAt (p : Pool) (a : Step) (b : Bool) (v : View) (x : ℕ) (w : View) (h : List Entry) : Type 0 where
+-- what else it says: a bound slot has a root, and a tag that a deciding step finds unlinked is the tail of its call's key in the words of that moment
+abbrev pub Says : Pool → List ℕ → Step → View → ℕ → Type 0
+Says p ws (ReadRoot s) v x = (k : List ℕ) → Within (s, k) v.pass.names → (t : ℕ) × (root_of x ≡ Some t)
+Says p ws (DecideNext s t c r) v x = x ≡ unlinked t → IsTail (mem_of p ws) (named c) t
+Says p ws (LinkNext s u t c) v x = x ≡ unlinked u → IsTail (mem_of p ws) (named c) u
+Says p ws a v x = Unit {0}
+
+-- where these are the words and the history, a step of the actor v found the number x and left the view w, the first of its call or a later one
+pub record ToldAt (p : Pool) (ws : List ℕ) (h : List Entry) (a : Step) (b : Bool) (v : View) (x : ℕ) (w : View) : Type 0 where
+  pub here : x ≡ found p a ws
   pub before : Facts p v h
   pub number : IsShown p (word_of a) x
+  pub says : Says p ws a v x
   pub next : w ≡ next_view b a h v x
   pub after : Facts p w (next_history a h v x)
 
 abbrev pub Told : Pool → Step → Bool → View → ℕ → View → Type 0
-Told p a b v x w = (h : List Entry) × ToldAt p a b v x w h
+Told p a b v x w = (ws : List ℕ) × (h : List Entry) × ToldAt p ws h a b v x w
 
 -- the rule of a table whose words are the pool's and whose seats are the actors
 abbrev pub TableHolds : {S : Type 0} → Pool → Tagged → List ℕ → State S View → Type 0

@@ -1,7 +1,7 @@
 // The laws, each a contract of a function without a body.
 ghost use Rattle.clover_rule.specs.Cut.{CutLaw};
 ghost use Rattle.clover_rule.specs.Preset.{PresetLaw};
-ghost use Rattle.clover_rule.specs.Laws.{PartsLaw, LongestLaw, StepLaw, ToldLaw, TableStepLaw, ServerStepLaw, AccessLaw, TailLaw};
+ghost use Rattle.clover_rule.specs.Laws.{PartsLaw, LongestLaw, StepLaw, ToldLaw, TableStepLaw, ServerStepLaw, AccessLaw};
 
 /// The twelve parts of the rule follow from the helping facts.
 pub fn parts_law()
@@ -41,11 +41,6 @@ pub fn server_step_law()
 /// The access of a step comes back with what the words give.
 pub fn access_law()
     ensures { AccessLaw }
-{}
-
-/// What a deciding load shows unlinked is the tail of the call's key.
-pub fn tail_law()
-    ensures { TailLaw }
 {}
 
 /// Each image of a power cut is sound and stands for the map of a history that survived.

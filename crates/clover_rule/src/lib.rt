@@ -10,7 +10,7 @@ mod view;
 pub use access::{Access, Act, Actor};
 pub use laws::{
     access_law, cut_law, longest_law, parts_law, preset_law, server_step_law, step_law,
-    table_step_law, tail_law, told_law,
+    table_step_law, told_law,
 };
 pub use step::{Kind, StepName};
 pub use view::{

@@ -1,0 +1,84 @@
+-- What a number says beside itself: a bound slot has a root, and a tag that is found unlinked is the tail of its key.
+use Rattle.std.proofs.Common.{◌≡◌, ℕ, zero, suc, ◌≤◌, List, [], ◌∷◌, ◌++◌, length, drop, sym, ap, ◌∙◌, arith, subst}
+use Rattle.std.specs.Prelude.{Option, Some, None}
+use Rattle.clover_words.specs.declared.pool.Pool.{Pool}
+use Rattle.clover_words.specs.declared.word.Word.TheVariants.{Next as NextOf}
+use Rattle.clover_words.specs.declared.word.Side.TheVariants.{Current}
+use Rattle.clover_words.specs.Place.{IsWithin, copy_in}
+use Rattle.clover_map.specs.declared.call.Entry.{Entry}
+use Rattle.clover_map.specs.Tagged.{Tagged}
+use Rattle.clover_rule.specs.Accesses.{IsTail}
+use Rattle.clover_rule.specs.History.{Version, shows, named}
+use Rattle.clover_rule.specs.Image.{tags}
+use Rattle.clover_rule.specs.Lists.{nth, Within}
+use Rattle.clover_rule.specs.Meets.{Meets}
+use Rattle.clover_rule.specs.Memory.{Mem, word, home, age}
+use Rattle.clover_rule.specs.Parts.{Walk}
+use Rattle.clover_rule.specs.Steps.{Step, Asks, LoadNext, DecideNext, RaiseNext, LinkNext, StoreContent, FlushContent, LoadContent, ReadRoot, ReadShort, StoreShort, ReadCount, AbsentCount, found, unlinked}
+use Rattle.clover_rule.specs.Story.{Story, tag_at}
+use Rattle.clover_rule.specs.Told.{Says}
+use Rattle.clover_rule.specs.Words.{mem_of, next_of, buffer_at}
+use Rattle.clover_rule.specs.declared.view.View.{View}
+use Rattle.clover_rule.proofs.Decide.{tail_durable, slot_bound, last, version}
+use Rattle.clover_rule.proofs.Derived.{chains}
+use Rattle.clover_rule.proofs.Keeping.{inside_of, read_next, read_root}
+use Rattle.clover_rule.proofs.Standings.{tag_past}
+use Rattle.clover_rule.proofs.Steps.{within_prefix}
+use Rattle.clover_rule.proofs.Ties.{next_again}
+
+-- a list of versions ends with its last one
+split_last : (ws : List Version) (i : ℕ) (w : Version) → nth ws i ≡ Some w → length ws ≡ suc i → (n : ℕ) → n ≤ i → (ts : List ℕ) × (tags (drop n ws) ≡ ts ++ w.tag ∷ [])
+split_last [] i w e l n h = absurd cc
+split_last (x ∷ []) zero w e l zero h = ([], let q : x ≡ w = (let z : Some x ≡ Some w = e in cc) in ap (λ (y : Version). y.tag ∷ []) q)
+split_last (x ∷ []) zero w e l (suc n) h = absurd (omega arith)
+split_last (x ∷ []) (suc i) w e l n h = absurd cc
+split_last (x ∷ y ∷ ws) zero w e l n h = absurd (omega arith)
+split_last (x ∷ y ∷ ws) (suc i) w e l zero h = let q = split_last (y ∷ ws) i w e (omega arith) zero (omega arith) in (x.tag ∷ q.0, ap (λ (ts : List ℕ). x.tag ∷ ts) q.1)
+split_last (x ∷ y ∷ ws) (suc i) w e l (suc n) h = split_last (y ∷ ws) i w e (omega arith) n (omega arith)
+
+module _ (p : Pool) (first : Tagged) (used : List ℕ) (ws : List ℕ) (vs : List View) (st : Story) (h : List Entry) (r : Meets p first used ws vs st h) (id : ℕ) (v : View) (at : nth vs id ≡ Some v) where
+  abbrev m : Mem
+  m = mem_of p ws
+
+  -- a known durable tag of a named slot that is found unlinked is the last of the chain from the root
+  tail_is : (s t : ℕ) (k : List ℕ) → IsWithin p (NextOf (buffer_at (home t))) → Within (s, t) v.pass.durable → Within (s, k) v.pass.names → copy_in p ws (NextOf (buffer_at (home t))) Current ≡ unlinked t → IsTail m k t
+  tail_is s t k hw tail name e =
+      let w = r.whole in
+      let f : m.next (home t) ≡ word (age t) None = read_next p ws (home t) (inside_of p (home t) hw) ∙ ap next_of e ∙ next_again (age t) None (omega arith) in
+      let b = w.basis in
+      let bound = slot_bound (shows first) used m vs st h b id v at s k t tail name f in
+      let d = tail_durable (shows first) used m vs st h b id v at s k t tail name f in
+      let x = version (shows first) used m vs st h b id v at s k t tail name f in
+      let l = last (shows first) used m vs st h b id v at s k t tail name f in
+      let low = b.core.rooted s (omega arith) in
+      let most = b.core.sure_most s in
+      let q = split_last (st.log s) d.0 x.0 x.1 l (st.lead s) (omega arith) in
+      (s, q.0, w.help.keyed.current s k bound.0, subst (λ (ts : List ℕ). Walk m (m.root s) ts) (q.1 ∙ ap (λ (z : ℕ). q.0 ++ z ∷ []) x.2) ((chains m st b.core).walk s))
+
+  -- a named slot has a root
+  root_is : (s : ℕ) (k : List ℕ) → Within (s, k) v.pass.names → (t : ℕ) × (m.root s ≡ Some t)
+  root_is s k name =
+      let b = r.whole.basis in
+      let ok = b.views id v at in
+      let bound = b.bound s k (subst (Within (s, k)) (sym ok.names.1) (within_prefix (s, k) v.pass.names ok.names.0 name)) in
+      let low = b.core.rooted s (r.whole.help.keyed.filled s k bound.0) in
+      let most = b.core.sure_most s in
+      there (λ e. let past = tag_past st s (st.lead s) e in omega arith) (tag_at st s (st.lead s)) (b.core.root s)
+    where
+      there : (tag_at st s (st.lead s) ≡ None → ⊥) → (o : Option ℕ) → m.root s ≡ o → (t : ℕ) × (m.root s ≡ Some t)
+      there n None e = absurd (n (sym (r.whole.basis.core.root s) ∙ e))
+      there n (Some t) e = (t, e)
+
+  pub says : (a : Step) → Asks p a v → Says p ws a v (found p a ws)
+  says (LoadNext s t) asks = tt
+  says (DecideNext s t c y) asks = λ e. tail_is s t (named c) asks.0 asks.1.tail asks.1.name e
+  says (RaiseNext l) asks = tt
+  says (LinkNext s u t c) asks = λ e. tail_is s u (named c) asks.0 asks.1.tail asks.1.name e
+  says (StoreContent t j x) asks = tt
+  says (FlushContent t j x) asks = tt
+  says (LoadContent s t j) asks = tt
+  says (ReadRoot s) asks = λ k name. let t = root_is s k name in (t.0, sym (read_root p ws s asks.0) ∙ t.1)
+  says (ReadShort s) asks = tt
+  says (StoreShort s t) asks = tt
+  says ReadCount asks = tt
+  says (AbsentCount c) asks = tt

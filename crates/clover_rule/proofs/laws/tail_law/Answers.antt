@@ -1,5 +1,0 @@
-use Rattle.clover_rule.proofs.laws.tail_law.Goals as goal
-use Rattle.clover_rule.proofs.Accessing as Accessing
-
-pub returns : goal.returns
-returns c = Accessing.tail_law
