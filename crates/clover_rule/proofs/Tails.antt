@@ -1,29 +1,32 @@
 -- What a number says beside itself: a bound slot has a root, and a tag that is found unlinked is the tail of its key.
-use Rattle.std.proofs.Common.{◌≡◌, ℕ, zero, suc, ◌≤◌, List, [], ◌∷◌, ◌++◌, length, drop, sym, ap, ◌∙◌, arith, subst}
+use Rattle.std.proofs.Common.{◌≡◌, ℕ, zero, suc, ◌≤◌, List, [], ◌∷◌, ◌++◌, length, drop, refl, sym, ap, ◌∙◌, inl, inr, ⊎_elim, arith, subst}
 use Rattle.std.specs.Prelude.{Option, Some, None}
 use Rattle.clover_words.specs.declared.pool.Pool.{Pool}
 use Rattle.clover_words.specs.declared.word.Word.TheVariants.{Next as NextOf}
 use Rattle.clover_words.specs.declared.word.Side.TheVariants.{Current}
 use Rattle.clover_words.specs.Place.{IsWithin, copy_in}
+use Rattle.clover_map.specs.declared.bytes.Value.{Value}
 use Rattle.clover_map.specs.declared.call.Entry.{Entry}
 use Rattle.clover_map.specs.Tagged.{Tagged}
 use Rattle.clover_rule.specs.Accesses.{IsTail}
+use Rattle.clover_rule.specs.Content.{content, Fits, tombstone, value_meta}
 use Rattle.clover_rule.specs.History.{Version, shows, named}
 use Rattle.clover_rule.specs.Image.{tags}
 use Rattle.clover_rule.specs.Lists.{nth, Within}
 use Rattle.clover_rule.specs.Meets.{Meets}
-use Rattle.clover_rule.specs.Memory.{Mem, word, home, age}
+use Rattle.clover_rule.specs.Memory.{Mem, word, gen, home, age}
 use Rattle.clover_rule.specs.Parts.{Walk}
 use Rattle.clover_rule.specs.Steps.{Step, Asks, LoadNext, DecideNext, RaiseNext, LinkNext, StoreContent, FlushContent, LoadContent, ReadRoot, ReadShort, StoreShort, ReadCount, AbsentCount, found, unlinked}
-use Rattle.clover_rule.specs.Story.{Story, tag_at}
-use Rattle.clover_rule.specs.Told.{Says}
+use Rattle.clover_rule.specs.Story.{Story, tag_at, tag_in_version}
+use Rattle.clover_rule.specs.Told.{IsMetaWord, Says}
+use Rattle.clover_rule.specs.Views.{IsCopied}
 use Rattle.clover_rule.specs.Words.{mem_of, next_of, buffer_at}
 use Rattle.clover_rule.specs.declared.view.View.{View}
 use Rattle.clover_rule.proofs.Decide.{tail_durable, slot_bound, last, version}
 use Rattle.clover_rule.proofs.Derived.{chains}
 use Rattle.clover_rule.proofs.Keeping.{inside_of, read_next, read_root}
 use Rattle.clover_rule.proofs.Standings.{tag_past}
-use Rattle.clover_rule.proofs.Steps.{within_prefix}
+use Rattle.clover_rule.proofs.Steps.{each_within, within_prefix}
 use Rattle.clover_rule.proofs.Ties.{next_again}
 
 -- a list of versions ends with its last one
@@ -35,6 +38,12 @@ split_last (x ∷ []) (suc i) w e l n h = absurd cc
 split_last (x ∷ y ∷ ws) zero w e l n h = absurd (omega arith)
 split_last (x ∷ y ∷ ws) (suc i) w e l zero h = let q = split_last (y ∷ ws) i w e (omega arith) zero (omega arith) in (x.tag ∷ q.0, ap (λ (ts : List ℕ). x.tag ∷ ts) q.1)
 split_last (x ∷ y ∷ ws) (suc i) w e l (suc n) h = split_last (y ∷ ws) i w e (omega arith) n (omega arith)
+
+-- the first word of a content is a version's meta word
+head : (p : Pool) (y : ℕ) (o : Option Value) → Fits p o → ((z : ℕ) → nth (content o) 0 ≡ Some z → z ≡ y) → IsMetaWord p y
+unfolding content
+head p y None fits f = inl (sym (f tombstone refl))
+head p y (Some u) fits f = inr (u, fits, sym (f (value_meta u) refl))
 
 module _ (p : Pool) (first : Tagged) (used : List ℕ) (ws : List ℕ) (vs : List View) (st : Story) (h : List Entry) (r : Meets p first used ws vs st h) (id : ℕ) (v : View) (at : nth vs id ≡ Some v) where
   abbrev m : Mem
@@ -69,8 +78,20 @@ module _ (p : Pool) (first : Tagged) (used : List ℕ) (ws : List ℕ) (vs : Lis
       there n None e = absurd (n (sym (r.whole.basis.core.root s) ∙ e))
       there n (Some t) e = (t, e)
 
+  -- a meta word copied of a tag that is found unlinked is a version's
+  meta_is : (s t y : ℕ) → IsWithin p (NextOf (buffer_at (home t))) → copy_in p ws (NextOf (buffer_at (home t))) Current ≡ unlinked t → Within (s, record { tag = t; place = 0; word = y }) v.pass.copied → IsMetaWord p y
+  meta_is s t y hw e q =
+      let b = r.whole.basis in
+      let ok = b.views id v at in
+      let f : m.next (home t) ≡ word (age t) None = read_next p ws (home t) (inside_of p (home t) hw) ∙ ap next_of e ∙ next_again (age t) None (omega arith) in
+      go f (each_within (IsCopied st) (s, record { tag = t; place = 0; word = y }) v.pass.copied ok.copied q)
+    where
+      go : m.next (home t) ≡ word (age t) None → IsCopied st (s, record { tag = t; place = 0; word = y }) → IsMetaWord p y
+      go f d = ⊎_elim (λ whole. head p y d.1.value (r.whole.help.ranged.fits s d.0 d.1 d.2) whole)
+          (λ gone. let past = (r.whole.basis.core.passed s d.0 t (ap tag_in_version d.2 ∙ ap Some d.3) gone).later in let g = ap gen f in absurd (omega arith)) d.4
+
   pub says : (a : Step) → Asks p a v → Says p ws a v (found p a ws)
-  says (LoadNext s t) asks = tt
+  says (LoadNext s t) asks = λ e y q. meta_is s t y asks.0 e q
   says (DecideNext s t c y) asks = λ e. tail_is s t (named c) asks.0 asks.1.tail asks.1.name e
   says (RaiseNext l) asks = tt
   says (LinkNext s u t c) asks = λ e. tail_is s u (named c) asks.0 asks.1.tail asks.1.name e

@@ -1,20 +1,21 @@
 -- What a step tells its actor: facts on its own view and the history, before and after.
-use Rattle.std.specs.Prelude.{◌≡◌, ℕ, ◌<◌, ◌≤◌, List, Bool, Some}
+use Rattle.std.specs.Prelude.{◌≡◌, ℕ, ◌<◌, ◌≤◌, ◌⊎◌, List, Bool, Some}
 use Rattle.clover_words.specs.declared.pool.Pool.{Pool}
 use Rattle.clover_words.specs.declared.word.Word.{Word}
 use Rattle.clover_words.specs.declared.word.Word.TheVariants.{Next as NextOf, Root, Short}
 use Rattle.clover_words.specs.Place.{address_of}
+use Rattle.clover_map.specs.declared.bytes.Value.{Value}
 use Rattle.clover_map.specs.declared.call.Entry.{Entry}
 use Rattle.clover_map.specs.Tagged.{Tagged}
 use Rattle.clover_map.specs.Legal.{Legal}
 use Rattle.atomic_table.specs.Table.{State, Me, Allows}
 use Rattle.clover_rule.specs.Accesses.{IsTail}
-use Rattle.clover_rule.specs.Content.{InRange, IsKey}
+use Rattle.clover_rule.specs.Content.{InRange, IsKey, Fits, tombstone, value_meta}
 use Rattle.clover_rule.specs.History.{named}
 use Rattle.clover_rule.specs.Lists.{Each, IsPrefix, Within}
 use Rattle.clover_rule.specs.Meets.{IsCode, IsMet}
 use Rattle.clover_rule.specs.Memory.{gen, link}
-use Rattle.clover_rule.specs.Steps.{Step, ReadRoot, DecideNext, LinkNext, Asks, word_of, side_of, becomes, found, next_view, next_history, unlinked}
+use Rattle.clover_rule.specs.Steps.{Step, LoadNext, ReadRoot, DecideNext, LinkNext, Asks, word_of, side_of, becomes, found, next_view, next_history, unlinked}
 use Rattle.clover_rule.specs.Views.{OwnCalls, Apart}
 use Rattle.clover_rule.specs.Words.{next_of, root_of, mem_of}
 use Rattle.clover_rule.specs.declared.view.Link.{Link}
@@ -41,8 +42,13 @@ IsShown p (Root s) x = IsCode (Root s) x × ((t : ℕ) → root_of x ≡ Some t 
 IsShown p (Short s) x = IsCode (Short s) x × ((t : ℕ) → root_of x ≡ Some t → InRange p t)
 IsShown p w x = Unit {0}
 
--- what else it says: a bound slot has a root, and a tag that a deciding step finds unlinked is the tail of its call's key in the words of that moment
+-- the meta word of a version: a tombstone's, or that of a value that a buffer has room for
+abbrev pub IsMetaWord : Pool → ℕ → Type 0
+IsMetaWord p y = (y ≡ tombstone) ⊎ ((u : Value) × Fits p (Some u) × (y ≡ value_meta u))
+
+-- what else it says: a named slot has a root; a meta word that was copied of a tag is a version's where the tag is found unlinked; and a tag that a deciding step finds unlinked is the tail of its call's key in the words of that moment
 abbrev pub Says : Pool → List ℕ → Step → View → ℕ → Type 0
+Says p ws (LoadNext s t) v x = x ≡ unlinked t → (y : ℕ) → Within (s, record { tag = t; place = 0; word = y }) v.pass.copied → IsMetaWord p y
 Says p ws (ReadRoot s) v x = (k : List ℕ) → Within (s, k) v.pass.names → (t : ℕ) × (root_of x ≡ Some t)
 Says p ws (DecideNext s t c r) v x = x ≡ unlinked t → IsTail (mem_of p ws) (named c) t
 Says p ws (LinkNext s u t c) v x = x ≡ unlinked u → IsTail (mem_of p ws) (named c) u
