@@ -19,7 +19,7 @@ use crate::start::{Stand, Start};
 use crate::turn::Turn;
 use clover_port::Port;
 use clover_words::{NextWord, Pool, Tag, root_decode};
-use std::marker::Model;
+use std::marker::{Brand, Model};
 
 /// A walk of one call along one slot's chain, to the chain's tail. It makes one access a step.
 ///
@@ -103,17 +103,18 @@ impl Walk {
         ensures count { P.faults port.old ≤ P.faults port.new }
         ensures kept { OnReached result (P.faults port.new ≡ P.faults port.old) }
     {
-        match self.stand {
-            Stand::AtRoot => match load_root(port, self.first, self.slot) {
+        let stand = self.stand;
+        match stand {
+            Stand::AtRoot => match load_root::<P, Brand>(port, self.first, self.slot) {
                 Ok(word) => self.lead(word),
                 Err(_) => Turn::Unreached,
             },
-            Stand::AtTag(tag) => match load_next(port, self.first, self.slot, tag) {
+            Stand::AtTag(tag) => match load_next::<P, Brand>(port, self.first, self.slot, tag) {
                 Ok(word) => self.follow(tag, word),
                 Err(_) => Turn::Unreached,
             },
             Stand::AtLink { from, to } => {
-                match raise_next(port, self.first, self.slot, from, to) {
+                match raise_next::<P, Brand>(port, self.first, self.slot, from, to) {
                     Ok(_) => self.place(Stand::AtTag(to)),
                     Err(_) => Turn::Unreached,
                 }
@@ -139,7 +140,8 @@ impl Walk {
         ensures port { port.new ≡ port.old }
     {
         let _ = port;
-        match self.stand {
+        let stand = self.stand;
+        match stand {
             Stand::OnTail(tag) => self.follow(tag, word),
             _ => unreachable!(),
         }
