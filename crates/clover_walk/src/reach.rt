@@ -12,7 +12,7 @@ use clover_rule::StepName;
 use clover_words::{Buffer, NextWord, Tag, Word};
 
 // The word that holds the link behind a tag.
-pub(crate) fn next_word(tag: Tag) -> Word
+fn next_word(tag: Tag) -> Word
     ensures { result ≡ NextOf (record { node = tag.node; index = tag.index }) }
 {
     Word::Next(Buffer {

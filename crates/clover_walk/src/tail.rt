@@ -8,19 +8,25 @@ ghost use Rattle.clover_rule.specs.declared.step.Kind.TheVariants.{Copy, Decide}
 ghost use Rattle.clover_port.specs.Told.{Made, Rose, Exact};
 ghost use Rattle.clover_walk.specs.Ending.{last_step};
 
-use crate::reach::next_word;
 use clover_port::{Failed, Port, load_as};
 use clover_rule::StepName;
 use clover_words::{Buffer, Tag, Word};
+
+// The buffer of a tag.
+fn buffer_of(tag: Tag) -> Buffer
+    ensures { result ≡ buffer_at (home (tag_number tag)) }
+{
+    Buffer {
+        node: tag.node,
+        index: tag.index,
+    }
+}
 
 // The content word at this place of the tag's buffer.
 fn content_word(tag: Tag, place: u32) -> Word
     ensures { result ≡ content_at (home (tag_number tag)) place }
 {
-    let buffer = Buffer {
-        node: tag.node,
-        index: tag.index,
-    };
+    let buffer = buffer_of(tag);
     if place == 0 {
         Word::Meta(buffer)
     } else {
@@ -62,5 +68,5 @@ pub fn load_last<P: Port, M: StepName>(port: &mut P, slot: u32, tag: Tag) -> Res
     ensures exact { Exact (P.refuses port.old) result }
 {
     let _ = slot;
-    load_as::<P, M>(port, next_word(tag))
+    load_as::<P, M>(port, Word::Next(buffer_of(tag)))
 }
