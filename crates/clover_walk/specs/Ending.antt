@@ -21,7 +21,7 @@ pub record Ended (p : Pool) (c : Call) (r : Reply) (v : View) (before : Option O
   pub decides : Decides p made.now.words v.pass.names w.pass.since c r
 
 -- the access was the exchange that linked the own tag behind the tail, and the accesses of the call decide the reply with that tag
-pub record Committed (p : Pool) (c : Call) (own : ℕ) (v : View) (before : Option Open) (w : View) (after : Option Open) : Type 0 where
+pub record Commits (p : Pool) (c : Call) (own : ℕ) (v : View) (before : Option Open) (w : View) (after : Option Open) : Type 0 where
   pub slot : ℕ
   pub tail : ℕ
   pub made : Made p (LinkNext slot tail own c) false v before (unlinked tail) w after
