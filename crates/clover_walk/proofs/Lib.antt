@@ -1,0 +1,4 @@
+pub mod Codes
+pub mod Naming
+pub mod Promises
+pub mod Shown
