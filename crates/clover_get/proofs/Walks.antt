@@ -1,0 +1,97 @@
+-- What a step of a get says where its walk went on: by a step of its own, or by a last load that missed.
+use Prim.Native.Nat.{zero, suc}
+use Rattle.std.proofs.Common.{◌≡◌, ◌≢◌, ℕ, ◌+◌, ◌*◌, ◌<◌, ◌≤◌, ◌==◌, List, [], ◌∷◌, ◌++◌, length, Bool, true, false, cond, refl, sym, ap, ◌∙◌, inl, inr, ⊎_elim, subst, ne_eqb, arith}
+use Rattle.std.specs.Prelude.{Option, Some, None}
+use Rattle.clover_words.specs.declared.bytes.ValueBuf.{ValueBuf}
+use Rattle.clover_words.specs.declared.pool.Pool.{Pool}
+use Rattle.clover_words.specs.Tag.{TagParts, tag_number}
+use Rattle.clover_port.specs.Told.{Open, Made, Rose}
+use Rattle.clover_rule.specs.Content.{InRange}
+use Rattle.clover_rule.specs.Lists.{Each, Within}
+use Rattle.clover_rule.specs.Steps.{Step, LoadNext, DecideNext, unlinked, act_of}
+use Rattle.clover_rule.specs.declared.access.Act.{Act}
+use Rattle.clover_rule.specs.declared.view.View.{View}
+use Rattle.clover_rule.proofs.Steps.{each_within}
+use Rattle.clover_walk.specs.Turning.{Answers, OnReached as WalkReached, OnUnreached as WalkUnreached, OnGoing as OnWalking, IfBehind as IfWalkBehind, OnAhead as OnWalkAhead}
+use Rattle.clover_walk.specs.Walking.{Walking, Stand, AtRoot, AtTag, AtLink, OnTail, Ended, IsOnWay, StandsOn as WalkStandsOn, Holds, walk_step, step_at, goes_on, key_at, budget}
+use Rattle.clover_walk.specs.declared.turn.Turn.{Turn}
+use Rattle.clover_walk.specs.declared.turn.Turn.TheVariants.{More as WalksOn, AtTail, Behind as WalkBehind, Unreached as Refused}
+use Rattle.clover_walk.proofs.Endings.{stepped}
+use Rattle.clover_get.specs.declared.turn.GetTurn.{GetTurn}
+use Rattle.clover_get.specs.declared.turn.GetTurn.TheVariants.{More, Behind, Unreached}
+use Rattle.clover_get.specs.Getting.{Getting, Stage, Seeking, AtMeta, AtFound, AtDead, AtBad, Over, getting, sought, stage_at, get_step, step_from, GoesOn}
+use Rattle.clover_get.specs.Going.{Went, Follows, OneAccess, answer_of, key_of, most_accesses}
+use Rattle.clover_get.specs.Holding.{GetHolds, StandsOn, IsAt, walked, copied, most}
+use Rattle.clover_get.proofs.Counting.{InTurns, Goes, HasRoot, goes, misses, bounded, length_snoc, length_first}
+
+-- a get that stands at this stage is that get
+pub staged : (P : Getting → Type 0) (g : Getting) (s : Stage) → g.stage ≡ s → P (getting g.walk s) → P g
+staged P g s e h = subst P (sym (λ i. record { walk = g.walk; stage = e i })) h
+
+pub restaged : (P : Getting → Type 0) (g : Getting) (s : Stage) → g.stage ≡ s → P g → P (getting g.walk s)
+restaged P g s e h = subst P (λ i. record { walk = g.walk; stage = e i }) h
+
+-- the accesses of a call after one more
+pub one_more : (p : Pool) (a : Step) (b : Bool) (v : View) (o : Option Open) (x : ℕ) (v1 : View) (o1 : Option Open) → Made p a b v o x v1 o1 → length v1.pass.since ≡ suc (cond b 0 (length v.pass.since))
+one_more p a b v o x v1 o1 made =
+    ap (length {A = Act}) (stepped p a b v o x v1 o1 made).since ∙ length_snoc (cond b [] v.pass.since) (act_of a x) ∙ ap suc (length_first b v.pass.since)
+
+-- a tag that is known to be durable is of the pool
+pub in_range : (p : Pool) (a : Step) (b : Bool) (v : View) (o : Option Open) (x : ℕ) (v1 : View) (o1 : Option Open) (s t : ℕ) → Made p a b v o x v1 o1 → Within (s, t) v1.pass.durable → InRange p t
+in_range p a b v o x v1 o1 s t made d = (each_within (λ (q : ℕ × ℕ). (q.0 < p.slots) × InRange p q.1) (s, t) v1.pass.durable made.told.after.durable d).1
+
+on_way : (at : Stand) → IsOnWay at → stage_at at ≡ Seeking
+on_way AtRoot h = refl
+on_way (AtTag t) h = refl
+on_way (AtLink t u) h = refl
+on_way (OnTail t) h = absurd h
+on_way Ended h = absurd h
+
+at_most : (at : Stand) → walked at ≤ 2
+at_most AtRoot = omega arith
+at_most (AtTag t) = omega arith
+at_most (AtLink t u) = omega arith
+at_most (OnTail t) = omega arith
+at_most Ended = omega arith
+
+module _ (p : Pool) (f f1 : ℕ) (g : Getting) (into : ValueBuf) (v : View) (o : Option Open) (x : ℕ) (v1 : View) (o1 : Option Open) (w1 : Walking)
+    (made : Made p (get_step g (key_of g v) into) g.walk.first v o x v1 o1) (goes_so : GoesOn g into.length x (sought w1))
+    (of : w1.pool ≡ p) (later : w1.first ≡ false) (count : InTurns w1 (length v1.pass.since)) where
+  allowed : w1.turns ≡ v1.pass.turns → length v1.pass.since ≤ most_accesses p v1.pass.turns
+  allowed e =
+      let a = at_most w1.stand in
+      let b : length v1.pass.since ≤ most_accesses w1.pool w1.turns = bounded w1.turns w1.pool.words (walked w1.stand) (length v1.pass.since) (omega arith) count in
+      subst (λ (n : ℕ). length v1.pass.since ≤ most_accesses p n) e (subst (λ (q : Pool). length v1.pass.since ≤ most_accesses q w1.turns) of b)
+
+  counted_so : Holds w1 v1 → w1.turns ≡ v1.pass.turns
+  counted_so h = sym (subst (λ (b : Bool). cond b 0 v1.pass.turns ≡ w1.turns) later h.turns)
+
+  -- what holds where the walk stands on, or is at the tail
+  seeks : Holds w1 v1 → IsOnWay w1.stand → GetHolds (sought w1) v1 into
+  seeks h way =
+      let e = on_way w1.stand way in
+      subst (λ (s : Stage). GetHolds (getting w1 s) v1 into) (sym e) (record {
+        walk = h;
+        stage = way;
+        bound = subst (λ (b : Bool). cond b 0 (length v1.pass.since) ≤ most (getting w1 Seeking)) (sym later) count;
+      })
+
+  arrives : (t : ℕ) → Holds w1 v1 → w1.stand ≡ OnTail t → GetHolds (sought w1) v1 into
+  arrives t h e =
+      let d : Within (w1.slot, t) v1.pass.durable = subst (λ (z : Stand). WalkStandsOn w1.slot z v1) e h.stand in
+      let c : length v1.pass.since ≤ w1.turns * (w1.pool.words + 4) + 2 = subst (λ (z : Stand). length v1.pass.since ≤ w1.turns * (w1.pool.words + 4) + walked z) e count in
+      subst (λ (z : Stand). GetHolds (getting w1 (stage_at z)) v1 into) (sym e) (record {
+        walk = h;
+        stage = (e, later, subst (λ (q : Pool). InRange q t) (sym of) (in_range p _ _ v o x v1 o1 w1.slot t made d));
+        bound = subst (λ (b : Bool). cond b 0 (length v1.pass.since) ≤ most (getting w1 (AtMeta t))) (sym later) c;
+      })
+
+  went_by : (turn : Turn) → Answers w1 turn → OnWalking turn (Holds w1 v1) → IfWalkBehind turn (λ (n : ℕ). (n ≡ budget p) × (v1.pass.turns ≡ budget p)) → OnWalkAhead turn (v1.pass.turns < budget p)
+      → Went p f f1 g (sought w1) into into v o v1 o1 (answer_of turn)
+  went_by WalksOn a h b c = record { made = (x, made, goes_so); found = tt; absent = tt; behind = tt; ahead = c; unreached = tt; stands = seeks h a; ends = tt; bound = allowed (counted_so h) }
+  went_by (AtTail t) a h b c = record { made = (x, made, goes_so); found = tt; absent = tt; behind = tt; ahead = c; unreached = tt; stands = arrives (tag_number t) h a; ends = tt; bound = allowed (counted_so h) }
+  went_by (WalkBehind n) a h b c = record { made = (x, made, goes_so); found = tt; absent = tt; behind = b; ahead = tt; unreached = tt; stands = tt; ends = ap stage_at a.0; bound = allowed (sym a.1 ∙ b.0 ∙ sym b.1) }
+  went_by Refused a h b c = absurd a
+
+  pub went_on : (r : GetTurn) → Follows p w1 v1 r → Went p f f1 g (sought w1) into into v o v1 o1 r
+  went_on r s = subst (λ (z : GetTurn). Went p f f1 g (sought w1) into into v o v1 o1 z) (sym s.is) (went_by s.turn s.answers s.stands s.behind s.ahead)
