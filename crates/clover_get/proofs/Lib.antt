@@ -1,2 +1,4 @@
+pub mod Copies
 pub mod Counting
+pub mod Ends
 pub mod Walks
