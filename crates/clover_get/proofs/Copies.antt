@@ -1,29 +1,24 @@
 -- What a get has copied of the tail: how it grows by one load, and what it shows at the last load.
 use Prim.Native.Nat.{zero, suc}
-use Rattle.std.proofs.Common.{◌≡◌, ◌≢◌, ℕ, ◌+◌, ◌*◌, ◌^◌, ◌<◌, ◌≤◌, List, [], ◌∷◌, ◌++◌, length, Bool, true, false, cond, ltb, refl, sym, ap, ◌∙◌, inl, inr, ⊎_elim, subst, arith}
-use Rattle.std.specs.Prelude.{◌⊎◌, slice_index, take, Option, Some, None}
-use Rattle.std.specs.Int.{w64, to_be_bytes}
+use Rattle.std.proofs.Common.{◌≡◌, ◌≢◌, ℕ, ◌+◌, ◌*◌, ◌^◌, ◌<◌, ◌≤◌, List, [], ◌∷◌, ◌++◌, length, Bool, true, false, ltb, refl, sym, ap, ◌∙◌, inl, inr, ⊎_elim, subst, arith}
+use Rattle.std.specs.Prelude.{◌⊎◌, slice_index, None}
 use Rattle.std.proofs.lemmas.List.{length-take-le, get_or-take}
 use Rattle.std.proofs.lemmas.Bool.Decides.{nat_tests}
 use Rattle.clover_words.specs.declared.bytes.ValueBuf.{ValueBuf}
-use Rattle.clover_words.specs.declared.meta.Kind.{Kind}
 use Rattle.clover_words.specs.declared.meta.Kind.TheVariants.{Value as IsValue, Tombstone}
 use Rattle.clover_words.specs.declared.pool.Pool.{Pool}
-use Rattle.clover_words.specs.declared.word.Word.TheVariants.{Next as NextOf, Meta, Value as ValueOf}
-use Rattle.clover_words.specs.Meta.{MetaParts, IsMeta, meta_word}
-use Rattle.clover_words.specs.Pack.{AreBytes, packed, words_of, eight_at}
-use Rattle.clover_words.specs.Place.{IsWithin}
+use Rattle.clover_words.specs.declared.word.Word.TheVariants.{Meta, Value as ValueOf}
+use Rattle.clover_words.specs.Meta.{meta_word}
+use Rattle.clover_words.specs.Pack.{packed, words_of, eight_at}
 use Rattle.clover_words.proofs.Packing.{packed_spells}
-use Rattle.clover_map.specs.declared.bytes.Value.{Value}
 use Rattle.clover_map.specs.declared.call.Call.TheVariants.{Get}
 use Rattle.clover_map.specs.declared.call.Reply.TheVariants.{Found, Absent}
-use Rattle.clover_rule.specs.Content.{InRange, Fits, tombstone, value_meta, Unpacks}
-use Rattle.clover_rule.specs.Knowing.{CopiedValue}
+use Rattle.clover_rule.specs.Content.{InRange, tombstone, value_meta, Unpacks}
 use Rattle.clover_rule.specs.Lists.{Within}
 use Rattle.clover_rule.specs.Memory.{home}
-use Rattle.clover_rule.specs.Steps.{MayDecide, DecideNext, LoadContent, Asks}
+use Rattle.clover_rule.specs.Steps.{DecideNext, LoadContent, Asks}
 use Rattle.clover_rule.specs.Told.{IsMetaWord}
-use Rattle.clover_rule.specs.Words.{buffer_at, content_at}
+use Rattle.clover_rule.specs.Words.{buffer_at}
 use Rattle.clover_rule.specs.declared.access.Act.{Act}
 use Rattle.clover_rule.specs.declared.access.Act.TheVariants.{Load}
 use Rattle.clover_rule.specs.declared.view.Content.{Content}
@@ -31,8 +26,8 @@ use Rattle.clover_rule.specs.declared.view.View.{View}
 use Rattle.clover_rule.proofs.Spelling.{short_enough}
 use Rattle.clover_rule.proofs.Steps.{within_prefix}
 use Rattle.clover_rule.proofs.Ties.{buffer_in, content_in}
-use Rattle.clover_walk.specs.Walking.{Walking, Stand, OnTail, StandsOn as WalkStandsOn, Holds, key_at}
-use Rattle.clover_get.specs.Copying.{Copied, CopiedDead, CopiedBad, Loads, SawBytes, copy}
+use Rattle.clover_walk.specs.Walking.{Walking, Stand, StandsOn as WalkStandsOn, Holds, key_at}
+use Rattle.clover_get.specs.Copying.{Copied, CopiedDead, CopiedBad, SawBytes, copy}
 use Rattle.clover_get.specs.Getting.{Reads, value_in}
 use Rattle.clover_get.specs.Holding.{IsAt}
 
@@ -80,17 +75,23 @@ module _ (p : Pool) (w : Walking) (t : ℕ) (v : View) (of : p ≡ w.pool) (hold
 
   pub asks_found : (f : ℕ) (into : ValueBuf) → Copied w.pool w.slot t f (words_of into.length) v into
       → Asks p (DecideNext w.slot t (Get (key_at v.pass.names w.slot)) (Found t (value_in f into))) v
-  asks_found f into c = (buffer_in p (home t) range_here.0, record {
-    client = holds.client;
-    tail = tail_known;
-    name = holds.named;
-    reply = (refl, record {
-      flags_fit = c.flags;
-      size_fits = subst (λ (n : ℕ). n ≤ 1024) (sym (value_length f into)) into.length_fits;
-      meta = subst (λ (x : ℕ). Within (w.slot, copy t 0 x) v.pass.copied) (value_meta_is f into) c.meta;
-      words = λ k h. (packed into.bytes k, c.words k (subst (λ (n : ℕ). k < words_of n) (value_length f into) h), value_unpacks f into k);
-    });
-  })
+  asks_found f into c = (
+    buffer_in p (home t) range_here.0,
+    record {
+      client = holds.client;
+      tail = tail_known;
+      name = holds.named;
+      reply = (
+        refl,
+        record {
+          flags_fit = c.flags;
+          size_fits = subst (λ (n : ℕ). n ≤ 1024) (sym (value_length f into)) into.length_fits;
+          meta = subst (λ (x : ℕ). Within (w.slot, copy t 0 x) v.pass.copied) (value_meta_is f into) c.meta;
+          words = λ k h. (packed into.bytes k, c.words k (subst (λ (n : ℕ). k < words_of n) (value_length f into) h), value_unpacks f into k);
+        },
+      );
+    },
+  )
 
   pub asks_dead : CopiedDead w.slot t v → Asks p (DecideNext w.slot t (Get (key_at v.pass.names w.slot)) Absent) v
   asks_dead c = (buffer_in p (home t) range_here.0, record { client = holds.client; tail = tail_known; name = holds.named; reply = c.meta })

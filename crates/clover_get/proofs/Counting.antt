@@ -1,11 +1,11 @@
 -- How many accesses a get makes: each step of its walk and each last load that misses stays within what the turns allow.
-use Prim.Native.Nat.{zero, suc}
-use Rattle.std.proofs.Common.{◌≡◌, ◌≢◌, ℕ, ◌+◌, ◌*◌, ◌<◌, ◌≤◌, List, [], ◌∷◌, ◌++◌, length, Bool, true, false, cond, eqb, ltb, refl, sym, ap, ◌∙◌, subst, eqb-true, arith}
+use Prim.Native.Nat.{suc}
+use Rattle.std.proofs.Common.{◌≡◌, ◌≢◌, ℕ, ◌+◌, ◌*◌, ◌≤◌, List, [], ◌∷◌, ◌++◌, length, Bool, true, false, cond, eqb, ltb, refl, sym, ap, subst, eqb-true, arith}
 use Rattle.std.specs.Prelude.{Option, Some, None}
 use Rattle.clover_rule.specs.Memory.{Next, word, age}
 use Rattle.clover_rule.specs.Steps.{unlinked}
 use Rattle.clover_rule.specs.Words.{next_of, next_code, root_of}
-use Rattle.clover_walk.specs.Walking.{Walking, Stand, AtRoot, AtTag, AtLink, OnTail, Ended, IsOnWay, placed, turned, hops, followed, rooted, goes_from, goes_on, begins, next_start, budget}
+use Rattle.clover_walk.specs.Walking.{Walking, Stand, AtRoot, AtTag, AtLink, OnTail, Ended, IsOnWay, turned, hops, followed, rooted, goes_from, goes_on, begins, next_start, budget}
 use Rattle.clover_walk.specs.declared.start.Start.{Start}
 use Rattle.clover_walk.specs.declared.start.Start.TheVariants.{FromCursor, FromRoot}
 use Rattle.clover_walk.proofs.Codes.{no_turn}

@@ -1,14 +1,13 @@
 -- What a step of a get says where it loads a content word, and where its last load decides it.
-use Prim.Native.Nat.{zero, suc}
-use Rattle.std.proofs.Common.{◌≡◌, ◌≢◌, ℕ, ◌+◌, ◌*◌, ◌^◌, ◌<◌, ◌≤◌, ◌==◌, List, [], ◌∷◌, ◌++◌, length, Bool, true, false, cond, ltb, refl, sym, ap, ◌∙◌, inl, inr, subst, eq-eqb, arith}
-use Rattle.std.specs.Prelude.{◌⊎◌, Option, Some, None, IfSome}
+use Prim.Native.Nat.{suc}
+use Rattle.std.proofs.Common.{◌≡◌, ◌≢◌, ℕ, ◌+◌, ◌*◌, ◌<◌, ◌≤◌, List, length, Bool, true, false, cond, ltb, refl, sym, ap, ◌∙◌, inl, subst, eq-eqb, arith}
+use Rattle.std.specs.Prelude.{Option, Some, None, IfSome}
 use Rattle.std.proofs.lemmas.Bool.Decides.{nat_tests}
 use Rattle.clover_words.specs.declared.bytes.ValueBuf.{ValueBuf}
 use Rattle.clover_words.specs.declared.meta.Kind.{Kind}
 use Rattle.clover_words.specs.declared.meta.Kind.TheVariants.{Value as IsValue, Tombstone}
 use Rattle.clover_words.specs.declared.pool.Pool.{Pool}
-use Rattle.clover_words.specs.declared.word.Word.TheVariants.{Next as NextOf}
-use Rattle.clover_words.specs.Meta.{MetaParts, IsMeta, IsVersion, kind_number, meta_word}
+use Rattle.clover_words.specs.Meta.{MetaParts, IsVersion, meta_word}
 use Rattle.clover_words.specs.Pack.{packed, words_of}
 use Rattle.clover_words.specs.Tag.{TagParts, tag_number}
 use Rattle.clover_map.specs.declared.call.Call.{Call}
@@ -18,15 +17,14 @@ use Rattle.clover_map.specs.declared.call.Reply.TheVariants.{Found, Absent}
 use Rattle.clover_port.specs.Told.{Open, Made}
 use Rattle.clover_rule.specs.Accesses.{AtTail, SawDead}
 use Rattle.clover_rule.specs.Lists.{Within}
-use Rattle.clover_rule.specs.Steps.{Step, LoadContent, DecideNext, IsClient, number_of, unlinked, act_of}
-use Rattle.clover_rule.specs.declared.access.Act.{Act}
+use Rattle.clover_rule.specs.Steps.{Step, LoadContent, DecideNext, number_of, unlinked}
 use Rattle.clover_rule.specs.declared.view.Role.{Role}
 use Rattle.clover_rule.specs.declared.view.Role.TheVariants.{Client}
 use Rattle.clover_rule.specs.declared.view.View.{View}
-use Rattle.clover_walk.specs.Walking.{Walking, Stand, OnTail, StandsOn as WalkStandsOn, Holds, goes_on, key_at, budget}
+use Rattle.clover_walk.specs.Walking.{Walking, Stand, StandsOn as WalkStandsOn, Holds, goes_on, key_at, budget}
 use Rattle.clover_walk.proofs.Endings.{stepped, copied_one, at_tail}
 use Rattle.clover_get.specs.declared.turn.GetTurn.TheVariants.{More, Found as IsFound, Absent as IsAbsent}
-use Rattle.clover_get.specs.Copying.{Copied, CopiedDead, CopiedBad, SawBytes, copy}
+use Rattle.clover_get.specs.Copying.{Copied, SawBytes}
 use Rattle.clover_get.specs.Getting.{Getting, Stage, AtMeta, AtValue, AtFound, AtDead, AtBad, Over, getting, sought, Reads, read_stage, read_kind, valued, value_in, GoesOn, get_step}
 use Rattle.clover_get.specs.Going.{Went, key_of, most_accesses}
 use Rattle.clover_get.specs.Holding.{GetHolds, StandsOn, IsAt, copied}

@@ -1,14 +1,14 @@
 -- What a step of a get says where its walk went on: by a step of its own, or by a last load that missed.
-use Prim.Native.Nat.{zero, suc}
-use Rattle.std.proofs.Common.{◌≡◌, ◌≢◌, ℕ, ◌+◌, ◌*◌, ◌<◌, ◌≤◌, ◌==◌, List, [], ◌∷◌, ◌++◌, length, Bool, true, false, cond, refl, sym, ap, ◌∙◌, inl, inr, ⊎_elim, subst, ne_eqb, arith}
-use Rattle.std.specs.Prelude.{Option, Some, None}
+use Prim.Native.Nat.{suc}
+use Rattle.std.proofs.Common.{◌≡◌, ◌≢◌, ℕ, ◌+◌, ◌*◌, ◌<◌, ◌≤◌, List, [], length, Bool, false, cond, refl, sym, ap, ◌∙◌, subst, ne_eqb, arith}
+use Rattle.std.specs.Prelude.{Option}
 use Rattle.clover_words.specs.declared.bytes.ValueBuf.{ValueBuf}
 use Rattle.clover_words.specs.declared.pool.Pool.{Pool}
-use Rattle.clover_words.specs.Tag.{TagParts, tag_number}
+use Rattle.clover_words.specs.Tag.{tag_number}
 use Rattle.clover_port.specs.Told.{Open, Made, Rose}
 use Rattle.clover_rule.specs.Content.{InRange}
-use Rattle.clover_rule.specs.Lists.{Each, Within}
-use Rattle.clover_rule.specs.Steps.{Step, LoadNext, DecideNext, unlinked, act_of}
+use Rattle.clover_rule.specs.Lists.{Within}
+use Rattle.clover_rule.specs.Steps.{Step, LoadNext, unlinked, act_of}
 use Rattle.clover_rule.specs.Told.{Says, IsMetaWord}
 use Rattle.clover_rule.specs.Words.{next_of, next_code}
 use Rattle.clover_rule.specs.declared.access.Act.{Act}
@@ -20,11 +20,11 @@ use Rattle.clover_walk.specs.declared.turn.Turn.{Turn}
 use Rattle.clover_walk.specs.declared.turn.Turn.TheVariants.{More as WalksOn, AtTail, Behind as WalkBehind, Unreached as Refused}
 use Rattle.clover_walk.proofs.Endings.{stepped}
 use Rattle.clover_get.specs.declared.turn.GetTurn.{GetTurn}
-use Rattle.clover_get.specs.declared.turn.GetTurn.TheVariants.{More, Behind, Unreached}
-use Rattle.clover_get.specs.Getting.{Getting, Stage, Seeking, AtMeta, AtFound, AtDead, AtBad, Over, getting, sought, stage_at, get_step, step_from, GoesOn}
-use Rattle.clover_get.specs.Going.{Went, Follows, OneAccess, answer_of, key_of, most_accesses}
-use Rattle.clover_get.specs.Holding.{GetHolds, StandsOn, IsAt, walked, copied, most}
-use Rattle.clover_get.proofs.Counting.{InTurns, Goes, HasRoot, goes, misses, bounded, length_snoc, length_first}
+use Rattle.clover_get.specs.declared.turn.GetTurn.TheVariants.{Unreached}
+use Rattle.clover_get.specs.Getting.{Getting, Stage, Seeking, AtMeta, AtFound, AtDead, AtBad, Over, getting, sought, stage_at, get_step, GoesOn}
+use Rattle.clover_get.specs.Going.{Went, Follows, answer_of, key_of, most_accesses}
+use Rattle.clover_get.specs.Holding.{GetHolds, IsAt, walked, most}
+use Rattle.clover_get.proofs.Counting.{InTurns, HasRoot, goes, misses, bounded, length_snoc, length_first}
 
 -- a get that stands at this stage is that get
 pub staged : (P : Getting → Type 0) (g : Getting) (s : Stage) → g.stage ≡ s → P (getting g.walk s) → P g
@@ -117,14 +117,14 @@ module _ (p : Pool) (f f1 : ℕ) (w : Walking) (into : ValueBuf) (v : View) (o :
       let count : InTurns (goes_on w x) (length v1.pass.since) = subst (InTurns (goes_on w x)) (sym (one_more p (walk_step w) w.first v o x v1 o1 made)) go.count in
       subst (λ (z : Getting). Went p f f1 (getting w Seeking) z into into v o v1 o1 (answer_of turn)) (sym (value ∙ ap sought e))
       (went_on p f f1 (getting w Seeking) into v o x v1 o1 (goes_on w x) made refl (go.pool ∙ sym of) go.first count (answer_of turn)
-          (record {
-            turn = turn;
-            answers = subst (λ (z : Walking). Answers z turn) e answer;
-            is = refl;
-            stands = subst (λ (z : Walking). OnWalking turn (Holds z v1)) e stands;
-            behind = subst (λ (q : Pool). IfWalkBehind turn (λ (n : ℕ). (n ≡ budget q) × (v1.pass.turns ≡ budget q))) (sym of) behind;
-            ahead = subst (λ (q : Pool). OnWalkAhead turn (v1.pass.turns < budget q)) (sym of) ahead;
-          }))
+      (record {
+        turn = turn;
+        answers = subst (λ (z : Walking). Answers z turn) e answer;
+        is = refl;
+        stands = subst (λ (z : Walking). OnWalking turn (Holds z v1)) e stands;
+        behind = subst (λ (q : Pool). IfWalkBehind turn (λ (n : ℕ). (n ≡ budget q) × (v1.pass.turns ≡ budget q))) (sym of) behind;
+        ahead = subst (λ (q : Pool). OnWalkAhead turn (v1.pass.turns < budget q)) (sym of) ahead;
+      }))
 
   -- an access that was refused
   walk_refused : (w1 : Walking) → Rose f f1 → v1 ≡ v → o1 ≡ o → w1 ≡ w → (g1 : Getting) → g1 ≡ getting w1 Seeking → Went p f f1 (getting w Seeking) g1 into into v o v1 o1 Unreached
@@ -151,7 +151,7 @@ module _ (p : Pool) (f f1 : ℕ) (w : Walking) (t : ℕ) (into : ValueBuf) (v : 
       let count : InTurns (goes_on w x) (length v1.pass.since) = subst (InTurns (goes_on w x)) (sym (one_more p _ w.first v o x v1 o1 made)) go.count in
       subst (λ (z : Getting). Went p f f1 (getting w s) z into into v o v1 o1 r) (sym value)
       (went_on p f f1 (getting w s) into v o x v1 o1 (goes_on w x) made so (go.pool ∙ sym of) go.first count r
-          (subst (λ (z : Walking). Follows p z v1 r) (ap (λ (z : Getting). z.walk) value) follows))
+      (subst (λ (z : Walking). Follows p z v1 r) (ap (λ (z : Getting). z.walk) value) follows))
 
   made_later : (a : Step) → w.first ≡ false → Made p a false v o x v1 o1 → Made p a w.first v o x v1 o1
   made_later a e made = subst (λ (b : Bool). Made p a b v o x v1 o1) (sym e) made

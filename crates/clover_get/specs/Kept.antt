@@ -1,5 +1,5 @@
 -- The value of a get from its fields, and what each get keeps.
-use Rattle.std.specs.Prelude.{◌≡◌, ◌<◌}
+use Rattle.std.specs.Prelude.{◌≡◌}
 use Rattle.clover_get.specs.Getting.{Getting}
 use Rattle.clover_get.specs.Standing.{standing}
 use Rattle.clover_get.specs.declared.call.GetCall.TheInside.{Inside}

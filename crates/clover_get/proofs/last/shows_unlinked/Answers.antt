@@ -1,7 +1,6 @@
-use Rattle.std.proofs.Common.{◌≡◌, ◌*◌, ◌+◌, sym, ap, subst, arith}
+use Rattle.std.proofs.Common.{◌≡◌, ap, subst, arith}
 use Rattle.std.proofs.lemmas.Bool.Decides.{nat_tests}
-use Rattle.clover_words.specs.Tag.{TagParts, IsTag, tag_number}
-use Rattle.clover_rule.specs.Memory.{age}
+use Rattle.clover_words.specs.Tag.{TagParts, IsTag}
 use Rattle.clover_rule.proofs.Codecs.{age_tag}
 use Rattle.clover_get.proofs.last.shows_unlinked.Goals as goal
 

@@ -2,12 +2,12 @@ use Rattle.std.proofs.Common.{◌≡◌, ◌≢◌, ℕ, false, ap, sym, ◌∙�
 use Rattle.clover_words.specs.declared.pool.Pool.{Pool}
 use Rattle.clover_words.specs.Tag.{tag_number}
 use Rattle.clover_map.specs.declared.call.Call.TheVariants.{Get}
-use Rattle.clover_map.specs.declared.call.Reply.TheVariants.{Found, Absent}
+use Rattle.clover_map.specs.declared.call.Reply.TheVariants.{Found}
 use Rattle.clover_port.specs.Told.{Made}
 use Rattle.clover_rule.specs.Steps.{DecideNext, Asks, unlinked}
 use Rattle.clover_walk.specs.Walking.{key_at}
 use Rattle.clover_walk.proofs.Endings.{shows_decide}
-use Rattle.clover_get.specs.declared.turn.GetTurn.TheVariants.{Found as IsFound, Absent as IsAbsent}
+use Rattle.clover_get.specs.declared.turn.GetTurn.TheVariants.{Found as IsFound}
 use Rattle.clover_get.specs.Getting.{Getting, AtFound, Over, getting, value_in}
 use Rattle.clover_get.specs.Going.{Went, Follows}
 use Rattle.clover_get.specs.Holding.{GetHolds}
@@ -85,4 +85,4 @@ returns-else-shows_unlinked-clause-went g c =
     let follows = subst (λ y. Follows p z1.walk (g.P.Port.view y) r) c.go_on.ensures.port (subst (λ (q : Pool). Follows q z1.walk (g.P.Port.view c.go_on.new.port) r) c.in-Ok.ensures.same.0 c.go_on.ensures.follows) in
     subst (λ y. Went p f (g.P.Port.faults y) z z1 into into v o (g.P.Port.view y) (g.P.Port.told y) r) (sym c.go_on.ensures.port)
     (staged (λ (y : Getting). Went p f f1 y z1 into into v o v1 o1 r) z (AtFound t c.args.flags) c.requires.at
-        (found_missed p f f1 z.walk t into v o c.in-Ok.word v1 o1 c.requires.pool c.args.flags holds made differs z1 r c.go_on.ensures.value follows))
+    (found_missed p f f1 z.walk t into v o c.in-Ok.word v1 o1 c.requires.pool c.args.flags holds made differs z1 r c.go_on.ensures.value follows))

@@ -43,4 +43,4 @@ returns-in-Ok-clause-went g c =
     let follows = subst (λ y. Follows p z1.walk (g.P.Port.view y) r) c.go_on.ensures.port (subst (λ (q : Pool). Follows q z1.walk (g.P.Port.view c.go_on.new.port) r) c.in-Ok.ensures.same.0 c.go_on.ensures.follows) in
     subst (λ y. Went p f (g.P.Port.faults y) z z1 into into v o (g.P.Port.view y) (g.P.Port.told y) r) (sym c.go_on.ensures.port)
     (staged (λ (y : Getting). Went p f (g.P.Port.faults c.load_next.new.port) y z1 into into v o v1 o1 r) z (AtBad t) c.requires.at
-        (bad_missed p f (g.P.Port.faults c.load_next.new.port) z.walk t into v o c.in-Ok.word v1 o1 c.requires.pool holds made z1 r c.go_on.ensures.value follows))
+    (bad_missed p f (g.P.Port.faults c.load_next.new.port) z.walk t into v o c.in-Ok.word v1 o1 c.requires.pool holds made z1 r c.go_on.ensures.value follows))

@@ -4,9 +4,8 @@ use Rattle.clover_words.specs.declared.pool.Pool.{Pool}
 use Rattle.clover_words.specs.Tag.{tag_number}
 use Rattle.clover_port.specs.Told.{Made}
 use Rattle.clover_rule.specs.Steps.{LoadContent}
-use Rattle.clover_walk.specs.Walking.{Walking}
 use Rattle.clover_get.specs.declared.turn.GetTurn.TheVariants.{More}
-use Rattle.clover_get.specs.Getting.{Getting, Stage, AtValue, getting, valued}
+use Rattle.clover_get.specs.Getting.{Getting, AtValue, getting, valued}
 use Rattle.clover_get.specs.Going.{Went}
 use Rattle.clover_get.specs.Holding.{GetHolds}
 use Rattle.clover_get.specs.Standing.{standing}

@@ -29,5 +29,5 @@ returns-clause-went g c =
     let still = subst (λ (s : Stage). WalkUnreached turn (c.follow.new.self ≡ getting c.step-turn.new.self s)) at c.follow.ensures.still in
     subst (λ (r : GetTurn). Went p f f1 c.args.self.now c.follow.new.self into into v o v1 o1 r) (sym c.follow.ensures.answer)
     (subst (λ (y : Getting). Went p f f1 y c.follow.new.self into into v o v1 o1 (answer_of turn)) c.self.view_is
-        (staged (λ (y : Getting). Went p f f1 y c.follow.new.self into into v o v1 o1 (answer_of turn)) here Seeking at
-            (seek_went p f f1 w into v o v1 o1 of holds turn c.step-turn.new.self e.made e.answer e.behind e.ahead e.unreached e.stands c.follow.new.self c.follow.ensures.value still)))
+    (staged (λ (y : Getting). Went p f f1 y c.follow.new.self into into v o v1 o1 (answer_of turn)) here Seeking at
+    (seek_went p f f1 w into v o v1 o1 of holds turn c.step-turn.new.self e.made e.answer e.behind e.ahead e.unreached e.stands c.follow.new.self c.follow.ensures.value still)))
