@@ -1,7 +1,7 @@
 -- What is copied of a tag that is found unlinked is one version's content, and then the loads of a get gave the value's packing, word for word.
 -- A step does not tell its actor this yet: `one_version` belongs in clover_rule's proofs/Tails, beside the lemma on the tail, and what it says beside `IsTail` among what a deciding step says. With that the answer of a get that found a value is an `Ended`, by `saw_whole` and `found_ends`.
-use Prim.Native.Nat.{zero, suc}
-use Rattle.std.proofs.Common.{◌≡◌, ℕ, ◌<◌, ◌≤◌, ◌++◌, ◌∷◌, List, length, refl, sym, ap, ◌∙◌, subst, arith}
+use Prim.Native.Nat.{suc}
+use Rattle.std.proofs.Common.{◌≡◌, ℕ, ◌<◌, ◌≤◌, ◌++◌, ◌∷◌, List, length, sym, ap, ◌∙◌, subst, arith}
 use Rattle.std.specs.Prelude.{Option, Some, None}
 use Rattle.clover_words.specs.declared.bytes.ValueBuf.{ValueBuf}
 use Rattle.clover_words.specs.declared.meta.Kind.TheVariants.{Value as IsValue}
@@ -18,15 +18,14 @@ use Rattle.clover_map.specs.declared.call.Entry.{Entry}
 use Rattle.clover_map.specs.Tagged.{Tagged}
 use Rattle.clover_port.specs.Told.{Open}
 use Rattle.clover_rule.specs.Accesses.{SawWhole}
-use Rattle.clover_rule.specs.Content.{content, Fits, value_meta}
-use Rattle.clover_rule.specs.History.{Version, shows}
+use Rattle.clover_rule.specs.Content.{content, Fits}
+use Rattle.clover_rule.specs.History.{shows}
 use Rattle.clover_rule.specs.Lists.{nth, Within}
 use Rattle.clover_rule.specs.Meets.{Meets}
 use Rattle.clover_rule.specs.Memory.{Mem, word, home, age}
 use Rattle.clover_rule.specs.Steps.{unlinked}
 use Rattle.clover_rule.specs.Story.{Story}
 use Rattle.clover_rule.specs.Words.{mem_of, next_of, buffer_at}
-use Rattle.clover_rule.specs.declared.access.Act.{Act}
 use Rattle.clover_rule.specs.declared.access.Act.TheVariants.{Load}
 use Rattle.clover_rule.specs.declared.view.View.{View}
 use Rattle.clover_rule.proofs.Decide.{version, copied_word}
@@ -63,11 +62,14 @@ saw_whole p s t f v into c one =
     let x : Value = value_in f into in
     let below : (k : ℕ) → k < words_of (length x.bytes) → k < words_of into.length = λ k h. subst (λ (n : ℕ). k < words_of n) (value_length f into) h in
     let is : one.value ≡ Some x = read_content p one.value x one.fits c.flags (subst (λ (n : ℕ). n ≤ 1024) (sym (value_length f into)) into.length_fits)
-        (λ y q. one.words 0 (meta_word (record { kind = IsValue; flags = f; length = into.length })) y c.meta q ∙ value_meta_is f into)
-        (λ k h. (packed into.bytes k, λ z q. one.words (suc k) (packed into.bytes k) z (c.words k (below k h)) q, value_unpacks f into k)) in
-    (c.loads.before, c.loads.after, c.loads.split ∙ ap (λ (y : ℕ). c.loads.before ++ Load (Meta (buffer_at (home t))) y ∷ c.loads.after) (value_meta_is f into),
-    λ k h. let q : packed x.bytes k ≡ packed into.bytes k = one.words (suc k) (packed into.bytes k) (packed x.bytes k) (c.words k (below k h)) (ap (λ (o : Option Value). nth (content o) (suc k)) is ∙ value_word x k h) in
-    subst (λ (y : ℕ). Within (Load (ValueOf (buffer_at (home t)) k) y) c.loads.after) (sym q) (c.loads.words k (below k h)))
+    (λ y q. one.words 0 (meta_word (record { kind = IsValue; flags = f; length = into.length })) y c.meta q ∙ value_meta_is f into)
+    (λ k h. (packed into.bytes k, λ z q. one.words (suc k) (packed into.bytes k) z (c.words k (below k h)) q, value_unpacks f into k)) in (
+      c.loads.before,
+      c.loads.after,
+      c.loads.split ∙ ap (λ (y : ℕ). c.loads.before ++ Load (Meta (buffer_at (home t))) y ∷ c.loads.after) (value_meta_is f into),
+      λ k h. let q : packed x.bytes k ≡ packed into.bytes k = one.words (suc k) (packed into.bytes k) (packed x.bytes k) (c.words k (below k h)) (ap (λ (o : Option Value). nth (content o) (suc k)) is ∙ value_word x k h) in
+          subst (λ (y : ℕ). Within (Load (ValueOf (buffer_at (home t)) k) y) c.loads.after) (sym q) (c.loads.words k (below k h)),
+    )
 
 -- a last load that found a value, behind accesses that saw the whole of it, decides the get
 pub found_ends : (p : Pool) (s : ℕ) (k : List ℕ) (t : ℕ) (x : Value) (v : View) (before : Option Open) (w : View) (after : Option Open) → FoundAt p s k t x v before w after → SawWhole t x v.pass.since → Ended p (Get k) (Found t x) v before w after
