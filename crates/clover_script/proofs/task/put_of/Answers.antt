@@ -6,7 +6,7 @@ use Rattle.clover_script.specs.Line.{IsKey}
 use Rattle.clover_script.specs.Form.{SpellsValue}
 use Rattle.clover_script.proofs.LineLemmas.{one_split, no_split}
 use Rattle.clover_script.proofs.FormLemmas.{coded_lacks, some_is, none_is}
-use Rattle.clover_script.proofs.form.put_of.Goals as goal
+use Rattle.clover_script.proofs.task.put_of.Goals as goal
 
 pub returns-in_default-clause-none : goal.returns-in_default-clause-none
 returns-in_default-clause-none c k v is fits e = no_split 32 c.args.text.now (coded k) (value_text v) c.in_default.ensures.none e

@@ -1,0 +1,132 @@
+-- the lines of clients, as they are written and as they are kept
+use Rattle.std.proofs.Common.{◌≡◌, ◌<◌, ◌≤◌, ℕ, List, [], ◌∷◌, ◌++◌, refl, sym, ap, subst, ◌∙◌, arith}
+use Rattle.std.specs.Prelude.{decimal, codes}
+use Rattle.std.proofs.lemmas.Fmt.{decimal_digit, decimal_injective}
+use Rattle.clover_map.specs.declared.call.Call.{Call}
+use Rattle.clover_map.specs.declared.call.Call.TheVariants.{Get, Put, Delete, Swap}
+use Rattle.clover_script.specs.declared.line.PoolLine.{PoolLine}
+use Rattle.clover_script.specs.declared.line.Line.{Line}
+use Rattle.clover_script.specs.declared.line.Line.TheVariants as kept
+use Rattle.clover_script.specs.declared.line.Form.TheVariants.{Calls}
+use Rattle.clover_script.specs.declared.line.Task.{Task}
+use Rattle.clover_script.specs.declared.line.Task.TheVariants.{Client}
+use Rattle.clover_script.specs.Line.{IsFormOf, pool_line, IsCall, IsClientCall, call_line, written, cut_call, task_of, Asked, client, IsAsked, asked_text, kept_task, Spoken, says_begin, says_step, says_finish, says_call, says_refuse, IsSpoken, line_text, kept_line, IsLineOf, IsNoLine, IsIgnored}
+use Rattle.clover_script.specs.Text.{call_text}
+use Rattle.clover_script.specs.Form.{IsBuilt, IsBuiltTask, call_in}
+use Rattle.clover_script.specs.Script.{IsCallLine}
+use Rattle.clover_script.proofs.PartLemmas.{number_split}
+use Rattle.clover_script.proofs.FormLemmas.{after_same, apart, pool_parts, one_client_call, client_of, whole_call}
+
+one_asked : (s t : Asked) (a b : ℕ) → IsAsked a s → IsAsked b t → asked_text s ≡ asked_text t → s ≡ t
+one_asked (client c) (client d) a b p q e = ap client (one_client_call c d p.1 q.1 e)
+
+small_actor : (a : ℕ) (s : Asked) → IsAsked a s → a < 2 ^ 64
+small_actor a (client c) is = omega (arith, is.0)
+
+asked_split : (a b : ℕ) (s t : Asked) → IsAsked a s → IsAsked b t → decimal a ++ 32 ∷ asked_text s ≡ decimal b ++ 32 ∷ asked_text t → (a ≡ b) × (s ≡ t)
+asked_split a b s t p q e =
+    let r = number_split a b (asked_text s) (asked_text t) (small_actor a s p) (small_actor b t q) e in
+    (r.0, one_asked s t a b p q r.1)
+
+-- a text is one line
+pub one_spoken : (s t : Spoken) → IsSpoken s → IsSpoken t → line_text s ≡ line_text t → s ≡ t
+one_spoken (says_begin a x) (says_begin b y) p q e =
+    let r = asked_split a b x y p q (after_same (codes "begin ") (decimal a ++ 32 ∷ asked_text x) (decimal b ++ 32 ∷ asked_text y) e) in
+    ap (λ (n : ℕ). says_begin n x) r.0 ∙ ap (says_begin b) r.1
+one_spoken (says_step a n) (says_step b m) p q e =
+    let r = number_split a b (decimal n) (decimal m) (omega (arith, p.0)) (omega (arith, q.0)) (after_same (codes "step ") (decimal a ++ 32 ∷ decimal n) (decimal b ++ 32 ∷ decimal m) e) in
+    let times = decimal_injective n m (omega (arith, p.1)) (omega (arith, q.1)) r.1 in
+    ap (λ (k : ℕ). says_step k n) r.0 ∙ ap (says_step b) times
+one_spoken (says_finish a) (says_finish b) p q e =
+    ap says_finish (decimal_injective a b (omega (arith, p)) (omega (arith, q)) (after_same (codes "finish ") (decimal a) (decimal b) e))
+one_spoken (says_call a x) (says_call b y) p q e =
+    let r = asked_split a b x y p q (after_same (codes "call ") (decimal a ++ 32 ∷ asked_text x) (decimal b ++ 32 ∷ asked_text y) e) in
+    ap (λ (n : ℕ). says_call n x) r.0 ∙ ap (says_call b) r.1
+one_spoken (says_refuse a) (says_refuse b) p q e =
+    ap says_refuse (decimal_injective a b (omega (arith, p)) (omega (arith, q)) (after_same (codes "refuse ") (decimal a) (decimal b) e))
+one_spoken (says_begin a x) (says_step b m) p q e = absurd (omega (arith, apart (line_text (says_begin a x)) (line_text (says_step b m)) e))
+one_spoken (says_begin a x) (says_finish b) p q e = absurd (omega (arith, apart (line_text (says_begin a x)) (line_text (says_finish b)) e))
+one_spoken (says_begin a x) (says_call b y) p q e = absurd (omega (arith, apart (line_text (says_begin a x)) (line_text (says_call b y)) e))
+one_spoken (says_begin a x) (says_refuse b) p q e = absurd (omega (arith, apart (line_text (says_begin a x)) (line_text (says_refuse b)) e))
+one_spoken (says_step a n) (says_begin b y) p q e = absurd (omega (arith, apart (line_text (says_step a n)) (line_text (says_begin b y)) e))
+one_spoken (says_step a n) (says_finish b) p q e = absurd (omega (arith, apart (line_text (says_step a n)) (line_text (says_finish b)) e))
+one_spoken (says_step a n) (says_call b y) p q e = absurd (omega (arith, apart (line_text (says_step a n)) (line_text (says_call b y)) e))
+one_spoken (says_step a n) (says_refuse b) p q e = absurd (omega (arith, apart (line_text (says_step a n)) (line_text (says_refuse b)) e))
+one_spoken (says_finish a) (says_begin b y) p q e = absurd (omega (arith, apart (line_text (says_finish a)) (line_text (says_begin b y)) e))
+one_spoken (says_finish a) (says_step b m) p q e = absurd (omega (arith, apart (line_text (says_finish a)) (line_text (says_step b m)) e))
+one_spoken (says_finish a) (says_call b y) p q e = absurd (omega (arith, apart (line_text (says_finish a)) (line_text (says_call b y)) e))
+one_spoken (says_finish a) (says_refuse b) p q e = absurd (omega (arith, apart (line_text (says_finish a)) (line_text (says_refuse b)) e))
+one_spoken (says_call a x) (says_begin b y) p q e = absurd (omega (arith, apart (line_text (says_call a x)) (line_text (says_begin b y)) e))
+one_spoken (says_call a x) (says_step b m) p q e = absurd (omega (arith, apart (line_text (says_call a x)) (line_text (says_step b m)) e))
+one_spoken (says_call a x) (says_finish b) p q e = absurd (omega (arith, apart (line_text (says_call a x)) (line_text (says_finish b)) e))
+one_spoken (says_call a x) (says_refuse b) p q e = absurd (omega (arith, apart (line_text (says_call a x)) (line_text (says_refuse b)) e))
+one_spoken (says_refuse a) (says_begin b y) p q e = absurd (omega (arith, apart (line_text (says_refuse a)) (line_text (says_begin b y)) e))
+one_spoken (says_refuse a) (says_step b m) p q e = absurd (omega (arith, apart (line_text (says_refuse a)) (line_text (says_step b m)) e))
+one_spoken (says_refuse a) (says_finish b) p q e = absurd (omega (arith, apart (line_text (says_refuse a)) (line_text (says_finish b)) e))
+one_spoken (says_refuse a) (says_call b y) p q e = absurd (omega (arith, apart (line_text (says_refuse a)) (line_text (says_call b y)) e))
+
+-- and is kept in one way
+pub one_line : (text : List ℕ) (l m : Line) → IsLineOf text l → IsLineOf text m → l ≡ m
+one_line text l m (s, p, e, l_is) (t, q, f, m_is) = l_is ∙ ap kept_line (one_spoken s t p q (sym e ∙ f)) ∙ sym m_is
+
+-- a line of a client is no pool line
+pub no_pool : (s : Spoken) (n : PoolLine) → line_text s ≡ pool_line n → ⊥
+no_pool (says_begin a x) n e = omega (arith, apart (line_text (says_begin a x)) (pool_line n) e)
+no_pool (says_step a x) n e = omega (arith, apart (line_text (says_step a x)) (pool_line n) e)
+no_pool (says_finish a) n e = omega (arith, apart (line_text (says_finish a)) (pool_line n) e)
+no_pool (says_call a x) n e = omega (arith, apart (line_text (says_call a x)) (pool_line n) e)
+no_pool (says_refuse a) n e = omega (arith, apart (line_text (says_refuse a)) (pool_line n) e)
+
+-- the line of a call that is built so far is one of client 1
+pub first_text : (call : Call) → call_line call ≡ line_text (says_call 1 (client call))
+first_text call = ap (λ (l : List ℕ). codes "call " ++ (l ++ 32 ∷ call_text call)) (sym (decimal_digit 1 (omega arith)))
+
+first_spoken : (call : Call) → IsCall call → IsSpoken (says_call 1 (client call))
+first_spoken call is = ((omega arith, omega arith), client_of call is)
+
+pub no_call_line : (text : List ℕ) → IsNoLine text → IsCallLine text → ⊥
+no_call_line text none (call, is, e) = none (says_call 1 (client call)) (first_spoken call is) (e ∙ first_text call)
+
+-- so the reader keeps it
+pub first_kept : (text : List ℕ) (l : Line) (call : Call) → IsCall call → text ≡ call_line call → IsLineOf text l → l ≡ kept.Call 1 (task_of call)
+first_kept text l call is e (s, p, f, l_is) =
+    l_is ∙ ap kept_line (one_spoken s (says_call 1 (client call)) p (first_spoken call is) (sym f ∙ e ∙ first_text call))
+
+pub built_call : (call : Call) → IsCall call → IsBuiltTask (task_of call)
+built_call (Get k) is = tt
+built_call (Put k v) is = tt
+built_call (Delete k) is = is
+built_call (Swap k e v) is = is
+
+is_call : (call : Call) → IsClientCall call → IsBuilt (cut_call call) → IsCall call
+is_call (Get k) is built = is
+is_call (Put k v) is built = is
+is_call (Delete k) is built = absurd built
+is_call (Swap k e v) is built = absurd built
+
+same_actor : (a b : ℕ) (s t : Task) → kept.Call a s ≡ kept.Call b t → a ≡ b
+same_actor a b s t e = cc
+
+same_task : (a b : ℕ) (s t : Task) → kept.Call a s ≡ kept.Call b t → s ≡ t
+same_task a b s t e = cc
+
+-- a line that is kept as a task of client 1 that is built so far
+pub built_form : (text : List ℕ) (l : Line) (task : Task) → IsLineOf text l → l ≡ kept.Call 1 task → IsBuiltTask task → IsFormOf text (Calls task)
+built_form text l task (says_call a (client call), is, e, l_is) same built =
+    let both : kept.Call a (task_of call) ≡ kept.Call 1 task = sym l_is ∙ same in
+    let one = same_actor a 1 (task_of call) task both in
+    let own = same_task a 1 (task_of call) task both in
+    let here : text ≡ line_text (says_call 1 (client call)) = e ∙ ap (λ (n : ℕ). line_text (says_call n (client call))) one in
+    (call, is_call call is.1 (subst IsBuiltTask (sym own) built), here ∙ sym (first_text call), sym own)
+built_form text l task (says_begin a x, is, e, l_is) same built = absurd (cc)
+built_form text l task (says_step a n, is, e, l_is) same built = absurd (cc)
+built_form text l task (says_finish a, is, e, l_is) same built = absurd (cc)
+built_form text l task (says_refuse a, is, e, l_is) same built = absurd (cc)
+
+-- a task of a line that is one short call's has that call
+pub called : (line : List ℕ) (a : ℕ) (task : Task) (call : Call) → IsCall call → written call ≤ 1024 → line ≡ call_line call → IsLineOf line (kept.Call a task)
+    → IsCall (call_in task) × (line ≡ call_line (call_in task))
+called line a task call is short spelled of =
+    let same = same_task a 1 task (task_of call) (first_kept line (kept.Call a task) call is spelled of) in
+    let own : call_in task ≡ call = ap call_in same ∙ whole_call call short in
+    (subst IsCall (sym own) is, spelled ∙ ap call_line (sym own))
