@@ -1,6 +1,6 @@
 -- the lines of clients, as they are written and as they are kept
-use Rattle.std.proofs.Common.{◌≡◌, ◌<◌, ◌≤◌, ℕ, List, [], ◌∷◌, ◌++◌, refl, sym, ap, subst, ◌∙◌, arith}
-use Rattle.std.specs.Prelude.{decimal, codes}
+use Rattle.std.proofs.Common.{◌≡◌, ◌<◌, ◌≤◌, ◌^◌, ℕ, Option, Some, None, List, [], ◌∷◌, ◌++◌, refl, sym, ap, subst, ◌∙◌, arith}
+use Rattle.std.specs.Prelude.{decimal, codes, IfSome, IfNone}
 use Rattle.std.proofs.lemmas.Fmt.{decimal_digit, decimal_injective}
 use Rattle.clover_map.specs.declared.call.Call.{Call}
 use Rattle.clover_map.specs.declared.call.Call.TheVariants.{Get, Put, Delete, Swap}
@@ -10,12 +10,12 @@ use Rattle.clover_script.specs.declared.line.Line.TheVariants as kept
 use Rattle.clover_script.specs.declared.line.Form.TheVariants.{Calls}
 use Rattle.clover_script.specs.declared.line.Task.{Task}
 use Rattle.clover_script.specs.declared.line.Task.TheVariants.{Client}
-use Rattle.clover_script.specs.Line.{IsFormOf, pool_line, IsCall, IsClientCall, call_line, written, cut_call, task_of, Asked, client, IsAsked, asked_text, kept_task, Spoken, says_begin, says_step, says_finish, says_call, says_refuse, IsSpoken, line_text, kept_line, IsLineOf, IsNoLine, IsIgnored}
+use Rattle.clover_script.specs.Line.{IsActor, AreTimes, IsFormOf, pool_line, IsCall, IsClientCall, call_line, written, cut_call, task_of, Asked, client, IsAsked, asked_text, kept_task, Spoken, says_begin, says_step, says_finish, says_call, says_refuse, IsSpoken, line_text, kept_line, IsLineOf, IsNoLine, IsIgnored}
 use Rattle.clover_script.specs.Text.{call_text}
-use Rattle.clover_script.specs.Form.{IsBuilt, IsBuiltTask, call_in}
+use Rattle.clover_script.specs.Form.{SpellsCall, SpellsNoCall, SpellsAsked, SpellsNothingAsked, IsBuilt, IsBuiltTask, call_in}
 use Rattle.clover_script.specs.Script.{IsCallLine}
 use Rattle.clover_script.proofs.PartLemmas.{number_split}
-use Rattle.clover_script.proofs.FormLemmas.{after_same, apart, pool_parts, one_client_call, client_of, whole_call}
+use Rattle.clover_script.proofs.FormLemmas.{after_same, apart, pool_parts, one_client_call, one_call, client_of, whole_call}
 
 one_asked : (s t : Asked) (a b : ℕ) → IsAsked a s → IsAsked b t → asked_text s ≡ asked_text t → s ≡ t
 one_asked (client c) (client d) a b p q e = ap client (one_client_call c d p.1 q.1 e)
@@ -124,9 +124,36 @@ built_form text l task (says_finish a, is, e, l_is) same built = absurd (cc)
 built_form text l task (says_refuse a, is, e, l_is) same built = absurd (cc)
 
 -- a task of a line that is one short call's has that call
-pub called : (line : List ℕ) (a : ℕ) (task : Task) (call : Call) → IsCall call → written call ≤ 1024 → line ≡ call_line call → IsLineOf line (kept.Call a task)
+pub called : (line : List ℕ) (task : Task) (call : Call) → IsCall call → written call ≤ 1024 → line ≡ call_line call → IsFormOf line (Calls task)
     → IsCall (call_in task) × (line ≡ call_line (call_in task))
-called line a task call is short spelled of =
-    let same = same_task a 1 task (task_of call) (first_kept line (kept.Call a task) call is spelled of) in
-    let own : call_in task ≡ call = ap call_in same ∙ whole_call call short in
+called line task call is short spelled (d, is_d, spelled_d, task_is) =
+    let same = one_call d call is_d is (sym spelled_d ∙ spelled) in
+    let own : call_in task ≡ call = ap call_in task_is ∙ ap cut_call same ∙ whole_call call short in
     (subst IsCall (sym own) is, spelled ∙ ap call_line (sym own))
+
+pub first_found : (text : List ℕ) (l : Line) (o : Option Task) → IsLineOf text l → IfSome o (λ task. (l ≡ kept.Call 1 task) × IsBuiltTask task) → IfSome o (λ task. IsFormOf text (Calls task))
+first_found text l None is h = tt
+first_found text l (Some task) is h = built_form text l task is h.0 h.1
+
+pub first_none : (text : List ℕ) (l : Line) (o : Option Task) → IsLineOf text l → IfNone o ((task : Task) → IsBuiltTask task → l ≡ kept.Call 1 task → ⊥) → IfNone o (IsCallLine text → ⊥)
+first_none text l None is h = λ line. h (task_of line.0) (built_call line.0 line.1) (first_kept text l line.0 line.1 line.2 is)
+first_none text l (Some task) is h = tt
+
+-- the lines that the reader finds
+pub step_line : (line words : List ℕ) (o : Option Line) → line ≡ codes "step " ++ words
+    → IfSome o (λ l. (a : ℕ) × (n : ℕ) × IsActor a × AreTimes n × (words ≡ decimal a ++ 32 ∷ decimal n) × (l ≡ kept.Step a n)) → IfSome o (IsLineOf line)
+step_line line words None e h = tt
+step_line line words (Some l) e (a, n, is, times, f, l_is) = (says_step a n, (is, times), e ∙ ap (λ (w : List ℕ). codes "step " ++ w) f, l_is)
+
+pub asked_found : (text words : List ℕ) (a : ℕ) (task : Task) → IsActor a → text ≡ decimal a ++ 32 ∷ words → SpellsCall words task → SpellsAsked text a task
+asked_found text words a task is e (call, is_call, f, task_is) = (client call, (is, is_call), e ∙ ap (λ (w : List ℕ). decimal a ++ 32 ∷ w) f, task_is)
+
+pub no_asked : (text words : List ℕ) (a : ℕ) → IsActor a → text ≡ decimal a ++ 32 ∷ words → SpellsNoCall words → SpellsNothingAsked text
+no_asked text words a is e none b (client call) p f =
+    none call p.1 (number_split a b words (call_text call) (omega (arith, is)) (omega (arith, p.0)) (sym e ∙ f)).1
+
+pub begin_line : (line words : List ℕ) (a : ℕ) (task : Task) → line ≡ codes "begin " ++ words → SpellsAsked words a task → IsLineOf line (kept.Begin a task)
+begin_line line words a task e (asked, is, f, task_is) = (says_begin a asked, is, e ∙ ap (λ (w : List ℕ). codes "begin " ++ w) f, ap (kept.Begin a) task_is)
+
+pub asked_line : (line words : List ℕ) (a : ℕ) (task : Task) → line ≡ codes "call " ++ words → SpellsAsked words a task → IsLineOf line (kept.Call a task)
+asked_line line words a task e (asked, is, f, task_is) = (says_call a asked, is, e ∙ ap (λ (w : List ℕ). codes "call " ++ w) f, ap (kept.Call a) task_is)

@@ -4,8 +4,8 @@ ghost use Rattle.std.specs.Prelude.{◌≡◌, ◌≤◌, IfOk, IfSome, IfNone, 
 ghost use Rattle.clover_map.specs.declared.call.Call.{Call};
 ghost use Rattle.clover_script.specs.declared.line.PoolLine.{PoolLine};
 ghost use Rattle.clover_script.specs.Line.{AreNumbers, pool_line, call_line, IsCall, IsFormOf, written};
-ghost use Rattle.clover_script.specs.Form.{call_in, IsBuilt, IsBuiltTask};
-ghost use Rattle.clover_script.specs.Script.{IsPoolLine, HasNoForm};
+ghost use Rattle.clover_script.specs.Form.{call_in, IsBuiltTask};
+ghost use Rattle.clover_script.specs.Script.{IsPoolLine, IsCallLine, HasNoForm};
 
 use crate::line::{Form, Line, PoolLine, Task};
 use crate::number::field;
@@ -23,10 +23,7 @@ pub fn form_of(alloc: Global, line: &[u8]) -> Result<Option<Form>, OutOfMemory>
     if let Some(numbers) = pool_line_of(line) {
         return Ok(Some(Form::Pool(numbers)));
     }
-    let Some(line) = line_of(alloc, line)? else {
-        return Ok(None);
-    };
-    match first_task(line) {
+    match task_of(alloc, line)? {
         Some(task) => Ok(Some(Form::Calls(task))),
         None => Ok(None),
     }
@@ -39,9 +36,20 @@ pub fn call_on(alloc: Global, line: &[u8]) -> Result<Call, OutOfMemory>
     requires { (call : Call) × IsCall call × (written call ≤ 1024) × (line.now ≡ call_line call) }
     ensures { IfOk result (λ call. IsCall call × (line.now ≡ call_line call)) }
 {
+    match task_of(alloc, line)? {
+        Some(task) => Ok(call_in(task)),
+        None => unreachable!(),
+    }
+}
+
+/// The task of a call's line that is built so far. None exactly where the line is none.
+fn task_of(alloc: Global, line: &[u8]) -> Result<Option<Task>, OutOfMemory>
+    ensures found { IfOk result (λ o. IfSome o (λ task. IsFormOf line.now (Form.Calls task))) }
+    ensures none { IfOk result (λ o. IfNone o (IsCallLine line.now → ⊥)) }
+{
     match line_of(alloc, line)? {
-        Some(Line::Call { task, .. }) => Ok(call_in(task)),
-        _ => unreachable!(),
+        Some(line) => Ok(first_task(line)),
+        None => Ok(None),
     }
 }
 
@@ -50,20 +58,18 @@ fn first_task(line: Line) -> Option<Task>
     ensures found { IfSome result (λ task. (line ≡ Line.Call 1 task) × IsBuiltTask task) }
     ensures none { IfNone result ((task : Task) → IsBuiltTask task → line ≡ Line.Call 1 task → ⊥) }
 {
-    match line {
-        Line::Call {
-            actor: 1,
-            task: Task::Client { call, written },
-        } if is_built(&call) => Some(Task::Client { call, written }),
-        _ => None,
-    }
+    let Line::Call { actor: 1, task } = line else {
+        return None;
+    };
+    if is_built(&task) { Some(task) } else { None }
 }
 
-/// Whether calls of this kind are built so far.
-fn is_built(call: &Call) -> bool
-    ensures yes { IsTrue result → IsBuilt call.now }
-    ensures no { result ≡ false → IsBuilt call.now → ⊥ }
+/// Whether tasks of this kind are built so far.
+fn is_built(task: &Task) -> bool
+    ensures yes { IsTrue result → IsBuiltTask task.now }
+    ensures no { result ≡ false → IsBuiltTask task.now → ⊥ }
 {
+    let Task::Client { call, .. } = task;
     matches!(call, Call::Get { .. } | Call::Put { .. })
 }
 
