@@ -1,5 +1,5 @@
 -- the lines of clients, as they are written and as they are kept
-use Rattle.std.proofs.Common.{◌≡◌, ◌<◌, ◌≤◌, ◌^◌, ℕ, Option, Some, None, List, [], ◌∷◌, ◌++◌, refl, sym, ap, subst, ◌∙◌, arith}
+use Rattle.std.proofs.Common.{◌≡◌, ◌<◌, ◌≤◌, ◌^◌, ℕ, Option, Some, None, List, [], ◌∷◌, ◌++◌, length, refl, sym, ap, subst, ◌∙◌, inl, inr, arith}
 use Rattle.std.specs.Prelude.{decimal, codes, IfSome, IfNone}
 use Rattle.std.proofs.lemmas.Fmt.{decimal_digit, decimal_injective}
 use Rattle.clover_map.specs.declared.call.Call.{Call}
@@ -13,9 +13,9 @@ use Rattle.clover_script.specs.declared.line.Task.TheVariants.{Client}
 use Rattle.clover_script.specs.Line.{IsActor, AreTimes, IsFormOf, pool_line, IsCall, IsClientCall, call_line, written, cut_call, task_of, Asked, client, IsAsked, asked_text, kept_task, Spoken, says_begin, says_step, says_finish, says_call, says_refuse, IsSpoken, line_text, kept_line, IsLineOf, IsNoLine, IsIgnored}
 use Rattle.clover_script.specs.Text.{call_text}
 use Rattle.clover_script.specs.Form.{SpellsCall, SpellsNoCall, SpellsAsked, SpellsNothingAsked, IsBuilt, IsBuiltTask, call_in}
-use Rattle.clover_script.specs.Script.{IsCallLine}
+use Rattle.clover_script.specs.Script.{IsPoolLine, IsCallLine}
 use Rattle.clover_script.proofs.PartLemmas.{number_split}
-use Rattle.clover_script.proofs.FormLemmas.{after_same, apart, pool_parts, one_client_call, one_call, client_of, whole_call}
+use Rattle.clover_script.proofs.FormLemmas.{after_same, apart, pool_parts, nodes_on, one_client_call, one_call, client_of, whole_call}
 
 one_asked : (s t : Asked) (a b : ℕ) → IsAsked a s → IsAsked b t → asked_text s ≡ asked_text t → s ≡ t
 one_asked (client c) (client d) a b p q e = ap client (one_client_call c d p.1 q.1 e)
@@ -76,6 +76,29 @@ no_pool (says_step a x) n e = omega (arith, apart (line_text (says_step a x)) (p
 no_pool (says_finish a) n e = omega (arith, apart (line_text (says_finish a)) (pool_line n) e)
 no_pool (says_call a x) n e = omega (arith, apart (line_text (says_call a x)) (pool_line n) e)
 no_pool (says_refuse a) n e = omega (arith, apart (line_text (says_refuse a)) (pool_line n) e)
+
+-- and it is not passed over
+pub not_ignored : (s : Spoken) → IsIgnored (line_text s) → ⊥
+not_ignored (says_begin a x) (inl e) = omega (arith, ap length e)
+not_ignored (says_begin a x) (inr (rest, e)) = omega (arith, apart (line_text (says_begin a x)) (35 ∷ rest) e)
+not_ignored (says_step a x) (inl e) = omega (arith, ap length e)
+not_ignored (says_step a x) (inr (rest, e)) = omega (arith, apart (line_text (says_step a x)) (35 ∷ rest) e)
+not_ignored (says_finish a) (inl e) = omega (arith, ap length e)
+not_ignored (says_finish a) (inr (rest, e)) = omega (arith, apart (line_text (says_finish a)) (35 ∷ rest) e)
+not_ignored (says_call a x) (inl e) = omega (arith, ap length e)
+not_ignored (says_call a x) (inr (rest, e)) = omega (arith, apart (line_text (says_call a x)) (35 ∷ rest) e)
+not_ignored (says_refuse a) (inl e) = omega (arith, ap length e)
+not_ignored (says_refuse a) (inr (rest, e)) = omega (arith, apart (line_text (says_refuse a)) (35 ∷ rest) e)
+
+pool_stays : (n : PoolLine) → IsIgnored (pool_line n) → ⊥
+pool_stays n (inl e) = omega (arith, ap length (sym (pool_parts n) ∙ e))
+pool_stays n (inr (rest, e)) = omega (arith, apart (nodes_on n) (35 ∷ rest) (sym (pool_parts n) ∙ e))
+
+pub apart_lines : (text : List ℕ) → ((line : Line) → IsLineOf text line → (IsPoolLine text → ⊥) × (IsIgnored text → ⊥)) × (IsPoolLine text → IsIgnored text → ⊥)
+apart_lines text = (
+  λ line of. (λ pool. no_pool of.0 pool.0 (sym of.2 ∙ pool.2), λ over. not_ignored of.0 (subst IsIgnored of.2 over)),
+  λ pool over. pool_stays pool.0 (subst IsIgnored pool.2 over),
+)
 
 -- the line of a call that is built so far is one of client 1
 pub first_text : (call : Call) → call_line call ≡ line_text (says_call 1 (client call))

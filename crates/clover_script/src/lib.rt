@@ -23,7 +23,8 @@ use clover_list::ItemList;
 pub use form::{call_on, form_of};
 pub use keys::Names;
 pub use laws::{
-    a_line_has_one_call, a_refusal_has_one_line, a_script_has_one_reading, no_script_is_refused,
+    a_line_has_one_call, a_refusal_has_one_line, a_script_has_one_reading, a_text_has_one_line,
+    lines_are_apart, no_script_is_refused,
 };
 pub use line::{Form, Line, LineFault, PoolLine, Task};
 pub use reader::line_of;
