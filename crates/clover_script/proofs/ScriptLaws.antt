@@ -1,7 +1,6 @@
 -- texts are read in one way
 use Rattle.std.proofs.Common.{suc, ◌≡◌, ◌<◌, ◌≤◌, ◌+◌, ◌-◌, ◌*◌, ◌^◌, ℕ, true, None, List, [], ◌∷◌, ◌++◌, length, map, get_or, refl, sym, ap, subst, ◌∙◌, inl, inr, arith, append-nil}
 use Rattle.std.proofs.lemmas.List.{length-map, length-append}
-use Rattle.std.proofs.lemmas.Fmt.{decimal_injective}
 use Rattle.std.proofs.lemmas.Bool.Decides.{nat_tests, leb_tells}
 use Rattle.std.specs.Prelude.{All, Contains, decimal, codes, IsSome, nat_le}
 use Rattle.std.proofs.lemmas.Nat.{mul-le}
@@ -17,13 +16,8 @@ use Rattle.clover_script.specs.Line.{lines_of, pool_line, numbers_of, AreNumbers
 use Rattle.clover_map.specs.History.{key_of}
 use Rattle.clover_script.specs.Naming.{Names, puts}
 use Rattle.clover_script.specs.Script.{Serves, Start, start_lines, nothing, opened, IsStart, IsScript, IsRefused, IsFirstUnbuilt, IsUnbuilt, HasBadNumbers, room, formless, early, second, numbers, key, value, stock}
-use Rattle.clover_script.proofs.NumberLemmas.{decimal_digits, one_cut}
+use Rattle.clover_script.proofs.NumberLemmas.{one_number}
 use Rattle.clover_script.proofs.FormLemmas.{after_same, pool_parts, one_call, buffers_on, slots_on, words_on, wear_on, clients_on, batch_on, buffers_ends, slots_ends, words_ends, wear_ends, clients_ends, batch_ends}
-
-one_number : (a b : ℕ) (x y : List ℕ) → a < 2 ^ 64 → b < 2 ^ 64 → EndsNumber x → EndsNumber y → decimal a ++ x ≡ decimal b ++ y → (a ≡ b) × (x ≡ y)
-one_number a b x y p q ex ey e =
-    let r = one_cut (decimal a) (decimal b) x y (decimal_digits a p) (decimal_digits b q) ex ey e in
-    (decimal_injective a b p q r.0, r.1)
 
 -- a pool line has one list of numbers
 one_pool : (n m : PoolLine) → AreNumbers n → AreNumbers m → pool_line n ≡ pool_line m → n ≡ m

@@ -1,9 +1,22 @@
--- what holds of every text: it is a script in one way at most, or refused at one line at most, and never both
+-- what holds of every text: it is one line at most; and it is a script in one way at most, or refused at one line at most, and never both
 use Rattle.std.specs.Prelude.{◌≡◌, ℕ, List}
 use Rattle.clover_words.specs.declared.setup.Setup.{Setup}
 use Rattle.clover_map.specs.declared.call.Call.{Call}
-use Rattle.clover_script.specs.Line.{numbers_of, IsCall, call_line}
-use Rattle.clover_script.specs.Script.{IsScript, IsRefused}
+use Rattle.clover_script.specs.declared.line.Line.{Line}
+use Rattle.clover_script.specs.Line.{numbers_of, IsCall, call_line, Spoken, IsSpoken, line_text, IsLineOf, IsIgnored}
+use Rattle.clover_script.specs.Script.{IsPoolLine, IsScript, IsRefused}
+
+-- Two lines of clients with one text are one line.
+abbrev pub OneLine : Type 0
+OneLine = (a b : Spoken) → IsSpoken a → IsSpoken b → line_text a ≡ line_text b → a ≡ b
+
+-- A text is kept as one line of a client.
+abbrev pub OneKept : Type 0
+OneKept = (text : List ℕ) (line other : Line) → IsLineOf text line → IsLineOf text other → line ≡ other
+
+-- A line of a client is no pool line and is not passed over, and neither is a pool line.
+abbrev pub LinesAreApart : Type 0
+LinesAreApart = (text : List ℕ) → ((line : Line) → IsLineOf text line → (IsPoolLine text → ⊥) × (IsIgnored text → ⊥)) × (IsPoolLine text → IsIgnored text → ⊥)
 
 -- Two calls of one line are one call.
 abbrev pub OneCall : Type 0

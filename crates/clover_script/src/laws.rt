@@ -1,6 +1,17 @@
 // What the definitions of a script entail. These functions do nothing: each is there for its clause,
 // which holds of every text.
-ghost use Rattle.clover_script.specs.Laws.{OneCall, OneReading, NoScriptIsRefused, OneRefusal};
+ghost use Rattle.clover_script.specs.Laws.{OneLine, OneKept, LinesAreApart, OneCall, OneReading, NoScriptIsRefused, OneRefusal};
+
+/// What a line says is the only thing that it says, as it is written and as it is kept.
+pub fn a_text_has_one_line()
+    ensures written { OneLine }
+    ensures kept { OneKept }
+{}
+
+/// A text is of one sort at most: a client's line, a pool line, or one that is passed over.
+pub fn lines_are_apart()
+    ensures { LinesAreApart }
+{}
 
 /// The call of a line is the only one.
 pub fn a_line_has_one_call()

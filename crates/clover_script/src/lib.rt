@@ -9,8 +9,11 @@ mod keys;
 mod laws;
 mod line;
 mod number;
+mod part;
 mod progress;
+mod reader;
 mod split;
+mod task;
 #[cfg(test)]
 mod tests;
 mod text;
@@ -20,9 +23,11 @@ use clover_list::ItemList;
 pub use form::{call_on, form_of};
 pub use keys::Names;
 pub use laws::{
-    a_line_has_one_call, a_refusal_has_one_line, a_script_has_one_reading, no_script_is_refused,
+    a_line_has_one_call, a_refusal_has_one_line, a_script_has_one_reading, a_text_has_one_line,
+    lines_are_apart, no_script_is_refused,
 };
-pub use line::{Form, LineFault, PoolLine, Task};
+pub use line::{Form, Line, LineFault, PoolLine, Task};
+pub use reader::line_of;
 pub use split::first_line;
 pub use text::{push_answer, push_call, push_entry, push_reply};
 

@@ -1,6 +1,6 @@
 use Rattle.std.proofs.Common.{◌∙◌, ap, take, ℕ}
 use Rattle.clover_script.proofs.FormLemmas.{kept_front}
-use Rattle.clover_script.proofs.form.kept.Goals as goal
+use Rattle.clover_script.proofs.task.kept.Goals as goal
 
 pub returns-in-Ok : goal.returns-in-Ok
 returns-in-Ok c =

@@ -1,7 +1,7 @@
 use Rattle.std.proofs.Common.{◌∙◌, ◌++◌, sym}
 use Rattle.std.specs.Prelude.{decimal}
 use Rattle.clover_script.proofs.FormLemmas.{after_same}
-use Rattle.clover_script.proofs.form.field.Goals as goal
+use Rattle.clover_script.proofs.number.field.Goals as goal
 
 pub returns-clause-only : goal.returns-clause-only
 returns-clause-only c n rest lt end e =

@@ -3,7 +3,7 @@ use Rattle.clover_map.specs.declared.bytes.Value.{Value}
 use Rattle.clover_script.specs.Coded.{coded, AreBytes}
 use Rattle.clover_script.proofs.CodedLemmas.{one_text}
 use Rattle.clover_script.proofs.FormLemmas.{after_same}
-use Rattle.clover_script.proofs.form.value_of.Goals as goal
+use Rattle.clover_script.proofs.task.value_of.Goals as goal
 
 pub returns-then-written-gt-LONGEST_WRITTEN-clause-none : goal.returns-then-written-gt-LONGEST_WRITTEN-clause-none
 returns-then-written-gt-LONGEST_WRITTEN-clause-none c v is e =
