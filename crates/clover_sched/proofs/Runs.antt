@@ -1,8 +1,6 @@
 -- One record more: each fold makes one step, and a run is a run.
-use Rattle.std.proofs.Common.{◌≡◌, ℕ, List, [], ◌∷◌, ◌++◌, refl, sym, ap, ◌∙◌, subst}
+use Rattle.std.proofs.Common.{◌≡◌, List, [], ◌∷◌, ◌++◌, refl}
 use Rattle.clover_sched.specs.Folds.{along}
-use Rattle.clover_sched.specs.Record.{Record}
-use Rattle.clover_sched.specs.Run.{Opening, Follows, Goes, IsRun}
 
 pub along_append : {A X : Type 0} (f : A → X → A) (a : A) (xs ys : List X) → along f a (xs ++ ys) ≡ along f (along f a xs) ys
 along_append f a [] ys = refl

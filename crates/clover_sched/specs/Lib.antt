@@ -1,3 +1,4 @@
 pub mod Record
 pub mod Folds
 pub mod Run
+pub mod Lines
