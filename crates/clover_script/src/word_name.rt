@@ -3,7 +3,7 @@
 ghost use Rattle.std.specs.Prelude.{◌≡◌, ◌∷◌, ◌++◌, decimal, OnOk};
 ghost use Rattle.clover_script.specs.Text.{hex_text, buffer_text, word_text, copy_text};
 
-use crate::coded::push_hex_byte;
+use crate::coded::push_hex_bytes;
 use crate::text::push_number;
 use clover_words::{Buffer, Side, Word};
 use std::alloc::AllocError;
@@ -12,11 +12,7 @@ use std::alloc::AllocError;
 pub fn push_hex(out: &mut Vec<u8>, number: u64) -> Result<(), AllocError>
     ensures ok { OnOk result (out.new.items ≡ out.old.items ++ hex_text number) }
 {
-    let bytes = number.to_be_bytes();
-    for byte in &bytes {
-        push_hex_byte(out, *byte)?;
-    }
-    Ok(())
+    push_hex_bytes(out, &number.to_be_bytes())
 }
 
 /// Puts the name of a copy of a word at the end. Each number in it is any u32.
