@@ -32,9 +32,7 @@ pub use line::{Form, Line, LineFault, PoolLine, Task};
 pub use reader::line_of;
 pub use split::first_line;
 pub use text::{push_answer, push_call, push_entry, push_number, push_reply, push_tag};
-pub use told::{
-    push_behind, push_busy, push_linked, push_none, push_too_long, push_unreached,
-};
+pub use told::{push_behind, push_busy, push_linked, push_none, push_too_long, push_unreached};
 pub use word_name::{push_hex, push_word};
 
 /// A list of bytes.

@@ -37,7 +37,12 @@ pub fn push_behind(out: &mut Vec<u8>, client: u32, turns: u64) -> Result<(), All
 }
 
 /// Puts the line that a value has `length` bytes, more than the `room` bytes of a buffer.
-pub fn push_too_long(out: &mut Vec<u8>, client: u32, length: u64, room: u64) -> Result<(), AllocError>
+pub fn push_too_long(
+    out: &mut Vec<u8>,
+    client: u32,
+    length: u64,
+    room: u64,
+) -> Result<(), AllocError>
     ensures ok { OnOk result (out.new.items ≡ out.old.items ++ told_line client (too_long_text length room)) }
 {
     push_actor(out, client)?;
