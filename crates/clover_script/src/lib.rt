@@ -17,6 +17,8 @@ mod task;
 #[cfg(test)]
 mod tests;
 mod text;
+mod told;
+mod word_name;
 
 pub use check::{Outline, ScriptFault, check_script};
 use clover_list::ItemList;
@@ -29,7 +31,9 @@ pub use laws::{
 pub use line::{Form, Line, LineFault, PoolLine, Task};
 pub use reader::line_of;
 pub use split::first_line;
-pub use text::{push_answer, push_call, push_entry, push_reply};
+pub use text::{push_answer, push_call, push_entry, push_number, push_reply, push_tag};
+pub use told::{push_behind, push_busy, push_linked, push_none, push_too_long, push_unreached};
+pub use word_name::{push_hex, push_word};
 
 /// A list of bytes.
 pub type Bulk = ItemList<u8>;

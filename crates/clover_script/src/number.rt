@@ -69,4 +69,3 @@ pub fn field<'a>(text: &'a [u8], name: &[u8]) -> Option<(u64, &'a [u8])>
     let rest = after_word(text, name)?;
     number_front(rest)
 }
-
