@@ -2,3 +2,4 @@ pub mod Record
 pub mod Folds
 pub mod Run
 pub mod Lines
+pub mod Text

@@ -3,5 +3,9 @@
 #![tactic(auto)]
 
 mod event;
+#[cfg(test)]
+mod tests;
+mod text;
 
 pub use event::{CallRefusal, Event, Note};
+pub use text::{push_access, push_ending, push_note};
