@@ -1,3 +1,4 @@
+pub mod Calling
 pub mod Codes
 pub mod Naming
 pub mod Promises

@@ -1,17 +1,13 @@
 -- A tag's next word that an access found, and how the walk goes on by it.
-use Rattle.std.proofs.Common.{◌≡◌, ◌≢◌, ℕ, suc, ◌+◌, ◌<◌, Bool, true, false, cond, eqb, ltb, refl, sym, ap, ◌∙◌, arith, subst, eq-eqb, eqb-true, ne_eqb}
+use Rattle.std.proofs.Common.{◌≡◌, ◌≢◌, ℕ, suc, ◌+◌, Bool, true, false, cond, eqb, ltb, refl, sym, ap, ◌∙◌, arith, subst, eq-eqb, eqb-true}
 use Rattle.std.specs.Prelude.{Option, Some, None}
-use Rattle.std.proofs.lemmas.Bool.Decides.{nat_tests}
-use Rattle.clover_words.specs.Tag.{TagParts, tag_number}
-use Rattle.clover_rule.specs.Lists.{Within}
 use Rattle.clover_rule.specs.Memory.{Next, word, age}
 use Rattle.clover_rule.specs.Steps.{unlinked, turn_at}
 use Rattle.clover_rule.specs.Words.{next_of}
 use Rattle.clover_rule.specs.declared.view.View.{View}
-use Rattle.clover_walk.specs.Walking.{Walking, Stand, AtRoot, AtTag, AtLink, OnTail, Ended, StandsOn, Shows, placed, turned, hops, followed, next_start, begins, budget}
-use Rattle.clover_walk.specs.Turning.{Answers, IfAtTail}
+use Rattle.clover_walk.specs.Walking.{Walking, AtRoot, AtLink, OnTail, Ended, Shows, turned, hops, followed, next_start, begins, budget}
+use Rattle.clover_walk.specs.Turning.{Answers}
 use Rattle.clover_walk.specs.declared.turn.Turn.{Turn}
-use Rattle.clover_walk.specs.declared.turn.Turn.TheVariants.{More, AtTail, Behind, Unreached}
 use Rattle.clover_walk.specs.declared.start.Start.{Start}
 use Rattle.clover_walk.specs.declared.start.Start.TheVariants.{FromCursor, FromRoot}
 use Rattle.clover_walk.proofs.Codes.{no_turn, one_turn}

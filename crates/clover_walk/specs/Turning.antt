@@ -3,7 +3,7 @@ use Rattle.std.specs.Prelude.{◌≡◌, ℕ, Bool, true, false, Option, Some, N
 use Rattle.clover_words.specs.Tag.{TagParts, tag_number}
 use Rattle.clover_walk.specs.declared.turn.Turn.{Turn}
 use Rattle.clover_walk.specs.declared.turn.Turn.TheVariants.{More, AtTail, Behind, Unreached}
-use Rattle.clover_walk.specs.Walking.{Walking, OnTail, Ended, IsOnWay, budget}
+use Rattle.clover_walk.specs.Walking.{Walking, OnTail, Ended, IsOnWay}
 
 -- the answer tells how the walk stands afterwards
 abbrev pub Answers : Walking → Turn → Type 0

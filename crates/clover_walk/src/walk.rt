@@ -1,5 +1,5 @@
 // A walk: where it stands, and how it goes on.
-ghost use Rattle.std.specs.Prelude.{◌≡◌, ◌≤◌, ◌<◌, ℕ, Option, Some, IfSome};
+ghost use Rattle.std.specs.Prelude.{◌≡◌, ◌≤◌, ◌<◌, ◌+◌, ℕ, Option, Some, IfSome, false};
 ghost use Rattle.clover_words.specs.Tag.{tag_number};
 ghost use Rattle.clover_rule.specs.Content.{InRange};
 ghost use Rattle.clover_rule.specs.Lists.{Within};
@@ -79,6 +79,20 @@ impl Walk {
         self.first = false;
     }
 
+    /// The pool that the walk is in.
+    pub fn pool(&self) -> Pool
+        ensures value { result ≡ self.now.pool }
+    {
+        self.pool
+    }
+
+    /// The slot whose chain it walks.
+    pub fn slot(&self) -> u32
+        ensures value { result ≡ self.now.slot }
+    {
+        self.slot
+    }
+
     /// Makes the walk's next access, and goes on by what it found.
     ///
     /// The walk has not ended, nor is it at the tail; the port is of its pool, and of the one actor that makes all
@@ -98,6 +112,10 @@ impl Walk {
         ensures ahead { OnAhead result ((P.view port.new).pass.turns < budget self.old.pool) }
         ensures unreached { OnUnreached result (Rose (P.faults port.old) (P.faults port.new) × (P.view port.new ≡ P.view port.old) × (P.told port.new ≡ P.told port.old) × (self.new ≡ self.old)) }
         ensures exact { ExactTurn (P.refuses port.old) result }
+        ensures one { OnReached result ((P.view port.new).pass.made ≡ (P.view port.old).pass.made + 1) }
+        ensures range { IfAtTail result (λ tag. InRange self.old.pool (tag_number tag)) }
+        ensures walk { (self.new.pool ≡ self.old.pool) × (self.new.slot ≡ self.old.slot) }
+        ensures later { OnReached result (self.new.first ≡ false) }
         ensures stands { OnGoing result (Holds self.new (P.view port.new)) }
         ensures same { (P.pool port.new ≡ P.pool port.old) × (P.table port.new ≡ P.table port.old) × (P.lender port.new ≡ P.lender port.old) }
         ensures count { P.faults port.old ≤ P.faults port.new }
@@ -137,6 +155,9 @@ impl Walk {
         ensures behind { IfBehind result (λ turns. (turns ≡ budget self.old.pool) × ((P.view port.new).pass.turns ≡ budget self.old.pool)) }
         ensures ahead { OnAhead result ((P.view port.new).pass.turns < budget self.old.pool) }
         ensures stands { OnGoing result (Holds self.new (P.view port.new)) }
+        ensures range { IfAtTail result (λ tag. InRange self.old.pool (tag_number tag)) }
+        ensures walk { (self.new.pool ≡ self.old.pool) × (self.new.slot ≡ self.old.slot) }
+        ensures later { self.new.first ≡ false }
         ensures port { port.new ≡ port.old }
     {
         let _ = port;
