@@ -1,5 +1,5 @@
 -- For the calls above: their own accesses leave what a walk stands on, and one at the tail's next word shows the walk what it found.
-use Rattle.std.proofs.Common.{◌≡◌, ℕ, ◌+◌, ◌==◌, List, [], ◌∷◌, ◌++◌, Bool, true, false, cond, eqb, refl, sym, ap, ◌∙◌, arith, subst, inl, eq-eqb, eqb-true}
+use Rattle.std.proofs.Common.{◌≡◌, ℕ, ◌+◌, ◌==◌, List, [], ◌∷◌, ◌++◌, Bool, true, false, cond, eqb, refl, sym, ap, ◌∙◌, arith, subst, ◌⊎◌, inl, inr, eq-eqb, eqb-true}
 use Rattle.std.specs.Prelude.{Option, Some, None}
 use Rattle.clover_words.specs.declared.pool.Pool.{Pool}
 use Rattle.clover_words.specs.declared.word.Word.TheVariants.{Next as NextOf}
@@ -18,7 +18,7 @@ use Rattle.clover_rule.specs.declared.view.Link.{Link}
 use Rattle.clover_rule.specs.declared.view.Role.{Role}
 use Rattle.clover_rule.specs.declared.view.Role.TheVariants.{Client}
 use Rattle.clover_rule.specs.declared.view.View.{View}
-use Rattle.clover_walk.specs.Walking.{Walking, Stand, AtRoot, AtTag, AtLink, OnTail, Ended, StandsOn, Holds, Shows, ShowsFrom, ShowsNext, begun, walk_step, step_at, key_at}
+use Rattle.clover_walk.specs.Walking.{Walking, Stand, AtRoot, AtTag, AtLink, OnTail, Ended, StandsOn, Holds, Shows, ShowsFrom, ShowsNext, made_walk, begun, walk_step, step_at, key_at}
 use Rattle.clover_walk.proofs.Codes.{unlinked_says}
 
 -- a walk in a call that has begun is begun already
@@ -171,3 +171,23 @@ pub one_access : (w : Walking) (p : Pool) (v : View) (o : Option Open) (x : ℕ)
 one_access w p v o x u q m =
     ap (λ (z : View). z.pass.since) m.told.next
     ∙ ap (λ (l : List Act). cond w.first [] l ++ act_of (walk_step w) x ∷ []) (walk_since w.slot w.stand m.now.history v x)
+
+-- the first name of a slot is a name of it
+named_first : (s : ℕ) (k : List ℕ) (names : List (ℕ × List ℕ)) → Within (s, k) names → Within (s, key_at names s) names
+named_first s k [] h = h
+named_first s k (q ∷ qs) h = go (λ z. named_first s k qs z) (eqb q.0 s) refl h
+  where
+    go : (Within (s, k) qs → Within (s, key_at qs s) qs) → (b : Bool) → eqb q.0 s ≡ b → (q ≡ (s, k)) ⊎ Within (s, k) qs → (q ≡ (s, cond b q.1 (key_at qs s))) ⊎ Within (s, cond b q.1 (key_at qs s)) qs
+    go rest true e z = inl (ap (λ (n : ℕ). (n, q.1)) (eqb-true q.0 s e))
+    go rest false e (inl z) = absurd (let y : eqb q.0 s ≡ true = eq-eqb q.0 s (ap (λ (p : ℕ × List ℕ). p.0) z) in cc)
+    go rest false e (inr z) = inr (rest z)
+
+-- what the cursor of a walk must be
+abbrev pub IsCursor : ℕ → Option ℕ → View → Type 0
+IsCursor s None v = Unit {0}
+IsCursor s (Some t) v = Within (s, t) v.pass.durable
+
+-- a walk that was just made stands on what a client knows
+pub made_holds : (p : Pool) (s : ℕ) (k : List ℕ) (o : Option ℕ) (v : View) → v.pass.pool ≡ p → v.pass.role ≡ Client (client v) → Within (s, k) v.pass.names → IsCursor s o v → Holds (made_walk p s o) v
+made_holds p s k None v e c n d = record { pool = e; client = c; named = named_first s k v.pass.names n; stand = d; turns = refl; below = omega arith }
+made_holds p s k (Some t) v e c n d = record { pool = e; client = c; named = named_first s k v.pass.names n; stand = d; turns = refl; below = omega arith }
