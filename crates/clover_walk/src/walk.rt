@@ -1,5 +1,5 @@
 // A walk: where it stands, and how it goes on.
-ghost use Rattle.std.specs.Prelude.{◌≡◌, ◌≤◌, ◌<◌, ◌+◌, ℕ, Option, Some, IfSome, false};
+ghost use Rattle.std.specs.Prelude.{◌≡◌, ◌≤◌, ◌<◌, ◌+◌, ◌↔◌, ℕ, Option, Some, IfSome, false};
 ghost use Rattle.clover_words.specs.Tag.{tag_number};
 ghost use Rattle.clover_rule.specs.Content.{InRange};
 ghost use Rattle.clover_rule.specs.Lists.{Within};
@@ -11,7 +11,7 @@ ghost use Rattle.clover_words.specs.declared.word.Word.TheVariants.{Next as Next
 ghost use Rattle.clover_port.specs.Told.{Made, Rose};
 ghost use Rattle.clover_walk.specs.Walking.{AtTag, OnTail, IsOnWay, AreTags, Holds, ShowsNext, made_walk, begun, walk_step, goes_on, followed, hops, rooted, turned, placed, budget};
 ghost use Rattle.clover_walk.specs.Standing.{standing, number_of};
-ghost use Rattle.clover_walk.specs.Turning.{Answers, OnReached, OnUnreached, OnAhead, OnGoing, IfAtTail, IfBehind, ExactTurn};
+ghost use Rattle.clover_walk.specs.Turning.{Answers, OnReached, OnUnreached, OnAhead, OnGoing, IfAtTail, IfBehind, IsAtTail, ShowsTail, ExactTurn};
 ghost use Rattle.clover_walk.specs.declared.turn.Turn.TheVariants.{More};
 
 use crate::reach::{load_next, load_root, raise_next};
@@ -105,7 +105,7 @@ impl Walk {
         requires way { IsOnWay self.old.stand }
         requires pool { P.pool port.old ≡ self.old.pool }
         requires holds { Holds self.old (P.view port.old) }
-        ensures made { OnReached result ((x : ℕ) × Made (P.pool port.old) (walk_step self.old) self.old.first (P.view port.old) (P.told port.old) x (P.view port.new) (P.told port.new) × (self.new ≡ goes_on self.old x)) }
+        ensures made { OnReached result ((x : ℕ) × Made (P.pool port.old) (walk_step self.old) self.old.first (P.view port.old) (P.told port.old) x (P.view port.new) (P.told port.new) × (self.new ≡ goes_on self.old x) × (IsAtTail result ↔ ShowsTail self.old.stand x)) }
         ensures answer { OnReached result (Answers self.new result) }
         ensures tail { IfAtTail result (λ tag. (self.old.stand ≡ AtTag (tag_number tag)) × Made (P.pool port.old) (LoadNext self.old.slot (tag_number tag)) self.old.first (P.view port.old) (P.told port.old) (unlinked (tag_number tag)) (P.view port.new) (P.told port.new) × Within (self.old.slot, tag_number tag) (P.view port.new).pass.durable) }
         ensures behind { IfBehind result (λ turns. (turns ≡ budget self.old.pool) × ((P.view port.new).pass.turns ≡ budget self.old.pool)) }
@@ -144,13 +144,14 @@ impl Walk {
     /// Takes a next word that the caller's own access found at the walk's tail, and goes on as after a load. It
     /// makes no access: the caller's has counted the turn already.
     ///
-    /// `AtTail`, exactly where the word shows the tag unlinked at its generation. `Behind`, exactly where the turns of the call have
-    /// reached the budget. It never answers `Unreached`.
+    /// `AtTail`, exactly where the word shows the tag unlinked at its generation. `Behind`, exactly where the turns
+    /// of the call have reached the budget. It never answers `Unreached`.
     pub fn seen<P: Port>(&mut self, port: &mut P, word: u64) -> Turn
         requires pool { P.pool port.old ≡ self.old.pool }
         requires shows { ShowsNext self.old (P.view port.old) word }
         ensures value { self.new ≡ goes_on self.old word }
         ensures answer { Answers self.new result }
+        ensures when { IsAtTail result ↔ ShowsTail self.old.stand word }
         ensures tail { IfAtTail result (λ tag. (self.old.stand ≡ OnTail (tag_number tag)) × (word ≡ unlinked (tag_number tag)) × Within (self.old.slot, tag_number tag) (P.view port.new).pass.durable) }
         ensures behind { IfBehind result (λ turns. (turns ≡ budget self.old.pool) × ((P.view port.new).pass.turns ≡ budget self.old.pool)) }
         ensures ahead { OnAhead result ((P.view port.new).pass.turns < budget self.old.pool) }
