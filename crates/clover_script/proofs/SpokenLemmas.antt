@@ -90,7 +90,7 @@ not_ignored (says_call a x) (inr (rest, e)) = omega (arith, apart (line_text (sa
 not_ignored (says_refuse a) (inl e) = omega (arith, ap length e)
 not_ignored (says_refuse a) (inr (rest, e)) = omega (arith, apart (line_text (says_refuse a)) (35 ∷ rest) e)
 
-pool_stays : (n : PoolLine) → IsIgnored (pool_line n) → ⊥
+pub pool_stays : (n : PoolLine) → IsIgnored (pool_line n) → ⊥
 pool_stays n (inl e) = omega (arith, ap length (sym (pool_parts n) ∙ e))
 pool_stays n (inr (rest, e)) = omega (arith, apart (nodes_on n) (35 ∷ rest) (sym (pool_parts n) ∙ e))
 
@@ -104,7 +104,7 @@ apart_lines text = (
 pub first_text : (call : Call) → call_line call ≡ line_text (says_call 1 (client call))
 first_text call = ap (λ (l : List ℕ). codes "call " ++ (l ++ 32 ∷ call_text call)) (sym (decimal_digit 1 (omega arith)))
 
-first_spoken : (call : Call) → IsCall call → IsSpoken (says_call 1 (client call))
+pub first_spoken : (call : Call) → IsCall call → IsSpoken (says_call 1 (client call))
 first_spoken call is = ((omega arith, omega arith), client_of call is)
 
 pub no_call_line : (text : List ℕ) → IsNoLine text → IsCallLine text → ⊥
