@@ -1,16 +1,14 @@
 -- the lines of clients' scripts are read in one way
-use Rattle.std.proofs.Common.{zero, suc, ◌≡◌, ◌<◌, ◌≤◌, ◌+◌, ◌==◌, ◌⊎◌, ℕ, Bool, true, false, List, [], ◌∷◌, ◌++◌, length, map, cond, refl, sym, ap, subst, ◌∙◌, inl, inr, arith, append_assoc}
-use Rattle.std.proofs.lemmas.List.{length-append}
+use Rattle.std.proofs.Common.{zero, suc, ◌≡◌, ◌<◌, ◌≤◌, ◌+◌, ◌⊎◌, ℕ, Bool, true, false, List, [], ◌∷◌, ◌++◌, length, map, cond, refl, sym, ap, subst, ◌∙◌, inl, inr, arith, append_assoc}
 use Rattle.std.proofs.lemmas.List.Elements.{All-nil, All-cons, All-head, All-tail}
 use Rattle.std.proofs.lemmas.Bool.Decides.{nat_tests, leb_tells}
-use Rattle.std.specs.Prelude.{All, Contains, flat_map, nat_eq}
+use Rattle.std.specs.Prelude.{All, flat_map, nat_eq}
 use Rattle.clover_words.specs.declared.setup.Setup.{Setup}
 use Rattle.clover_words.specs.Preset.{HasDealt, buffers_total}
 use Rattle.clover_map.specs.declared.call.Call.{Call}
 use Rattle.clover_map.specs.declared.call.Call.TheVariants.{Get, Put, Delete, Swap}
-use Rattle.clover_map.specs.History.{key_of}
 use Rattle.clover_script.specs.declared.line.PoolLine.{PoolLine}
-use Rattle.clover_script.specs.Line.{lines_of, pool_line, numbers_of, call_line, IsCall, IsIgnored, client, Spoken, says_call, IsSpoken, line_text}
+use Rattle.clover_script.specs.Line.{pool_line, numbers_of, call_line, IsCall, IsIgnored, client, Spoken, says_call, IsSpoken, line_text}
 use Rattle.clover_script.specs.Naming.{Names, puts}
 use Rattle.clover_script.specs.Script.{IsPoolLine, HasBadNumbers, IsScript}
 use Rattle.clover_script.specs.Lines.{calls_in, takes, taken_by, taken, Supplies, Say, Opens, Before, unopened, begun, IsBefore, IsLinesOf, IsClientLine, IsUnbuiltLine, without_shape, too_early, bad_opening, second_opening, too_many_keys, too_many_taken, IsFirstUnbuiltLine, IsRefusedLine}
@@ -115,7 +113,7 @@ said_built s t said other rest keys names line u same p q is e f (too_many_keys 
     let one = one_spoken v u is' is (sym e' ∙ e) in
     let now : calls_in u ≡ call ∷ [] = subst (λ (w : Spoken). calls_in w ≡ call ∷ []) one asks in
     let all : flat_map calls_in said ≡ flat_map calls_in other ++ (call ∷ flat_map calls_in rest) =
-        ap (flat_map calls_in) f ∙ calls_append other (u ∷ rest) ∙ ap (λ (l : List Call). flat_map calls_in other ++ (l ++ flat_map calls_in rest)) now in
+    ap (flat_map calls_in) f ∙ calls_append other (u ∷ rest) ∙ ap (λ (l : List Call). flat_map calls_in other ++ (l ++ flat_map calls_in rest)) now in
     let parts = names_split [] (flat_map calls_in other) (call ∷ flat_map calls_in rest) keys (subst (λ (l : List Call). Names [] l keys) all p.named) in
     let between : parts.0 ≡ names = one_names [] (flat_map calls_in other) parts.0 names parts.1 q.named in
     let next : Names names (call ∷ flat_map calls_in rest) keys = subst (λ (l : List (List ℕ)). Names l (call ∷ flat_map calls_in rest) keys) between parts.2 in
@@ -131,7 +129,7 @@ opened_rest : (s t : Setup) (said other : List Spoken) (xs : List (List ℕ)) (l
     → (numbers_of s ≡ numbers_of t) × (o.rest ≡ r.rest ++ line ∷ more)
 opened_rest s t said other xs line more o r =
     let e : r.over ++ (pool_line (numbers_of t) ∷ (r.rest ++ line ∷ more)) ≡ o.over ++ pool_line (numbers_of s) ∷ o.rest =
-        sym (append_assoc r.over (pool_line (numbers_of t) ∷ r.rest) (line ∷ more)) ∙ ap (λ (l : List (List ℕ)). l ++ line ∷ more) (sym r.parts) ∙ o.parts in
+    sym (append_assoc r.over (pool_line (numbers_of t) ∷ r.rest) (line ∷ more)) ∙ ap (λ (l : List (List ℕ)). l ++ line ∷ more) (sym r.parts) ∙ o.parts in
     let same = same_opening r.over o.over (pool_line (numbers_of t)) (pool_line (numbers_of s)) (r.rest ++ line ∷ more) o.rest r.ignored o.ignored (its_pool t) (its_pool s) e in
     (one_pool (numbers_of s) (numbers_of t) (are_numbers s) (are_numbers t) (sym same.0), sym same.1)
 

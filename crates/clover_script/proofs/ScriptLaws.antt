@@ -1,5 +1,5 @@
 -- texts are read in one way
-use Rattle.std.proofs.Common.{suc, ◌≡◌, ◌<◌, ◌≤◌, ◌+◌, ◌-◌, ◌*◌, ◌^◌, ℕ, true, None, List, [], ◌∷◌, ◌++◌, length, map, get_or, refl, sym, ap, subst, ◌∙◌, inl, inr, arith, append-nil}
+use Rattle.std.proofs.Common.{suc, ◌≡◌, ◌<◌, ◌≤◌, ◌+◌, ◌-◌, ◌*◌, ℕ, true, None, List, [], ◌∷◌, ◌++◌, length, map, get_or, refl, sym, ap, subst, ◌∙◌, inl, inr, arith, append-nil}
 use Rattle.std.proofs.lemmas.List.{length-map, length-append}
 use Rattle.std.proofs.lemmas.Bool.Decides.{nat_tests, leb_tells}
 use Rattle.std.specs.Prelude.{All, Contains, decimal, codes, IsSome, nat_le}
@@ -11,7 +11,6 @@ use Rattle.clover_words.specs.Range.{first_fault, first_setup_fault, from_one}
 use Rattle.clover_map.specs.declared.call.Call.{Call}
 use Rattle.clover_map.specs.declared.call.Call.TheVariants.{Get, Put, Delete, Swap}
 use Rattle.clover_script.specs.declared.line.PoolLine.{PoolLine}
-use Rattle.clover_script.specs.Split.{EndsNumber}
 use Rattle.clover_script.specs.Line.{lines_of, pool_line, numbers_of, AreNumbers, call_line, IsCall, written}
 use Rattle.clover_map.specs.History.{key_of}
 use Rattle.clover_script.specs.Naming.{Names, puts}

@@ -1,5 +1,5 @@
 -- the lines of clients, as they are written and as they are kept
-use Rattle.std.proofs.Common.{◌≡◌, ◌<◌, ◌≤◌, ◌^◌, ℕ, Option, Some, None, List, [], ◌∷◌, ◌++◌, length, refl, sym, ap, subst, ◌∙◌, inl, inr, arith}
+use Rattle.std.proofs.Common.{◌≡◌, ◌<◌, ◌≤◌, ◌^◌, ℕ, Option, Some, None, List, ◌∷◌, ◌++◌, length, sym, ap, subst, ◌∙◌, inl, inr, arith}
 use Rattle.std.specs.Prelude.{decimal, codes, IfSome, IfNone}
 use Rattle.std.proofs.lemmas.Fmt.{decimal_digit, decimal_injective}
 use Rattle.clover_map.specs.declared.call.Call.{Call}
@@ -9,8 +9,7 @@ use Rattle.clover_script.specs.declared.line.Line.{Line}
 use Rattle.clover_script.specs.declared.line.Line.TheVariants as kept
 use Rattle.clover_script.specs.declared.line.Form.TheVariants.{Calls}
 use Rattle.clover_script.specs.declared.line.Task.{Task}
-use Rattle.clover_script.specs.declared.line.Task.TheVariants.{Client}
-use Rattle.clover_script.specs.Line.{IsActor, AreTimes, IsFormOf, pool_line, IsCall, IsClientCall, call_line, written, cut_call, task_of, Asked, client, IsAsked, asked_text, kept_task, Spoken, says_begin, says_step, says_finish, says_call, says_refuse, IsSpoken, line_text, kept_line, IsLineOf, IsNoLine, IsIgnored}
+use Rattle.clover_script.specs.Line.{IsActor, AreTimes, IsFormOf, pool_line, IsCall, IsClientCall, call_line, written, cut_call, task_of, Asked, client, IsAsked, asked_text, Spoken, says_begin, says_step, says_finish, says_call, says_refuse, IsSpoken, line_text, kept_line, IsLineOf, IsNoLine, IsIgnored}
 use Rattle.clover_script.specs.Text.{call_text}
 use Rattle.clover_script.specs.Form.{SpellsCall, SpellsNoCall, SpellsAsked, SpellsNothingAsked, IsBuilt, IsBuiltTask, call_in}
 use Rattle.clover_script.specs.Script.{IsPoolLine, IsCallLine}
