@@ -1,8 +1,8 @@
 -- the small words of a line: actors, times and tags
-use Rattle.std.proofs.Common.{zero, suc, ◌≡◌, ◌≢◌, ◌<◌, ◌≤◌, ◌+◌, ◌*◌, ◌/◌, ◌%◌, ◌^◌, ℕ, List, [], ◌∷◌, ◌++◌, refl, sym, ap, ◌∙◌, arith, append_assoc, append-nil}
+use Rattle.std.proofs.Common.{◌≡◌, ◌<◌, ◌/◌, ◌%◌, ◌^◌, ℕ, List, [], ◌∷◌, ◌++◌, sym, ◌∙◌, arith, append_assoc, append-nil}
 use Rattle.std.specs.Prelude.{decimal, codes}
 use Rattle.std.proofs.lemmas.Fmt.{decimal_injective}
-use Rattle.clover_script.specs.Split.{Lacks, IsDigit, AreDigits, EndsNumber}
+use Rattle.clover_script.specs.Split.{Lacks, AreDigits, EndsNumber}
 use Rattle.clover_script.specs.Text.{tag_text}
 use Rattle.clover_script.proofs.LineLemmas.{one_split}
 use Rattle.clover_script.proofs.NumberLemmas.{decimal_digits, one_number}

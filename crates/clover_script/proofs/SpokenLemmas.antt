@@ -1,5 +1,5 @@
 -- the lines of clients, as they are written and as they are kept
-use Rattle.std.proofs.Common.{◌≡◌, ◌<◌, ◌≤◌, ◌^◌, ℕ, Option, Some, None, List, [], ◌∷◌, ◌++◌, length, refl, sym, ap, subst, ◌∙◌, inl, inr, arith}
+use Rattle.std.proofs.Common.{◌≡◌, ◌<◌, ◌≤◌, ◌^◌, ℕ, Option, Some, None, List, ◌∷◌, ◌++◌, length, sym, ap, subst, ◌∙◌, inl, inr, arith}
 use Rattle.std.specs.Prelude.{decimal, codes, IfSome, IfNone}
 use Rattle.std.proofs.lemmas.Fmt.{decimal_digit, decimal_injective}
 use Rattle.clover_map.specs.declared.call.Call.{Call}
@@ -9,8 +9,7 @@ use Rattle.clover_script.specs.declared.line.Line.{Line}
 use Rattle.clover_script.specs.declared.line.Line.TheVariants as kept
 use Rattle.clover_script.specs.declared.line.Form.TheVariants.{Calls}
 use Rattle.clover_script.specs.declared.line.Task.{Task}
-use Rattle.clover_script.specs.declared.line.Task.TheVariants.{Client}
-use Rattle.clover_script.specs.Line.{IsActor, AreTimes, IsFormOf, pool_line, IsCall, IsClientCall, call_line, written, cut_call, task_of, Asked, client, IsAsked, asked_text, kept_task, Spoken, says_begin, says_step, says_finish, says_call, says_refuse, IsSpoken, line_text, kept_line, IsLineOf, IsNoLine, IsIgnored}
+use Rattle.clover_script.specs.Line.{IsActor, AreTimes, IsFormOf, pool_line, IsCall, IsClientCall, call_line, written, cut_call, task_of, Asked, client, IsAsked, asked_text, Spoken, says_begin, says_step, says_finish, says_call, says_refuse, IsSpoken, line_text, kept_line, IsLineOf, IsNoLine, IsIgnored}
 use Rattle.clover_script.specs.Text.{call_text}
 use Rattle.clover_script.specs.Form.{SpellsCall, SpellsNoCall, SpellsAsked, SpellsNothingAsked, IsBuilt, IsBuiltTask, call_in}
 use Rattle.clover_script.specs.Script.{IsPoolLine, IsCallLine}
@@ -90,7 +89,7 @@ not_ignored (says_call a x) (inr (rest, e)) = omega (arith, apart (line_text (sa
 not_ignored (says_refuse a) (inl e) = omega (arith, ap length e)
 not_ignored (says_refuse a) (inr (rest, e)) = omega (arith, apart (line_text (says_refuse a)) (35 ∷ rest) e)
 
-pool_stays : (n : PoolLine) → IsIgnored (pool_line n) → ⊥
+pub pool_stays : (n : PoolLine) → IsIgnored (pool_line n) → ⊥
 pool_stays n (inl e) = omega (arith, ap length (sym (pool_parts n) ∙ e))
 pool_stays n (inr (rest, e)) = omega (arith, apart (nodes_on n) (35 ∷ rest) (sym (pool_parts n) ∙ e))
 
@@ -104,7 +103,7 @@ apart_lines text = (
 pub first_text : (call : Call) → call_line call ≡ line_text (says_call 1 (client call))
 first_text call = ap (λ (l : List ℕ). codes "call " ++ (l ++ 32 ∷ call_text call)) (sym (decimal_digit 1 (omega arith)))
 
-first_spoken : (call : Call) → IsCall call → IsSpoken (says_call 1 (client call))
+pub first_spoken : (call : Call) → IsCall call → IsSpoken (says_call 1 (client call))
 first_spoken call is = ((omega arith, omega arith), client_of call is)
 
 pub no_call_line : (text : List ℕ) → IsNoLine text → IsCallLine text → ⊥

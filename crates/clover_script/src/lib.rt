@@ -25,8 +25,9 @@ use clover_list::ItemList;
 pub use form::{call_on, form_of};
 pub use keys::Names;
 pub use laws::{
-    a_line_has_one_call, a_refusal_has_one_line, a_script_has_one_reading, a_text_has_one_line,
-    lines_are_apart, no_script_is_refused,
+    a_line_has_one_call, a_refusal_has_one_line, a_script_has_one_reading, a_script_is_lines,
+    a_text_has_one_line, lines_are_apart, lines_are_refused_at_one, lines_have_one_reading,
+    no_lines_are_refused, no_script_is_refused,
 };
 pub use line::{Form, Line, LineFault, PoolLine, Task};
 pub use reader::line_of;

@@ -1,4 +1,4 @@
-use Rattle.std.proofs.Common.{◌≡◌, ◌<◌, ◌/◌, ◌%◌, ◌^◌, ◌∙◌, [], arith, rules, ap, length}
+use Rattle.std.proofs.Common.{◌/◌, ◌%◌, ◌^◌, ◌∙◌, [], arith, rules, ap, length}
 use Rattle.clover_script.proofs.LineLemmas.{if_none}
 use Rattle.clover_script.proofs.PartLemmas.{tag_parts, index_on, generation_on, index_ends, generation_ends}
 use Rattle.clover_script.proofs.part.tag_of.Goals as goal

@@ -1,7 +1,7 @@
-use Rattle.std.proofs.Common.{◌≡◌, ◌∙◌, ◌<◌, ◌∷◌, ◌++◌, List, ℕ, Bor, sym, ap, refl}
+use Rattle.std.proofs.Common.{◌≡◌, ◌∙◌, ◌∷◌, ◌++◌, List, ℕ, Bor, sym, refl}
 use Rattle.clover_map.specs.declared.bytes.Value.{Value}
 use Rattle.clover_script.specs.Coded.{coded}
-use Rattle.clover_script.specs.Text.{tag_text, value_text}
+use Rattle.clover_script.specs.Text.{value_text}
 use Rattle.clover_script.specs.Line.{IsKey}
 use Rattle.clover_script.specs.Form.{SpellsValue}
 use Rattle.clover_script.proofs.FormLemmas.{key_split, some_is, none_is}

@@ -1,4 +1,4 @@
-use Rattle.std.proofs.Common.{◌≡◌, ◌∙◌, ◌<◌, ◌∷◌, ◌++◌, List, ℕ, Bor, sym, ap, refl}
+use Rattle.std.proofs.Common.{◌≡◌, ◌∙◌, ◌∷◌, ◌++◌, List, ℕ, Bor, sym, ap, refl}
 use Rattle.clover_map.specs.declared.bytes.Value.{Value}
 use Rattle.clover_script.specs.Coded.{coded}
 use Rattle.clover_script.specs.Text.{tag_text, value_text}
