@@ -1,0 +1,2 @@
+// An actor's port.
+pub struct PlainPort {}
