@@ -113,9 +113,9 @@ abbrev pub access : ℕ → Act → Bool → Access
 access seat a refused = record { actor = Client (suc seat); act = a; refused = refused }
 
 -- a list with one more access, where it is listed
-abbrev pub listed : Bool → List Access → Access → List Access
-listed true xs x = xs ++ x ∷ []
-listed false xs x = xs
+abbrev pub grown : Bool → List Access → Access → List Access
+grown true xs x = xs ++ x ∷ []
+grown false xs x = xs
 
 -- what no access changes
 pub record Same (p q : Plain) : Type 0 where
@@ -131,7 +131,7 @@ pub record Stepped (a : Step) (b : Bool) (list : Bool) (seat x : ℕ) (p q : Pla
   pub found : x ≡ found p.setup.pool a p.words
   pub words : q.words ≡ words_after_step p.setup.pool a p.words
   pub views : q.views ≡ slice_set p.views seat (next_view b a (history p) (view_at p seat) x)
-  pub accesses : q.accesses ≡ listed (p.traced && list) p.accesses (access seat (act_of a x) false)
+  pub accesses : q.accesses ≡ grown (p.traced && list) p.accesses (access seat (act_of a x) false)
   pub made : q.made ≡ counted (p.made + 1)
   pub whole : q.whole ≡ (p.whole && list)
   pub same : Same p q
@@ -140,7 +140,7 @@ pub record Stepped (a : Step) (b : Bool) (list : Bool) (seat x : ℕ) (p q : Pla
 pub record Refused (a : Step) (seat : ℕ) (p q : Plain) : Type 0 where
   pub words : q.words ≡ p.words
   pub views : q.views ≡ p.views
-  pub accesses : q.accesses ≡ listed p.traced p.accesses (access seat (act_of a 0) true)
+  pub accesses : q.accesses ≡ grown p.traced p.accesses (access seat (act_of a 0) true)
   pub made : q.made ≡ p.made
   pub whole : q.whole ≡ p.whole
   pub same : Same p q

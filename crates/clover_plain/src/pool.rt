@@ -4,6 +4,8 @@ ghost use Rattle.clover_words.specs.Place.{pool_words};
 ghost use Rattle.clover_plain.specs.Plain.{HasRoom, IsBlank, Kept, KeptButEntries, history, outset};
 ghost use Rattle.clover_plain.specs.Kept.{AllFit, views_of};
 
+mod steps;
+
 use crate::seats::{Becomes, Begun, Beginning, Knowing};
 use crate::trace::Trace;
 use atomic_table::{Seat, Table};
@@ -34,6 +36,11 @@ impl Model for PlainPool {
     ghost use Rattle.clover_plain.specs.Plain.{Plain};
 
     ghost Value = { Plain };
+
+    ghost use Rattle.clover_map.specs.contracts.map.TaggedMap as tagged;
+    ghost use Rattle.std.specs.Coded.{codes};
+
+    ghost coded = { Prim.hlevel (codes, tagged.the_row.coded) };
 
     ghost use Rattle.clover_plain.specs.Kept.{meaning, IsKept};
 

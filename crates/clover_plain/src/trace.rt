@@ -1,6 +1,6 @@
 // The list of accesses. An access is no value that may be dropped by itself, so the list takes each apart.
-ghost use Rattle.std.specs.Prelude.{◌≡◌, ◌≤◌, ◌<◌, ◌+◌, ◌++◌, [], ◌∷◌, vec_len, vec_capacity, OnOk, IsOk};
-ghost use Rattle.clover_plain.specs.Plain.{access};
+ghost use Rattle.std.specs.Prelude.{◌≡◌, ◌<◌, true, vec_len, vec_capacity};
+ghost use Rattle.clover_plain.specs.Plain.{grown};
 
 use clover_rule::{Access, Act, Actor};
 
@@ -33,5 +33,20 @@ fn take_apart(access: Access) {
         Act::Store { word: _, side: _, value: _ } => {}
         Act::Exchange { word: _, expected: _, new: _, old: _ } => {}
         Act::Raise { word: _, value: _, old: _ } => {}
+    }
+}
+
+/// Puts an access at the end of the trace where it is to be listed. It takes no memory.
+pub(crate) fn note(trace: &mut Trace, listed: bool, access: Access)
+    requires room { listed ≡ true → vec_len trace.old.list < vec_capacity trace.old.list }
+    ensures list { trace.new.list.items ≡ grown listed trace.old.list.items access }
+{
+    if listed {
+        match trace.list.push(access) {
+            Ok(()) => {}
+            Err(_) => unreachable!(),
+        }
+    } else {
+        take_apart(access);
     }
 }

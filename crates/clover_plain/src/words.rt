@@ -3,17 +3,17 @@ ghost use Rattle.std.specs.Prelude.{◌≡◌, ◌<◌, length, slice_index, sli
 ghost use prog.Atomic.{either};
 ghost use Rattle.clover_words.specs.Place.{IsWithin, HasSide, address_of, pool_words};
 
-use clover_words::{Pool, Side, Word};
+use clover_words::{Setup, Side, Word};
 
 /// Where a copy of a word stands.
-pub fn place_of(pool: &Pool, words: &Vec<u64>, word: Word, side: Side) -> usize
-    requires within { IsWithin pool.now word × HasSide word side }
-    requires sized { length words.now.items ≡ pool_words pool.now }
-    ensures value { result ≡ address_of pool.now word side }
+pub fn place_of(setup: &Setup, words: &Vec<u64>, word: Word, side: Side) -> usize
+    requires within { IsWithin setup.now.pool word × HasSide word side }
+    requires sized { length words.now.items ≡ pool_words setup.now.pool }
+    ensures value { result ≡ address_of setup.now.pool word side }
     ensures inside { result < length words.now.items }
 {
     let _ = words.len();
-    match pool.address(word, side) {
+    match setup.pool.address(word, side) {
         Some(at) => at as usize,
         None => unreachable!(),
     }
