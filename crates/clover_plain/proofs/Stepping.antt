@@ -119,9 +119,9 @@ module _ (a : Step) (b list : Bool) (seat x : ℕ) (p q : Plain) (r : Running p)
   }
 
 -- a refused step
-pub refused_running : (a : Step) (seat : ℕ) (p q : Plain) → Running p → Refused a seat p q → Running q
+pub refused_running : (a : Act) (seat : ℕ) (p q : Plain) → Running p → Refused a seat p q → Running q
 refused_running a seat p q r st =
-    let y : Access = access seat (act_of a 0) true in
+    let y : Access = access seat a true in
     let hist : history q ≡ history p = ap longest st.views in
     record {
       rule = subst (λ (n : Pool). Rule n finite.empty [] q.words q.views (history q)) (ap (λ s. s.pool) (sym st.same.setup))

@@ -2,6 +2,7 @@
 use Rattle.std.specs.Prelude.{◌≡◌, ℕ, ◌+◌, ◌-◌, ◌^◌, ◌<◌, ◌≤◌, ◌&&◌, min, slice_index_or, slice_set, List, [], ◌∷◌, ◌++◌, length, Bool, true, false}
 use Prim.Native.Nat.{suc}
 use Rattle.std.specs.FinMap as finite
+use Rattle.atomic_table.specs.Seated.{TableId}
 use Rattle.clover_words.specs.declared.pool.Pool.{Pool}
 use Rattle.clover_words.specs.declared.setup.Setup.{Setup}
 use Rattle.clover_map.specs.Tagged.{Tagged}
@@ -104,6 +105,12 @@ HasSeat s Restart seat = ⊥
 abbrev pub IsActor : Setup → Actor → Type 0
 IsActor s a = (seat : ℕ) × HasSeat s a seat
 
+-- the role of what an actor knows
+abbrev pub HasRole : Actor → View → Type 0
+HasRole (Client n) v = v.pass.role ≡ ClientRole n
+HasRole Server v = ⊥
+HasRole Restart v = ⊥
+
 -- there is room for one access and one entry
 pub record HasRoom (p : Plain) : Type 0 where
   pub access : p.traced ≡ true → 1 ≤ p.access_room
@@ -136,11 +143,11 @@ pub record Stepped (a : Step) (b : Bool) (list : Bool) (seat x : ℕ) (p q : Pla
   pub whole : q.whole ≡ (p.whole && list)
   pub same : Same p q
 
--- The same step was refused.
-pub record Refused (a : Step) (seat : ℕ) (p q : Plain) : Type 0 where
+-- The actor of a seat made this access, which was refused.
+pub record Refused (a : Act) (seat : ℕ) (p q : Plain) : Type 0 where
   pub words : q.words ≡ p.words
   pub views : q.views ≡ p.views
-  pub accesses : q.accesses ≡ grown p.traced p.accesses (access seat (act_of a 0) true)
+  pub accesses : q.accesses ≡ grown p.traced p.accesses (access seat a true)
   pub made : q.made ≡ p.made
   pub whole : q.whole ≡ p.whole
   pub same : Same p q
@@ -170,3 +177,7 @@ pub record KeptButEntries (p q : Plain) : Type 0 where
   pub traced : q.traced ≡ p.traced
   pub opened : q.opened ≡ p.opened
   pub access_room : q.access_room ≡ p.access_room
+
+-- the name of no table
+abbrev pub no_table : TableId
+no_table = record { words = 0; slots = 0; views_name = 0; atom = 0; block = 0; offset = 0; slot_names = [] }

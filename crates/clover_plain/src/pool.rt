@@ -1,11 +1,12 @@
 // The pool: its words, the seats of its actors, the entries and the accesses that were made.
 ghost use Rattle.std.specs.Prelude.{◌≡◌, ◌≤◌, ◌<◌, ◌+◌, ◌++◌, ℕ, List, [], ◌∷◌, length, true, false, IfOk, OnOk, OnErr, replicate};
 ghost use Rattle.clover_words.specs.Place.{pool_words};
-ghost use Rattle.clover_plain.specs.Plain.{HasRoom, IsBlank, Kept, KeptButEntries, history, outset};
+ghost use Rattle.clover_plain.specs.Plain.{HasRoom, IsBlank, Kept, KeptButEntries, history, outset, IsActor, HasSeat, HasRole, view_at};
 ghost use Rattle.clover_plain.specs.Kept.{AllFit, views_of};
 
 mod steps;
 
+use crate::port::PlainPort;
 use crate::seats::{Becomes, Begun, Beginning, Knowing};
 use crate::trace::Trace;
 use atomic_table::{Seat, Table};
@@ -117,6 +118,33 @@ impl PlainPool {
             self.trace.list.reserve(1)?;
         }
         Ok(())
+    }
+
+    /// The port of an actor, for one access: `reserve` has made room, and each entry of the history was entered. With
+    /// `refuse` the port's first access is refused, and no other one is. It takes no memory.
+    ///
+    /// A port makes and counts further accesses too, but lists the first one alone.
+    pub fn port(&mut self, actor: Actor, refuse: bool) -> PlainPort<'_>
+        requires opened { self.old.opened ≡ true }
+        requires actor { IsActor self.old.setup actor }
+        requires room { HasRoom self.old }
+        requires entered { self.old.entries ≡ history self.old }
+        ensures seat { HasSeat self.old.setup actor result.seat }
+        ensures role { HasRole actor (view_at self.old result.seat) }
+        ensures pool { (result.pool.now ≡ self.old) × (result.pool.ghost_name ≡ self.entry.ghost_name) }
+        ensures fresh { (result.refuse ≡ refuse) × (result.list ≡ true) × (result.faults ≡ 0) }
+    {
+        let seat = match actor {
+            Actor::Client(number) => number as usize - 1,
+            Actor::Server | Actor::Restart => unreachable!(),
+        };
+        PlainPort {
+            pool: self,
+            seat,
+            refuse,
+            list: true,
+            faults: 0,
+        }
     }
 
     /// Enters the entry that the last access added to the pool's history. It takes no memory.

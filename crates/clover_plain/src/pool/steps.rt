@@ -126,4 +126,22 @@ impl PlainPool {
         );
         found
     }
+
+    /// The access is refused: it is listed, and changes nothing else.
+    pub(crate) fn refuse(&mut self, seat: usize, act: Act)
+        requires seat { seat < length self.old.views }
+        requires opened { self.old.opened ≡ true }
+        requires room { self.old.traced ≡ true → 1 ≤ self.old.access_room }
+        ensures { Refused act seat self.old self.new }
+    {
+        note(
+            &mut self.trace,
+            self.traced,
+            Access {
+                actor: Actor::Client(seat as u32 + 1),
+                act,
+                refused: true,
+            },
+        );
+    }
 }
