@@ -134,6 +134,7 @@ impl PlainPool {
         ensures pool { (result.pool.now ≡ self.old) × (result.pool.ghost_name ≡ self.entry.ghost_name) }
         ensures fresh { (result.refuse ≡ refuse) × (result.list ≡ true) × (result.faults ≡ 0) }
     {
+        let _ = &self.setup;
         let seat = match actor {
             Actor::Client(number) => number as usize - 1,
             Actor::Server | Actor::Restart => unreachable!(),
@@ -155,8 +156,9 @@ impl PlainPool {
         ensures entries { self.new.entries ≡ self.old.entries ++ entry ∷ [] }
         ensures same { KeptButEntries self.old self.new }
     {
-        if self.entries.push(entry).is_err() {
-            unreachable!()
+        match self.entries.push(entry) {
+            Ok(()) => {}
+            Err(_) => unreachable!(),
         }
     }
 

@@ -1,9 +1,9 @@
 // An actor's port: each access is made at once, by a step of the pool, or refused.
-ghost use Rattle.std.specs.Prelude.{◌≡◌, ◌≤◌, ◌<◌, ◌&&◌, ◌+◌, ◌-◌, ◌^◌, ℕ, true, false, length, min, IfOk, OnOk, OnErr};
+ghost use Rattle.std.specs.Prelude.{◌≡◌, ◌≤◌, ◌<◌, ◌&&◌, ◌+◌, ◌-◌, ◌^◌, ℕ, true, false, length, min, Some, IfOk, OnOk, OnErr};
 ghost use Rattle.clover_rule.specs.Steps.{Asks, act_of};
 ghost use Rattle.clover_rule.specs.Meant.{load_step, store_step, exchange_step, raise_step, IsLoad, IsStore, IsExchange, IsRaise};
 ghost use Rattle.clover_port.specs.Told.{Made, MadeBlind, Rose, Exact};
-ghost use Rattle.clover_plain.specs.Plain.{Stepped, Refused};
+ghost use Rattle.clover_plain.specs.Plain.{Stepped, Refused, view_at, open_of, no_table};
 
 use crate::pool::PlainPool;
 use clover_port::{Failed, Port};
@@ -48,12 +48,14 @@ impl<'a> Port for PlainPort<'a> {
     ghost refuses = { λ p. Some p.refuse };
 
     fn load<M: StepName>(&mut self, word: Word) -> Result<u64, Failed>
-        ensures made { IfOk result (λ x. Made (pool self.old) (load_step M.kind M.slot M.tag M.call M.reply word) M.first (view self.old) (told self.old) x (view self.new) (told self.new)) }
-        ensures failed { OnErr result (Rose (faults self.old) (faults self.new) × (view self.new ≡ view self.old) × (told self.new ≡ told self.old)) }
-        ensures same { (pool self.new ≡ pool self.old) × (table self.new ≡ table self.old) × (lender self.new ≡ lender self.old) }
-        ensures count { faults self.old ≤ faults self.new }
-        ensures kept { OnOk result (faults self.new ≡ faults self.old) }
-        ensures exact { Exact (refuses self.old) result }
+        requires step { IsLoad (load_step M.kind M.slot M.tag M.call M.reply word) word }
+        requires rule { Asks self.old.pool.now.setup.pool (load_step M.kind M.slot M.tag M.call M.reply word) (view_at self.old.pool.now self.old.seat) }
+        ensures made { IfOk result (λ x. Made self.old.pool.now.setup.pool (load_step M.kind M.slot M.tag M.call M.reply word) M.first (view_at self.old.pool.now self.old.seat) (Some (open_of self.old.pool.now)) x (view_at self.new.pool.now self.new.seat) (Some (open_of self.new.pool.now))) }
+        ensures failed { OnErr result (Rose self.old.faults self.new.faults × (view_at self.new.pool.now self.new.seat ≡ view_at self.old.pool.now self.old.seat) × (Some (open_of self.new.pool.now) ≡ Some (open_of self.old.pool.now))) }
+        ensures same { (self.new.pool.now.setup.pool ≡ self.old.pool.now.setup.pool) × (no_table ≡ no_table) × (self.new.pool.ghost_name ≡ self.old.pool.ghost_name) }
+        ensures count { self.old.faults ≤ self.new.faults }
+        ensures kept { OnOk result (self.new.faults ≡ self.old.faults) }
+        ensures exact { Exact (Some self.old.refuse) result }
         ensures stepped { IfOk result (λ x. Stepped (load_step M.kind M.slot M.tag M.call M.reply word) M.first self.old.list self.old.seat x self.old.pool.now self.new.pool.now) }
         ensures refused { OnErr result (Refused (act_of (load_step M.kind M.slot M.tag M.call M.reply word) 0) self.old.seat self.old.pool.now self.new.pool.now) }
         ensures next { (self.new.seat ≡ self.old.seat) × (self.new.refuse ≡ false) × (self.new.list ≡ false) }
@@ -68,12 +70,14 @@ impl<'a> Port for PlainPort<'a> {
     }
 
     fn store<M: StepName>(&mut self, word: Word, side: Side, value: u64) -> Result<(), Failed>
-        ensures made { OnOk result (MadeBlind (pool self.old) (store_step M.kind M.slot M.tag word side value) M.first (view self.old) (told self.old) (view self.new) (told self.new)) }
-        ensures failed { OnErr result (Rose (faults self.old) (faults self.new) × (view self.new ≡ view self.old) × (told self.new ≡ told self.old)) }
-        ensures same { (pool self.new ≡ pool self.old) × (table self.new ≡ table self.old) × (lender self.new ≡ lender self.old) }
-        ensures count { faults self.old ≤ faults self.new }
-        ensures kept { OnOk result (faults self.new ≡ faults self.old) }
-        ensures exact { Exact (refuses self.old) result }
+        requires step { IsStore (store_step M.kind M.slot M.tag word side value) word side value }
+        requires rule { Asks self.old.pool.now.setup.pool (store_step M.kind M.slot M.tag word side value) (view_at self.old.pool.now self.old.seat) }
+        ensures made { OnOk result (MadeBlind self.old.pool.now.setup.pool (store_step M.kind M.slot M.tag word side value) M.first (view_at self.old.pool.now self.old.seat) (Some (open_of self.old.pool.now)) (view_at self.new.pool.now self.new.seat) (Some (open_of self.new.pool.now))) }
+        ensures failed { OnErr result (Rose self.old.faults self.new.faults × (view_at self.new.pool.now self.new.seat ≡ view_at self.old.pool.now self.old.seat) × (Some (open_of self.new.pool.now) ≡ Some (open_of self.old.pool.now))) }
+        ensures same { (self.new.pool.now.setup.pool ≡ self.old.pool.now.setup.pool) × (no_table ≡ no_table) × (self.new.pool.ghost_name ≡ self.old.pool.ghost_name) }
+        ensures count { self.old.faults ≤ self.new.faults }
+        ensures kept { OnOk result (self.new.faults ≡ self.old.faults) }
+        ensures exact { Exact (Some self.old.refuse) result }
         ensures stepped { OnOk result ((x : ℕ) × Stepped (store_step M.kind M.slot M.tag word side value) M.first self.old.list self.old.seat x self.old.pool.now self.new.pool.now) }
         ensures refused { OnErr result (Refused (act_of (store_step M.kind M.slot M.tag word side value) 0) self.old.seat self.old.pool.now self.new.pool.now) }
         ensures next { (self.new.seat ≡ self.old.seat) × (self.new.refuse ≡ false) × (self.new.list ≡ false) }
@@ -89,12 +93,14 @@ impl<'a> Port for PlainPort<'a> {
     }
 
     fn exchange<M: StepName>(&mut self, word: Word, expected: u64, new: u64) -> Result<u64, Failed>
-        ensures made { IfOk result (λ x. Made (pool self.old) (exchange_step M.slot M.tag M.call new) M.first (view self.old) (told self.old) x (view self.new) (told self.new)) }
-        ensures failed { OnErr result (Rose (faults self.old) (faults self.new) × (view self.new ≡ view self.old) × (told self.new ≡ told self.old)) }
-        ensures same { (pool self.new ≡ pool self.old) × (table self.new ≡ table self.old) × (lender self.new ≡ lender self.old) }
-        ensures count { faults self.old ≤ faults self.new }
-        ensures kept { OnOk result (faults self.new ≡ faults self.old) }
-        ensures exact { Exact (refuses self.old) result }
+        requires step { IsExchange (exchange_step M.slot M.tag M.call new) word expected new }
+        requires rule { Asks self.old.pool.now.setup.pool (exchange_step M.slot M.tag M.call new) (view_at self.old.pool.now self.old.seat) }
+        ensures made { IfOk result (λ x. Made self.old.pool.now.setup.pool (exchange_step M.slot M.tag M.call new) M.first (view_at self.old.pool.now self.old.seat) (Some (open_of self.old.pool.now)) x (view_at self.new.pool.now self.new.seat) (Some (open_of self.new.pool.now))) }
+        ensures failed { OnErr result (Rose self.old.faults self.new.faults × (view_at self.new.pool.now self.new.seat ≡ view_at self.old.pool.now self.old.seat) × (Some (open_of self.new.pool.now) ≡ Some (open_of self.old.pool.now))) }
+        ensures same { (self.new.pool.now.setup.pool ≡ self.old.pool.now.setup.pool) × (no_table ≡ no_table) × (self.new.pool.ghost_name ≡ self.old.pool.ghost_name) }
+        ensures count { self.old.faults ≤ self.new.faults }
+        ensures kept { OnOk result (self.new.faults ≡ self.old.faults) }
+        ensures exact { Exact (Some self.old.refuse) result }
         ensures stepped { IfOk result (λ x. Stepped (exchange_step M.slot M.tag M.call new) M.first self.old.list self.old.seat x self.old.pool.now self.new.pool.now) }
         ensures refused { OnErr result (Refused (act_of (exchange_step M.slot M.tag M.call new) 0) self.old.seat self.old.pool.now self.new.pool.now) }
         ensures next { (self.new.seat ≡ self.old.seat) × (self.new.refuse ≡ false) × (self.new.list ≡ false) }
@@ -109,12 +115,14 @@ impl<'a> Port for PlainPort<'a> {
     }
 
     fn raise<M: StepName>(&mut self, word: Word, value: u64) -> Result<u64, Failed>
-        ensures made { IfOk result (λ x. Made (pool self.old) (raise_step M.slot M.tag value) M.first (view self.old) (told self.old) x (view self.new) (told self.new)) }
-        ensures failed { OnErr result (Rose (faults self.old) (faults self.new) × (view self.new ≡ view self.old) × (told self.new ≡ told self.old)) }
-        ensures same { (pool self.new ≡ pool self.old) × (table self.new ≡ table self.old) × (lender self.new ≡ lender self.old) }
-        ensures count { faults self.old ≤ faults self.new }
-        ensures kept { OnOk result (faults self.new ≡ faults self.old) }
-        ensures exact { Exact (refuses self.old) result }
+        requires step { IsRaise (raise_step M.slot M.tag value) word value }
+        requires rule { Asks self.old.pool.now.setup.pool (raise_step M.slot M.tag value) (view_at self.old.pool.now self.old.seat) }
+        ensures made { IfOk result (λ x. Made self.old.pool.now.setup.pool (raise_step M.slot M.tag value) M.first (view_at self.old.pool.now self.old.seat) (Some (open_of self.old.pool.now)) x (view_at self.new.pool.now self.new.seat) (Some (open_of self.new.pool.now))) }
+        ensures failed { OnErr result (Rose self.old.faults self.new.faults × (view_at self.new.pool.now self.new.seat ≡ view_at self.old.pool.now self.old.seat) × (Some (open_of self.new.pool.now) ≡ Some (open_of self.old.pool.now))) }
+        ensures same { (self.new.pool.now.setup.pool ≡ self.old.pool.now.setup.pool) × (no_table ≡ no_table) × (self.new.pool.ghost_name ≡ self.old.pool.ghost_name) }
+        ensures count { self.old.faults ≤ self.new.faults }
+        ensures kept { OnOk result (self.new.faults ≡ self.old.faults) }
+        ensures exact { Exact (Some self.old.refuse) result }
         ensures stepped { IfOk result (λ x. Stepped (raise_step M.slot M.tag value) M.first self.old.list self.old.seat x self.old.pool.now self.new.pool.now) }
         ensures refused { OnErr result (Refused (act_of (raise_step M.slot M.tag value) 0) self.old.seat self.old.pool.now self.new.pool.now) }
         ensures next { (self.new.seat ≡ self.old.seat) × (self.new.refuse ≡ false) × (self.new.list ≡ false) }
@@ -136,6 +144,7 @@ impl<'a> PlainPort<'a> {
         ensures refused { Refused act self.old.seat self.old.pool.now self.new.pool.now }
         ensures next { (self.new.seat ≡ self.old.seat) × (self.new.refuse ≡ false) × (self.new.list ≡ false) }
         ensures lender { self.new.pool.ghost_name ≡ self.old.pool.ghost_name }
+        ensures rises { self.old.faults ≤ self.new.faults }
         ensures count { self.new.faults ≡ min (self.old.faults + 1) (2 ^ 64 - 1) }
     {
         self.refuse = false;
