@@ -3,3 +3,5 @@ pub mod Trails
 pub mod Learned
 pub mod Acting
 pub mod Stepping
+pub mod Dealing
+pub mod PresetRule

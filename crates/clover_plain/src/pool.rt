@@ -4,6 +4,7 @@ ghost use Rattle.clover_words.specs.Place.{pool_words};
 ghost use Rattle.clover_plain.specs.Plain.{HasRoom, IsBlank, Kept, KeptButEntries, history, outset, IsActor, HasSeat, HasRole, view_at};
 ghost use Rattle.clover_plain.specs.Kept.{AllFit, views_of};
 
+mod preset;
 mod steps;
 
 use crate::port::PlainPort;

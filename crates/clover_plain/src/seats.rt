@@ -6,6 +6,7 @@ ghost use Rattle.clover_rule.specs.declared.view.View.{View};
 ghost use Rattle.clover_plain.specs.Kept.{AllFit, views_of};
 
 use atomic_table::{Play, Seat, Table, TableRule};
+use clover_map::Key;
 use clover_rule::View;
 use clover_words::{Setup, Word, Side};
 use std::alloc::Global;
@@ -86,4 +87,58 @@ pub fn set_view<J: ViewName>(
     let _ = (word, side, value, found);
     let seat = &mut seats[at];
     knowing.shared.load::<Becomes<J>>(seat, 0);
+}
+
+/// The seat of a client gets what the client knows in the preset pool.
+pub fn deal_view<J: ViewName>(
+    setup: &Setup,
+    knowing: &Knowing,
+    seats: &mut Vec<Seat<(), View>>,
+    at: usize,
+    keys: &[Key],
+)
+    requires at { at < length seats.old.items }
+    requires fits { AllFit knowing.now.shared.table_id seats.old.items × (0 < knowing.now.shared.table_id.words) }
+    ensures views { (v : View) → nth (views_of seats.old.items) at ≡ Some v → views_of seats.new.items ≡ slice_set (views_of seats.old.items) at (J.becomes v) }
+    ensures fits { AllFit knowing.now.shared.table_id seats.new.items }
+    ensures length { length seats.new.items ≡ length seats.old.items }
+{
+    let _ = setup.clients;
+    let _ = keys.len();
+    let seat = &mut seats[at];
+    knowing.shared.load::<Becomes<J>>(seat, 0);
+}
+
+/// Names the words with which a pool begins.
+pub trait WordsName {
+    ghost use Rattle.std.specs.Prelude.{List, ℕ};
+
+    ghost words: { List ℕ };
+}
+
+impl WordsName for Brand {
+    ghost use Rattle.std.specs.Prelude.{[]};
+
+    ghost words = { [] };
+}
+
+/// The seat keeps the named words.
+pub struct Keeps<J> {
+    of: PhantomData<J>,
+}
+
+impl<J: WordsName> Play<(), Beginning> for Keeps<J> {
+    ghost use Rattle.std.specs.Prelude.{◌≡◌};
+
+    ghost then = { λ _ _ _ after. after.0.words ≡ J.words };
+}
+
+/// The seat keeps the named words. The words that are passed are for that name alone.
+pub fn begin<J: WordsName>(beginning: &Begun, begun: &mut Seat<(), Beginning>, words: &Vec<u64>)
+    requires fits { (begun.old.table_id ≡ beginning.now.shared.table_id) × (0 < beginning.now.shared.table_id.words) }
+    ensures words { begun.new.me.0.words ≡ J.words }
+    ensures fits { begun.new.table_id ≡ beginning.now.shared.table_id }
+{
+    let _ = words.len();
+    beginning.shared.load::<Keeps<J>>(begun, 0);
 }
