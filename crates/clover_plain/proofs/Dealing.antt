@@ -1,5 +1,7 @@
 -- Buffers by their numbers: the tags of the tombstones, and the tags that are dealt to the clients.
 use Rattle.std.proofs.Common.{◌≡◌, ◌≢◌, ℕ, zero, suc, ◌+◌, ◌-◌, ◌*◌, ◌/◌, ◌%◌, ◌<◌, ◌≤◌, ◌⊎◌, List, [], ◌∷◌, Bool, true, false, cond, nat_lt, refl, sym, ap, ◌∙◌, inl, inr, ⊎_elim, subst, arith}
+use native.Mathlib.Decide.{ℕ_discrete, dec_le}
+use mathlib.Core.Logic.{dite}
 use Rattle.std.proofs.lemmas.Nat.{mul-add-lt}
 use Rattle.std.proofs.Math.Nat.{mul-le-mul_left}
 use Rattle.std.specs.Prelude.{Option, Some, None}
@@ -24,7 +26,7 @@ pub node_below : (p : Pool) (n : ℕ) → n < buffers_total p → (n / p.buffers
 node_below p n h =
     let b = p.some_buffer in
     let m : n % p.buffers < p.buffers = omega arith in
-    (?, m)
+    (dite (dec_le (suc (n / p.buffers)) p.nodes) (λ d. d) (λ d. let l : p.nodes ≤ n / p.buffers = omega arith in let k : p.buffers * p.nodes ≤ p.buffers * (n / p.buffers) = mul-le-mul_left p.buffers l in absurd (omega arith)), m)
 
 buffers_small : (p : Pool) → p.buffers ≤ 65536
 buffers_small p = let a = p.some_node in let b = p.total_fits in let c = mul-le-mul_left p.buffers a in omega arith
@@ -63,7 +65,7 @@ home_number p b i =
     let x : b / 65536 < p.nodes = q.node in
     let y : b % 65536 < p.buffers = q.index in
     let s = split (b / 65536) p.buffers (b % 65536) (number_at p b) y refl in
-    let h : number_at p b < buffers_total p = ? in
+    let h : number_at p b < buffers_total p = (let z = mul-add-lt (b / 65536) p.buffers (b % 65536) p.nodes x y in omega arith) in
     let n : number_at p b / p.buffers ≡ b / 65536 = s.0 in
     let m : number_at p b % p.buffers ≡ b % 65536 = s.1 in
     (h, tag_home p (number_at p b) h ∙ (λ k. n k * 65536 + m k) ∙ (let e : b / 65536 * 65536 + b % 65536 ≡ b = omega arith in e))
@@ -77,10 +79,10 @@ module _ (s : Setup) (c : ℕ) where
   fits put = nat_lt (dealt_number s c put + s.pool.slots) (buffers_total s.pool)
 
   dealt_rises : (q r : ℕ) → q ≤ r → dealt_number s c q ≤ dealt_number s c r
-  dealt_rises q r h = ?
+  dealt_rises q r h = let z : s.clients * q ≤ s.clients * r = mul-le-mul_left s.clients h in omega arith
 
   dealt_apart : (q r : ℕ) → q < r → dealt_number s c q < dealt_number s c r
-  dealt_apart q r h = ?
+  dealt_apart q r h = let z : s.clients * suc q ≤ s.clients * r = mul-le-mul_left s.clients h in let y = s.some_client in omega arith
 
   pub dealt_within : (n put t : ℕ) → Within t (dealt_from s c put n) → IsDealt s c put t
   dealt_within zero put t w = absurd w
@@ -97,7 +99,7 @@ module _ (s : Setup) (c : ℕ) where
       (here (within_dealt n (suc put) q))
     where
       here : (suc put ≤ q → q < suc put + n → dealt_number s c q + s.pool.slots < buffers_total s.pool → Within (tag_at s.pool (dealt_number s c q)) (dealt_from s c (suc put) n)) → Within (tag_at s.pool (dealt_number s c q)) (tag_at s.pool (dealt_number s c put) ∷ dealt_from s c (suc put) n)
-      here f = ?
+      here f = dite (ℕ_discrete put q) (λ d. inl (ap (λ (z : ℕ). tag_at s.pool (dealt_number s c z)) d)) (λ d. inr (f (omega arith) (omega arith) e))
 
   each_within : (P : ℕ → Type 0) (xs : List ℕ) → ((t : ℕ) → Within t xs → P t) → Each P xs
   each_within P [] f = tt

@@ -2,6 +2,8 @@
 use Rattle.std.proofs.Common.{◌≡◌, ◌≢◌, ℕ, zero, suc, ◌+◌, ◌-◌, ◌*◌, ◌/◌, ◌%◌, ◌<◌, ◌≤◌, ◌⊎◌, ◌&&◌, List, [], ◌∷◌, length, Bool, true, false, cond, nat_lt, eqb, refl, sym, ap, ◌∙◌, inl, inr, ⊎_elim, subst, arith}
 use native.Mathlib.Decide.{dec_le}
 use mathlib.Core.Logic.{dite}
+use Rattle.std.proofs.lemmas.Bool.Decides.{nat_tests}
+use Rattle.std.proofs.Math.Nat.{mul-le-mul_left}
 use Rattle.std.specs.Prelude.{Option, Some, None}
 use Rattle.std.specs.FinMap as finite
 use Rattle.std.specs.FinMap.{get-empty}
@@ -14,6 +16,7 @@ use Rattle.clover_words.specs.declared.word.Word.TheVariants.{Next as NextOf, Me
 use Rattle.clover_words.specs.declared.word.Side.{Side}
 use Rattle.clover_words.specs.declared.word.Side.TheVariants.{Current, Flushed}
 use Rattle.clover_words.specs.Place.{IsWithin, HasSide, copy_in, pool_words}
+use Rattle.clover_words.proofs.Places.{split}
 use Rattle.clover_words.specs.Pack.{words_of}
 use Rattle.clover_words.specs.Preset.{buffers_total, tombstone_number, dealt_number}
 use Rattle.clover_rule.specs.Content.{inside, tombstone, spelling, all_words, words_from, IsKey}
@@ -36,7 +39,7 @@ use Rattle.clover_plain.specs.Preset.{number_of, tag_at, tomb, preset_word, key_
 use Rattle.clover_plain.proofs.Dealing.{tag_young, tag_home, tag_inside, number_tag, one_number, number_at, home_number, IsDealt, dealt_each, dealt_once, within_dealt}
 
 not_below : (a b : ℕ) → b ≤ a → nat_lt a b ≡ false
-not_below a b h = ?
+not_below a b h = grind (arith, nat_tests)
 
 -- both sides of a guard are one value
 same_guard : {A : Type 0} (b : Bool) (x y : A) → (b ≡ true → x ≡ y) → guarded b x y ≡ y
@@ -119,7 +122,7 @@ module _ (s : Setup) (keys : List (List ℕ)) (ws : List ℕ) (sized : length ws
   flushed_keys : (n j : ℕ) → guarded (nat_lt n p.slots && nat_lt j 32) (copy_in p ws (Key n j) Flushed) 0 ≡ guarded (nat_lt n p.slots && nat_lt j 32) (copy_in p ws (Key n j) Current) 0
   flushed_keys n j = guard (nat_lt n p.slots && nat_lt j 32) _ _ 0 (λ e.
       let q = both (nat_lt n p.slots) (nat_lt j 32) e in
-      let w = (below n p.slots q.0, below j 32 q.1) in
+      let w : (n < p.slots) × (j < 32) = (below n p.slots q.0, below j 32 q.1) in
       set (Key n j) Flushed w tt ∙ sym (set (Key n j) Current w tt))
 
   preset_words : PresetWords p keys (tomb p) (mem_of p ws)
@@ -162,7 +165,11 @@ module _ (s : Setup) (keys : List (List ℕ)) (ws : List ℕ) (sized : length ws
 
   -- a dealt buffer is its client's
   owned : (i q : ℕ) → i < s.clients → dealt_number s (suc i) q + p.slots < buffers_total p → owner (home (tag_at p (dealt_number s (suc i) q))) ≡ Some i
-  owned i q c h = ?
+  owned i q c h =
+      let n : ℕ = dealt_number s (suc i) q in
+      let f : n < buffers_total p = omega arith in
+      let m = split q s.clients i n c (omega arith) in
+      (λ k. owner_of (tag_inside p n f k) (number_tag p n f k)) ∙ ap (λ (t : Bool). cond t (Some (n % s.clients)) None) (test_below (n + p.slots) (buffers_total p) h) ∙ ap Some m.1
 
   module _ (vs : List View) (seats : length vs ≡ s.clients) (vs_are : (i : ℕ) (v : View) → nth vs i ≡ Some v → v ≡ start_view s keys i) where
     seat_below : (xs : List View) (i : ℕ) (v : View) → nth xs i ≡ Some v → i < length xs
@@ -195,7 +202,19 @@ module _ (s : Setup) (keys : List (List ℕ)) (ws : List ℕ) (sized : length ws
     }
 
     held : (b i : ℕ) → owner b ≡ Some i → (v : View) × (nth vs i ≡ Some v) × (t : ℕ) × Within t v.pass.stock × (home t ≡ b)
-    held b i e = ?
+    held b i e =
+        let o = owner_is b i e in
+        let n : ℕ = number_at p b in
+        let y = s.some_client in
+        let z = o.1 in
+        let w = o.2 in
+        let q : ℕ = n / s.clients in
+        let c : i < s.clients = omega arith in
+        let same : dealt_number s (suc i) q ≡ n = omega arith in
+        let small : q < 0 + buffers_total p = (let k : q * 1 ≤ q * s.clients = mul-le-mul_left q y in omega arith) in
+        let r = seat_there vs i (omega arith) in
+        let there : Within (tag_at p (dealt_number s (suc i) q)) (dealt_from s (suc i) 0 (buffers_total p)) = within_dealt s (suc i) (buffers_total p) 0 q (omega arith) small (omega arith) in
+        (r.0, r.1, tag_at p (dealt_number s (suc i) q), subst (λ (u : View). Within (tag_at p (dealt_number s (suc i) q)) u.pass.stock) (sym (vs_are i r.0 r.1)) there, ap (λ (m : ℕ). home (tag_at p m)) same ∙ (home_number p b o.0).1)
 
     role_is : (i : ℕ) (v : View) → nth vs i ≡ Some v → v.pass.role ≡ Client (suc i)
     role_is i v e = ap (λ (u : View). u.pass.role) (vs_are i v e)

@@ -1,8 +1,9 @@
 // The preset pool: as long as no metadata server hands out space, the first slots are bound as the run begins, and
 // every other buffer that holds no tombstone is dealt to a client. This writes the words and gives each client's seat
 // what it knows then.
-ghost use Rattle.std.specs.Prelude.{◌≡◌, ◌≤◌, ◌<◌, ℕ, List, [], length, true, false, Some};
+ghost use Rattle.std.specs.Prelude.{◌≡◌, ◌≤◌, ◌<◌, ℕ, List, [], ◌∷◌, length, true, false, Some};
 ghost use Rattle.clover_words.specs.Place.{IsWithin, pool_words};
+ghost use Rattle.clover_words.specs.Pack.{packed};
 ghost use Rattle.clover_words.specs.Preset.{buffers_total};
 ghost use Rattle.clover_rule.specs.Content.{spelling, tombstone, IsKey};
 ghost use Rattle.clover_rule.specs.Words.{root_code};
@@ -127,15 +128,27 @@ fn root_word_of(setup: &Setup, slot: u32) -> u64
 fn key_word_of(key: &Key, k: u32) -> u64
     ensures { result ≡ or_zero (nth (spelling key.now) k) }
 {
+    let words = (8 + key.bytes().len()) / 8;
+    if (k as usize) < words { spelled_word(key, k) } else { 0 }
+}
+
+// A word of the bytes that spell a key: its length, and its own bytes.
+fn spelled_word(key: &Key, k: u32) -> u64
+    ensures { result ≡ packed (length key.now ∷ key.now) k }
+{
     let bytes = key.bytes();
     let mut spelled = [0; 251];
     spelled[0] = bytes.len() as u8;
     spelled[1..1 + bytes.len()].copy_from_slice(bytes);
-    if (k as usize) < (1 + bytes.len()).div_ceil(8) {
-        pack(&spelled[..1 + bytes.len()], k)
-    } else {
-        0
-    }
+    word_of(&spelled[..1 + bytes.len()], key, k)
+}
+
+fn word_of(spelled: &[u8], key: &Key, k: u32) -> u64
+    requires { spelled.now ≡ length key.now ∷ key.now }
+    ensures { result ≡ packed (length key.now ∷ key.now) k }
+{
+    let _ = key.bytes();
+    pack(spelled, k)
 }
 
 // Gives the seat of each client its first view.
