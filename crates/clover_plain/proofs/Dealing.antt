@@ -114,10 +114,13 @@ module _ (s : Setup) (c : ℕ) where
     where
       go : (b : Bool) → fits put ≡ b → Apart (dealt_from s c (suc put) n) → ((t : ℕ) → Within t (dealt_from s c (suc put) n) → IsDealt s c (suc put) t) → Apart (cond b (tag_at s.pool (dealt_number s c put) ∷ dealt_from s c (suc put) n) [])
       go false e a f = tt
-      go true e a f = (each_within (λ (u : ℕ). home u ≢ home (tag_at s.pool (dealt_number s c put))) (dealt_from s c (suc put) n) (λ t w z.
+      go true e a f = (
+        each_within (λ (u : ℕ). home u ≢ home (tag_at s.pool (dealt_number s c put))) (dealt_from s c (suc put) n) (λ t w z.
             let d = f t w in
             let x = d.2 in
             let y = below _ _ e in
             let r = dealt_apart put d.0 d.1 in
             let k : dealt_number s c d.0 ≡ dealt_number s c put = one_number s.pool (dealt_number s c d.0) (dealt_number s c put) (omega arith) (omega arith) (ap home (sym d.3) ∙ z) in
-            omega arith), a)
+            omega arith),
+        a,
+      )

@@ -3,6 +3,7 @@ pub mod Trails
 pub mod Learned
 pub mod Acting
 pub mod Stepping
+pub mod Standing
 pub mod Keys
 pub mod Dealing
 pub mod PresetRule

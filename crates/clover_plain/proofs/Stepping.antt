@@ -97,14 +97,17 @@ module _ (a : Step) (b list : Bool) (seat x : ℕ) (p q : Plain) (r : Running p)
         story = (
           xs ++ y ∷ [],
           subst (λ (n : Pool). Leads n q.start q.words q.made (xs ++ y ∷ [])) (ap (λ s. s.pool) (sym st.same.setup))
-          (subst (λ (l : List ℕ). Leads p.setup.pool l q.words q.made (xs ++ y ∷ [])) (sym st.same.start)
-          (leads_more p.setup.pool p.start p.words q.words p.made q.made xs y r.story.1 refl came words_then st.made)),
+              (subst (λ (l : List ℕ). Leads p.setup.pool l q.words q.made (xs ++ y ∷ [])) (sym st.same.start)
+              (leads_more p.setup.pool p.start p.words q.words p.made q.made xs y r.story.1 refl came words_then st.made)),
           λ t w.
-            let s = both p.whole list (sym st.whole ∙ w) in
-            let d : p.traced ≡ true = sym st.same.traced ∙ t in
-            ap (λ (l : List Access). l ++ y ∷ []) (r.story.2 d s.0)
-            ∙ sym (ap (λ (z : Bool). grown (z && list) p.accesses y) d ∙ ap (λ (z : Bool). grown z p.accesses y) s.1) ∙ sym st.accesses,
+              let s = both p.whole list (sym st.whole ∙ w) in
+              let d : p.traced ≡ true = sym st.same.traced ∙ t in
+              ap (λ (l : List Access). l ++ y ∷ []) (r.story.2 d s.0)
+              ∙ sym (ap (λ (z : Bool). grown (z && list) p.accesses y) d ∙ ap (λ (z : Bool). grown z p.accesses y) s.1) ∙ sym st.accesses,
         );
+        untraced = λ t.
+            let d : p.traced ≡ false = sym st.same.traced ∙ t in
+            st.accesses ∙ ap (λ (z : Bool). grown (z && list) p.accesses y) d ∙ r.untraced d;
         roles = roles_now;
       }
 
@@ -131,13 +134,16 @@ refused_running a seat p q r st =
       story = (
         r.story.0 ++ y ∷ [],
         subst (λ (n : Pool). Leads n q.start q.words q.made (r.story.0 ++ y ∷ [])) (ap (λ s. s.pool) (sym st.same.setup))
-        (subst (λ (l : List ℕ). Leads p.setup.pool l q.words q.made (r.story.0 ++ y ∷ [])) (sym st.same.start)
-        (subst (λ (l : List ℕ). Leads p.setup.pool p.start l q.made (r.story.0 ++ y ∷ [])) (sym st.words)
-        (subst (λ (n : ℕ). Leads p.setup.pool p.start p.words n (r.story.0 ++ y ∷ [])) (sym st.made)
-        (leads_refused p.setup.pool p.start p.words p.made r.story.0 y r.story.1 refl)))),
+            (subst (λ (l : List ℕ). Leads p.setup.pool l q.words q.made (r.story.0 ++ y ∷ [])) (sym st.same.start)
+            (subst (λ (l : List ℕ). Leads p.setup.pool p.start l q.made (r.story.0 ++ y ∷ [])) (sym st.words)
+            (subst (λ (n : ℕ). Leads p.setup.pool p.start p.words n (r.story.0 ++ y ∷ [])) (sym st.made)
+            (leads_refused p.setup.pool p.start p.words p.made r.story.0 y r.story.1 refl)))),
         λ t w.
-          let d : p.traced ≡ true = sym st.same.traced ∙ t in
-          ap (λ (l : List Access). l ++ y ∷ []) (r.story.2 d (sym st.whole ∙ w)) ∙ sym (ap (λ (z : Bool). grown z p.accesses y) d) ∙ sym st.accesses,
+            let d : p.traced ≡ true = sym st.same.traced ∙ t in
+            ap (λ (l : List Access). l ++ y ∷ []) (r.story.2 d (sym st.whole ∙ w)) ∙ sym (ap (λ (z : Bool). grown z p.accesses y) d) ∙ sym st.accesses,
       );
+      untraced = λ t.
+          let d : p.traced ≡ false = sym st.same.traced ∙ t in
+          st.accesses ∙ ap (λ (z : Bool). grown z p.accesses y) d ∙ r.untraced d;
       roles = λ i u e. r.roles i u (ap (λ (l : List View). nth l i) (sym st.views) ∙ e);
     }

@@ -79,6 +79,8 @@ pub record Running (p : Plain) : Type 0 where
   pub entered : IsPrefix p.entries (history p)
   -- there is a list of all accesses, and it is the listed one where each port made one access at most
   pub story : (xs : List Access) × Leads p.setup.pool p.start p.words p.made xs × (p.traced ≡ true → p.whole ≡ true → xs ≡ p.accesses)
+  -- without a trace nothing is listed
+  pub untraced : p.traced ≡ false → p.accesses ≡ []
   -- the seats are the clients, in the order of their numbers
   pub roles : (i : ℕ) (v : View) → nth p.views i ≡ Some v → v.pass.role ≡ ClientRole (suc i)
 

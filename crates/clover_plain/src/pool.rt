@@ -1,14 +1,16 @@
 // The pool: its words, the seats of its actors, the entries and the accesses that were made.
 ghost use Rattle.std.specs.Prelude.{◌≡◌, ◌≤◌, ◌<◌, ◌+◌, ◌++◌, ℕ, List, [], ◌∷◌, length, true, false, IfOk, OnOk, OnErr, replicate};
 ghost use Rattle.clover_words.specs.Place.{pool_words};
-ghost use Rattle.clover_plain.specs.Plain.{HasRoom, IsBlank, Kept, KeptButEntries, history, outset, IsActor, HasSeat, HasRole, view_at};
+ghost use Rattle.clover_plain.specs.Plain.{HasRoom, IsBlank, Kept, KeptButEntries, Leads, Running, history, outset, IsActor, HasSeat, HasRole, view_at};
+ghost use Rattle.clover_rule.specs.Lists.{IsPrefix};
+ghost use Rattle.clover_rule.specs.declared.access.Access.{Access};
 ghost use Rattle.clover_plain.specs.Kept.{AllFit, views_of};
 
 mod preset;
 mod steps;
 
 use crate::port::PlainPort;
-use crate::seats::{Becomes, Begun, Beginning, Knowing};
+use crate::seats::{Becomes, Beginning, Begun, Knowing};
 use crate::trace::Trace;
 use atomic_table::{Seat, Table};
 use clover_map::{Entry, OutOfMemory};
@@ -52,7 +54,12 @@ impl Model for PlainPool {
 }
 
 // The seats of so many actors.
-fn seats_of(alloc: Global, knowing: &Knowing, first: Seat<(), View>, count: u32) -> Result<Vec<Seat<(), View>>, OutOfMemory>
+fn seats_of(
+    alloc: Global,
+    knowing: &Knowing,
+    first: Seat<(), View>,
+    count: u32,
+) -> Result<Vec<Seat<(), View>>, OutOfMemory>
     requires first { (first.table_id ≡ knowing.now.shared.table_id) × (first.me.0 ≡ outset knowing.now.shared.key) }
     requires one { (0 < knowing.now.shared.table_id.words) × (1 ≤ count) }
     ensures seats { IfOk result (λ seats. AllFit knowing.now.shared.table_id seats.items × (views_of seats.items ≡ replicate count (outset knowing.now.shared.key))) }
@@ -166,13 +173,17 @@ impl PlainPool {
     /// The entries of the pool's history, as far as they were entered.
     pub fn entries(&self) -> &[Entry]
         ensures value { result.now ≡ self.now.entries }
+        ensures history { self.now.opened ≡ true → IsPrefix self.now.entries (history self.now) }
     {
         self.entries.as_slice()
     }
 
-    /// The accesses, in order, refused ones among them; none without a trace.
+    /// The accesses, in order, refused ones among them; none without a trace. Where no port made a second access, they
+    /// are all accesses since the pool was preset.
     pub fn accesses(&self) -> &[Access]
         ensures value { result.now ≡ self.now.accesses }
+        ensures replay { self.now.opened ≡ true → self.now.traced ≡ true → self.now.whole ≡ true → Leads self.now.setup.pool self.now.start self.now.words self.now.made self.now.accesses }
+        ensures untraced { self.now.traced ≡ false → self.now.accesses ≡ [] }
     {
         self.trace.list.as_slice()
     }
@@ -180,7 +191,17 @@ impl PlainPool {
     /// How many accesses were made and not refused, 2^64 - 1 also where there were more.
     pub fn made(&self) -> u64
         ensures value { result ≡ self.now.made }
+        ensures counted { self.now.opened ≡ true → (all : List Access) × Leads self.now.setup.pool self.now.start self.now.words result all }
     {
         self.made
+    }
+
+    /// What holds of a pool that was preset between any two accesses, the rule above all, and what holds before. This
+    /// is for proofs, and does nothing.
+    pub fn stands(&self)
+        ensures running { self.now.opened ≡ true → Running self.now }
+        ensures blank { self.now.opened ≡ false → IsBlank self.now }
+    {
+        let _ = &self.setup;
     }
 }

@@ -106,12 +106,20 @@ impl<'a> Port for PlainPort<'a> {
         ensures next { (self.new.seat ≡ self.old.seat) × (self.new.refuse ≡ false) × (self.new.list ≡ false) }
     {
         if self.refuse {
-            self.fail(Act::Exchange { word, expected, new, old: 0 });
+            self.fail(Act::Exchange {
+                word,
+                expected,
+                new,
+                old: 0,
+            });
             return Err(Failed);
         }
         let list = self.list;
         self.list = false;
-        Ok(self.pool.exchange::<M>(self.seat, list, word, expected, new))
+        Ok(
+            self.pool
+                .exchange::<M>(self.seat, list, word, expected, new),
+        )
     }
 
     fn raise<M: StepName>(&mut self, word: Word, value: u64) -> Result<u64, Failed>
@@ -128,7 +136,11 @@ impl<'a> Port for PlainPort<'a> {
         ensures next { (self.new.seat ≡ self.old.seat) × (self.new.refuse ≡ false) × (self.new.list ≡ false) }
     {
         if self.refuse {
-            self.fail(Act::Raise { word, value, old: 0 });
+            self.fail(Act::Raise {
+                word,
+                value,
+                old: 0,
+            });
             return Err(Failed);
         }
         let list = self.list;

@@ -8,7 +8,7 @@ ghost use Rattle.clover_plain.specs.Kept.{AllFit, views_of};
 use atomic_table::{Play, Seat, Table, TableRule};
 use clover_map::Key;
 use clover_rule::View;
-use clover_words::{Setup, Word, Side};
+use clover_words::{Setup, Side, Word};
 use std::alloc::Global;
 use std::collections::LinkedList;
 use std::marker::{Brand, PhantomData};

@@ -30,9 +30,22 @@ fn take_apart(access: Access) {
     }
     match act {
         Act::Load { word: _, got: _ } => {}
-        Act::Store { word: _, side: _, value: _ } => {}
-        Act::Exchange { word: _, expected: _, new: _, old: _ } => {}
-        Act::Raise { word: _, value: _, old: _ } => {}
+        Act::Store {
+            word: _,
+            side: _,
+            value: _,
+        } => {}
+        Act::Exchange {
+            word: _,
+            expected: _,
+            new: _,
+            old: _,
+        } => {}
+        Act::Raise {
+            word: _,
+            value: _,
+            old: _,
+        } => {}
     }
 }
 

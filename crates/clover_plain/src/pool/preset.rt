@@ -18,7 +18,9 @@ use crate::seats::{Knowing, begin, deal_view};
 use atomic_table::Seat;
 use clover_map::Key;
 use clover_rule::View;
-use clover_words::{Kind, Meta, Setup, Tag, Word, pack, root_encode, tombstone as tombstone_buffer};
+use clover_words::{
+    Kind, Meta, Setup, Tag, Word, pack, root_encode, tombstone as tombstone_buffer,
+};
 use std::marker::Brand;
 
 impl PlainPool {
@@ -87,14 +89,27 @@ fn preset_number(setup: &Setup, keys: &[Key], word: Word) -> u64
     match word {
         Word::Next(_) | Word::Value(_, _) | Word::Short(_) => 0,
         Word::Meta(buffer) => {
-            let number = u64::from(buffer.node) * u64::from(setup.pool.buffers) + u64::from(buffer.index);
-            if setup.pool.total() - 1 - number < keys.len() as u64 { tombstone_word() } else { 0 }
+            let number = u64::from(buffer.node) * u64::from(setup.pool.buffers)
+                + u64::from(buffer.index);
+            if setup.pool.total() - 1 - number < keys.len() as u64 {
+                tombstone_word()
+            } else {
+                0
+            }
         }
         Word::Root(slot) => {
-            if (slot as usize) < keys.len() { root_word_of(setup, slot) } else { 0 }
+            if (slot as usize) < keys.len() {
+                root_word_of(setup, slot)
+            } else {
+                0
+            }
         }
         Word::Key(slot, k) => {
-            if (slot as usize) < keys.len() { key_word_of(&keys[slot as usize], k) } else { 0 }
+            if (slot as usize) < keys.len() {
+                key_word_of(&keys[slot as usize], k)
+            } else {
+                0
+            }
         }
         Word::Count => keys.len() as u64,
     }
@@ -129,7 +144,11 @@ fn key_word_of(key: &Key, k: u32) -> u64
     ensures { result ≡ or_zero (nth (spelling key.now) k) }
 {
     let words = (8 + key.bytes().len()) / 8;
-    if (k as usize) < words { spelled_word(key, k) } else { 0 }
+    if (k as usize) < words {
+        spelled_word(key, k)
+    } else {
+        0
+    }
 }
 
 // A word of the bytes that spell a key: its length, and its own bytes.

@@ -27,7 +27,15 @@ impl PlainPool {
     {
         let at = place_of(&self.setup, &self.words, word, Side::Current);
         let found = load_at(&self.words, at);
-        set_view::<Brand>(&self.knowing, &mut self.seats, seat, word, Side::Current, 0, found);
+        set_view::<Brand>(
+            &self.knowing,
+            &mut self.seats,
+            seat,
+            word,
+            Side::Current,
+            0,
+            found,
+        );
         self.made = self.made.saturating_add(1);
         self.whole &= list;
         let listed = self.traced & list;
@@ -44,7 +52,14 @@ impl PlainPool {
     }
 
     /// The access that writes one copy of a word. It gives the number that stood there.
-    pub(crate) fn store<M: StepName>(&mut self, seat: usize, list: bool, word: Word, side: Side, value: u64) -> u64
+    pub(crate) fn store<M: StepName>(
+        &mut self,
+        seat: usize,
+        list: bool,
+        word: Word,
+        side: Side,
+        value: u64,
+    ) -> u64
         requires seat { seat < length self.old.views }
         requires opened { self.old.opened ≡ true }
         requires room { (self.old.traced && list) ≡ true → 1 ≤ self.old.access_room }
@@ -55,7 +70,15 @@ impl PlainPool {
     {
         let at = place_of(&self.setup, &self.words, word, side);
         let found = store_at(&mut self.words, at, value);
-        set_view::<Brand>(&self.knowing, &mut self.seats, seat, word, side, value, found);
+        set_view::<Brand>(
+            &self.knowing,
+            &mut self.seats,
+            seat,
+            word,
+            side,
+            value,
+            found,
+        );
         self.made = self.made.saturating_add(1);
         self.whole &= list;
         let listed = self.traced & list;
@@ -72,7 +95,14 @@ impl PlainPool {
     }
 
     /// The access that writes a word where the expected number stands.
-    pub(crate) fn exchange<M: StepName>(&mut self, seat: usize, list: bool, word: Word, expected: u64, new: u64) -> u64
+    pub(crate) fn exchange<M: StepName>(
+        &mut self,
+        seat: usize,
+        list: bool,
+        word: Word,
+        expected: u64,
+        new: u64,
+    ) -> u64
         requires seat { seat < length self.old.views }
         requires opened { self.old.opened ≡ true }
         requires room { (self.old.traced && list) ≡ true → 1 ≤ self.old.access_room }
@@ -83,7 +113,15 @@ impl PlainPool {
     {
         let at = place_of(&self.setup, &self.words, word, Side::Current);
         let found = exchange_at(&mut self.words, at, expected, new);
-        set_view::<Brand>(&self.knowing, &mut self.seats, seat, word, Side::Current, new, found);
+        set_view::<Brand>(
+            &self.knowing,
+            &mut self.seats,
+            seat,
+            word,
+            Side::Current,
+            new,
+            found,
+        );
         self.made = self.made.saturating_add(1);
         self.whole &= list;
         let listed = self.traced & list;
@@ -92,7 +130,12 @@ impl PlainPool {
             listed,
             Access {
                 actor: Actor::Client(seat as u32 + 1),
-                act: Act::Exchange { word, expected, new, old: found },
+                act: Act::Exchange {
+                    word,
+                    expected,
+                    new,
+                    old: found,
+                },
                 refused: false,
             },
         );
@@ -100,7 +143,13 @@ impl PlainPool {
     }
 
     /// The access that raises the flushed copy of a word.
-    pub(crate) fn raise<M: StepName>(&mut self, seat: usize, list: bool, word: Word, value: u64) -> u64
+    pub(crate) fn raise<M: StepName>(
+        &mut self,
+        seat: usize,
+        list: bool,
+        word: Word,
+        value: u64,
+    ) -> u64
         requires seat { seat < length self.old.views }
         requires opened { self.old.opened ≡ true }
         requires room { (self.old.traced && list) ≡ true → 1 ≤ self.old.access_room }
@@ -111,7 +160,15 @@ impl PlainPool {
     {
         let at = place_of(&self.setup, &self.words, word, Side::Flushed);
         let found = raise_at(&mut self.words, at, value);
-        set_view::<Brand>(&self.knowing, &mut self.seats, seat, word, Side::Flushed, value, found);
+        set_view::<Brand>(
+            &self.knowing,
+            &mut self.seats,
+            seat,
+            word,
+            Side::Flushed,
+            value,
+            found,
+        );
         self.made = self.made.saturating_add(1);
         self.whole &= list;
         let listed = self.traced & list;
@@ -120,7 +177,11 @@ impl PlainPool {
             listed,
             Access {
                 actor: Actor::Client(seat as u32 + 1),
-                act: Act::Raise { word, value, old: found },
+                act: Act::Raise {
+                    word,
+                    value,
+                    old: found,
+                },
                 refused: false,
             },
         );

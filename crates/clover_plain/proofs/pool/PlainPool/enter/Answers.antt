@@ -13,7 +13,7 @@ invariant_of-self c =
     let n : c.push.new.self.items ≡ c.self.inside.entries.items ++ c.args.entry ∷ [] = c.in-Ok.ensures.items in
     record {
       stands = subst (λ (t : Bool). Stands t (meaning record { setup = c.self.inside.setup; words = c.self.inside.words; seats = c.self.inside.seats; knowing = c.self.inside.knowing; begun = c.self.inside.begun; beginning = c.self.inside.beginning; entries = c.push.new.self; traced = c.self.inside.traced; trace = c.self.inside.trace; made = c.self.inside.made; opened = c.self.inside.opened; whole = c.self.inside.whole })) (sym b)
-          (record { rule = r.rule; entered = ([], e ∙ sym n ∙ sym (append-nil c.push.new.self.items)); story = r.story; roles = r.roles });
+          (record { rule = r.rule; entered = ([], e ∙ sym n ∙ sym (append-nil c.push.new.self.items)); story = r.story; untraced = r.untraced; roles = r.roles });
       sized = c.self.invariant.sized;
       seated = c.self.invariant.seated;
       seats = c.self.invariant.seats;

@@ -45,6 +45,7 @@ running c = record {
   rule = subst (λ (h : List Entry). Rule c.self.inside.setup.pool finite.empty [] c.fill.new.words.items (then c).views h) (sym (no_history c)) (rule c);
   entered = subst (λ (l : List Entry). IsPrefix l (history (then c))) (sym (blank c).entries) (history (then c), refl);
   story = ([], record { replays = tt; ends = c.begin.ensures.words; count = (blank c).made }, λ t w. sym (blank c).accesses);
+  untraced = λ t. (blank c).accesses;
   roles = λ i v e. ap (λ (u : View). u.pass.role) (c.deal_views.ensures.views i v e);
 }
 

@@ -10,7 +10,7 @@ abbrev pub invariant-loop-seat : goal.invariant-loop-seat
 invariant-loop-seat l = record {
   fits : AllFit l.knowing.shared.table_id l.seats.items;
   long : length l.seats.items ≡ length l.initial.seats.items;
-  dealt : (i : ℕ) (v : View) → nth (views_of l.seats.items) i ≡ Some v → i < l.seat → v ≡ start_view l.setup l.keys i
+  dealt : (i : ℕ) (v : View) → nth (views_of l.seats.items) i ≡ Some v → i < l.seat → v ≡ start_view l.setup l.keys i;
 }
 
 abbrev pub ghosts-deal_view : goal.ghosts-deal_view
