@@ -1,5 +1,7 @@
 pub mod Calling
 pub mod Codes
+pub mod Endings
 pub mod Naming
 pub mod Promises
 pub mod Shown
+pub mod Tailing

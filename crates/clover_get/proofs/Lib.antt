@@ -1,0 +1,5 @@
+pub mod Begins
+pub mod Copies
+pub mod Counting
+pub mod Ends
+pub mod Walks
