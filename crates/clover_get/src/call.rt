@@ -1,16 +1,13 @@
 // A get: where it stands, and how it goes on.
-ghost use Rattle.std.specs.Prelude.{◌≡◌, ◌≢◌, ◌≤◌, ◌<◌, ◌*◌, ℕ, Option, Some, IfSome, length};
+ghost use Rattle.std.specs.Prelude.{◌≡◌, ◌≤◌, ◌<◌, ℕ, Option, Some, IfSome, length};
 ghost use Rattle.clover_words.specs.Meta.{MetaParts};
 ghost use Rattle.clover_words.specs.Tag.{tag_number};
-ghost use Rattle.clover_rule.specs.Content.{InRange};
-ghost use Rattle.clover_rule.specs.Steps.{unlinked};
 ghost use Rattle.clover_port.specs.Told.{Rose};
-ghost use Rattle.clover_walk.specs.Standing.{number_of};
 ghost use Rattle.clover_walk.specs.Turning.{Answers, OnReached as WalkReached, OnUnreached as WalkUnreached};
 ghost use Rattle.clover_walk.specs.Walking.{ShowsNext, goes_on, budget};
 ghost use Rattle.clover_get.specs.Answering.{OnReached, OnUnreached, OnGoing, OnOver, OnAhead, IfFound, IfAbsent, IfBehind, ExactGet};
 ghost use Rattle.clover_get.specs.Copying.{FoundAt};
-ghost use Rattle.clover_get.specs.Getting.{Seeking, AtMeta, AtValue, AtFound, AtDead, AtBad, Over, IsOpen, Reads, getting, made_get, read_stage, valued, sought, value_in};
+ghost use Rattle.clover_get.specs.Getting.{Seeking, AtMeta, AtValue, AtFound, AtDead, AtBad, Over, IsOpen, Reads, getting, read_stage, valued, sought, value_in};
 ghost use Rattle.clover_get.specs.Going.{OneAccess, AbsentAt, Went, Follows, answer_of, key_of, most_accesses};
 ghost use Rattle.clover_get.specs.Holding.{GetHolds};
 ghost use Rattle.clover_get.specs.Standing.{standing};
@@ -49,16 +46,14 @@ impl Model for GetCall {
 }
 
 impl GetCall {
-    /// A get of the key of a bound slot. Its walk begins at the cursor where there is one, and else at the slot's root.
-    pub fn make(pool: Pool, slot: u32, cursor: Option<Tag>) -> GetCall
-        requires slot { slot < pool.slots }
-        requires cursor { IfSome cursor (λ tag. InRange pool (tag_number tag)) }
-        ensures value { result ≡ made_get pool slot (number_of cursor) }
+    /// A get of the key that the walk's slot binds. The walk has made no step yet.
+    pub fn make(walk: Walk) -> GetCall
+        ensures value { result ≡ getting walk Seeking }
     {
         GetCall {
-            pool,
-            slot,
-            walk: Walk::make(pool, slot, cursor),
+            pool: walk.pool(),
+            slot: walk.slot(),
+            walk,
             stage: Stage::Seeking,
         }
     }
