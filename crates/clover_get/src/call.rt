@@ -27,8 +27,6 @@ use std::marker::{Brand, Model};
 /// of the key at that moment. Else the call goes on along the chain as after any load of that word.
 #[derive(Drop)]
 pub struct GetCall {
-    pool: Pool,
-    slot: u32,
     walk: Walk,
     stage: Stage,
 }
@@ -38,11 +36,9 @@ impl Model for GetCall {
 
     ghost Value = { Getting };
 
-    ghost use Rattle.clover_get.specs.Kept.{meaning, IsKept};
+    ghost use Rattle.clover_get.specs.Kept.{meaning};
 
     ghost view = { meaning };
-
-    ghost invariant = { IsKept };
 }
 
 impl GetCall {
@@ -51,8 +47,6 @@ impl GetCall {
         ensures value { result ≡ getting walk Seeking }
     {
         GetCall {
-            pool: walk.pool(),
-            slot: walk.slot(),
             walk,
             stage: Stage::Seeking,
         }
@@ -139,7 +133,7 @@ impl GetCall {
         ensures kept { OnReached result (P.faults port.new ≡ P.faults port.old) }
         ensures exact { ExactGet (P.refuses port.old) result }
     {
-        match load_content::<P, Brand>(port, false, self.slot, tag, 0) {
+        match load_content::<P, Brand>(port, false, self.walk.slot(), tag, 0) {
             Ok(word) => {
                 self.take_meta(tag, word, into);
                 GetTurn::More
@@ -166,7 +160,7 @@ impl GetCall {
         ensures kept { OnReached result (P.faults port.new ≡ P.faults port.old) }
         ensures exact { ExactGet (P.refuses port.old) result }
     {
-        match load_content::<P, Brand>(port, false, self.slot, tag, next + 1) {
+        match load_content::<P, Brand>(port, false, self.walk.slot(), tag, next + 1) {
             Ok(word) => {
                 unpack(word, next, into);
                 self.stage = value_stage(tag, flags, into.length, next + 1);
@@ -193,7 +187,7 @@ impl GetCall {
         ensures kept { OnReached result (P.faults port.new ≡ P.faults port.old) }
         ensures exact { ExactGet (P.refuses port.old) result }
     {
-        match load_found::<P, Brand>(port, self.slot, tag, flags, into) {
+        match load_found::<P, Brand>(port, self.walk.slot(), tag, flags, into) {
             Ok(word) => {
                 if shows_unlinked(tag, word) {
                     self.stage = Stage::Over;
@@ -218,7 +212,7 @@ impl GetCall {
         ensures exact { ExactGet (P.refuses port.old) result }
     {
         let _ = into.length;
-        match load_dead::<P, Brand>(port, self.slot, tag) {
+        match load_dead::<P, Brand>(port, self.walk.slot(), tag) {
             Ok(word) => {
                 if shows_unlinked(tag, word) {
                     self.stage = Stage::Over;
@@ -243,7 +237,7 @@ impl GetCall {
         ensures exact { ExactGet (P.refuses port.old) result }
     {
         let _ = into.length;
-        match load_next::<P, Brand>(port, false, self.slot, tag) {
+        match load_next::<P, Brand>(port, false, self.walk.slot(), tag) {
             Ok(word) => self.go_on(port, word),
             Err(_) => GetTurn::Unreached,
         }
@@ -293,7 +287,7 @@ impl GetCall {
         self.stage = match Meta::decode(word) {
             Some(meta) => {
                 into.length = meta.length;
-                meta_stage(&self.pool, tag, meta)
+                meta_stage(&self.walk.pool(), tag, meta)
             }
             None => Stage::AtBad(tag),
         };
