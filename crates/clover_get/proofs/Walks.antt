@@ -1,7 +1,7 @@
 -- What a step of a get says where its walk went on: by a step of its own, or by a last load that missed.
 use Prim.Native.Nat.{suc}
 use Rattle.std.proofs.Common.{◌≡◌, ◌≢◌, ℕ, ◌+◌, ◌*◌, ◌<◌, ◌≤◌, List, [], length, Bool, false, cond, refl, sym, ap, ◌∙◌, subst, ne_eqb, arith}
-use Rattle.std.specs.Prelude.{Option}
+use Rattle.std.specs.Prelude.{◌↔◌, Option}
 use Rattle.clover_words.specs.declared.bytes.ValueBuf.{ValueBuf}
 use Rattle.clover_words.specs.declared.pool.Pool.{Pool}
 use Rattle.clover_words.specs.Tag.{tag_number}
@@ -14,7 +14,7 @@ use Rattle.clover_rule.specs.Words.{next_of, next_code}
 use Rattle.clover_rule.specs.declared.access.Act.{Act}
 use Rattle.clover_rule.specs.declared.view.View.{View}
 use Rattle.clover_rule.proofs.Steps.{each_within}
-use Rattle.clover_walk.specs.Turning.{Answers, OnReached as WalkReached, OnUnreached as WalkUnreached, OnGoing as OnWalking, IfBehind as IfWalkBehind, OnAhead as OnWalkAhead}
+use Rattle.clover_walk.specs.Turning.{Answers, OnReached as WalkReached, OnUnreached as WalkUnreached, OnGoing as OnWalking, IfBehind as IfWalkBehind, OnAhead as OnWalkAhead, IsAtTail, ShowsTail}
 use Rattle.clover_walk.specs.Walking.{Walking, Stand, AtRoot, AtTag, AtLink, OnTail, Ended, IsOnWay, StandsOn as WalkStandsOn, Holds, walk_step, step_at, goes_on, key_at, budget}
 use Rattle.clover_walk.specs.declared.turn.Turn.{Turn}
 use Rattle.clover_walk.specs.declared.turn.Turn.TheVariants.{More as WalksOn, AtTail, Behind as WalkBehind, Unreached as Refused}
@@ -132,13 +132,13 @@ module _ (p : Pool) (f f1 : ℕ) (w : Walking) (into : ValueBuf) (v : View) (o :
       let ge : g1 ≡ getting w Seeking = still ∙ ap (λ (z : Walking). getting z Seeking) we in
       record { made = tt; found = tt; absent = tt; behind = tt; ahead = tt; unreached = (rose, ve, oe, ge, refl); stands = subst (λ (z : Getting). GetHolds z v1 into) (sym ge) (subst (λ (z : View). GetHolds (getting w Seeking) z into) (sym ve) holds); ends = tt; bound = tt }
 
-  pub seek_went : (turn : Turn) (w1 : Walking) → WalkReached turn ((x : ℕ) × Made p (walk_step w) w.first v o x v1 o1 × (w1 ≡ goes_on w x)) → WalkReached turn (Answers w1 turn)
+  pub seek_went : (turn : Turn) (w1 : Walking) → WalkReached turn ((x : ℕ) × Made p (walk_step w) w.first v o x v1 o1 × (w1 ≡ goes_on w x) × (IsAtTail turn ↔ ShowsTail w.stand x)) → WalkReached turn (Answers w1 turn)
       → IfWalkBehind turn (λ (n : ℕ). (n ≡ budget w.pool) × (v1.pass.turns ≡ budget w.pool)) → OnWalkAhead turn (v1.pass.turns < budget w.pool)
       → WalkUnreached turn (Rose f f1 × (v1 ≡ v) × (o1 ≡ o) × (w1 ≡ w)) → OnWalking turn (Holds w1 v1)
       → (g1 : Getting) → WalkReached turn (g1 ≡ sought w1) → WalkUnreached turn (g1 ≡ getting w1 Seeking) → Went p f f1 (getting w Seeking) g1 into into v o v1 o1 (answer_of turn)
-  seek_went WalksOn w1 (x, made, e) a b c d h g1 value still = walk_made WalksOn x w1 made e a h b c g1 value
-  seek_went (AtTail t) w1 (x, made, e) a b c d h g1 value still = walk_made (AtTail t) x w1 made e a h b c g1 value
-  seek_went (WalkBehind n) w1 (x, made, e) a b c d h g1 value still = walk_made (WalkBehind n) x w1 made e a h b c g1 value
+  seek_went WalksOn w1 (x, made, e, q) a b c d h g1 value still = walk_made WalksOn x w1 made e a h b c g1 value
+  seek_went (AtTail t) w1 (x, made, e, q) a b c d h g1 value still = walk_made (AtTail t) x w1 made e a h b c g1 value
+  seek_went (WalkBehind n) w1 (x, made, e, q) a b c d h g1 value still = walk_made (WalkBehind n) x w1 made e a h b c g1 value
   seek_went Refused w1 m a b c d h g1 value still = walk_refused w1 d.0 d.1 d.2 d.3 g1 still
 
 module _ (p : Pool) (f f1 : ℕ) (w : Walking) (t : ℕ) (into : ValueBuf) (v : View) (o : Option Open) (x : ℕ) (v1 : View) (o1 : Option Open) (of : p ≡ w.pool) where

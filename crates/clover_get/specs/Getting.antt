@@ -11,7 +11,7 @@ use Rattle.clover_map.specs.declared.bytes.Value.{Value}
 use Rattle.clover_map.specs.declared.call.Call.TheVariants.{Get}
 use Rattle.clover_map.specs.declared.call.Reply.TheVariants.{Found, Absent}
 use Rattle.clover_rule.specs.Steps.{Step, LoadNext, DecideNext, LoadContent, unlinked}
-use Rattle.clover_walk.specs.Walking.{Walking, Stand as Standing, OnTail, Ended, made_walk, walk_step, goes_on}
+use Rattle.clover_walk.specs.Walking.{Walking, Stand as Standing, OnTail, Ended, walk_step, goes_on}
 
 -- where a get stands: on its walk, at the tail's meta word, at a value word of the tail, at the last load for a value or for a tombstone, at a tag whose meta word was no version's, or at its end
 pub data Stage : Type 0 where
@@ -30,10 +30,6 @@ pub record Getting : Type 0 where
 
 abbrev pub getting : Walking → Stage → Getting
 getting w s = record { walk = w; stage = s }
-
--- the get as it is made
-abbrev pub made_get : Pool → ℕ → Option ℕ → Getting
-made_get p s cursor = getting (made_walk p s cursor) Seeking
 
 -- it has more accesses to make
 abbrev pub IsOpen : Stage → Type 0

@@ -1,16 +1,13 @@
 // A get: where it stands, and how it goes on.
-ghost use Rattle.std.specs.Prelude.{◌≡◌, ◌≢◌, ◌≤◌, ◌<◌, ◌*◌, ℕ, Option, Some, IfSome, length};
+ghost use Rattle.std.specs.Prelude.{◌≡◌, ◌≤◌, ◌<◌, ℕ, Option, Some, IfSome, length};
 ghost use Rattle.clover_words.specs.Meta.{MetaParts};
 ghost use Rattle.clover_words.specs.Tag.{tag_number};
-ghost use Rattle.clover_rule.specs.Content.{InRange};
-ghost use Rattle.clover_rule.specs.Steps.{unlinked};
 ghost use Rattle.clover_port.specs.Told.{Rose};
-ghost use Rattle.clover_walk.specs.Standing.{number_of};
 ghost use Rattle.clover_walk.specs.Turning.{Answers, OnReached as WalkReached, OnUnreached as WalkUnreached};
 ghost use Rattle.clover_walk.specs.Walking.{ShowsNext, goes_on, budget};
 ghost use Rattle.clover_get.specs.Answering.{OnReached, OnUnreached, OnGoing, OnOver, OnAhead, IfFound, IfAbsent, IfBehind, ExactGet};
 ghost use Rattle.clover_get.specs.Copying.{FoundAt};
-ghost use Rattle.clover_get.specs.Getting.{Seeking, AtMeta, AtValue, AtFound, AtDead, AtBad, Over, IsOpen, Reads, getting, made_get, read_stage, valued, sought, value_in};
+ghost use Rattle.clover_get.specs.Getting.{Seeking, AtMeta, AtValue, AtFound, AtDead, AtBad, Over, IsOpen, Reads, getting, read_stage, valued, sought, value_in};
 ghost use Rattle.clover_get.specs.Going.{OneAccess, AbsentAt, Went, Follows, answer_of, key_of, most_accesses};
 ghost use Rattle.clover_get.specs.Holding.{GetHolds};
 ghost use Rattle.clover_get.specs.Standing.{standing};
@@ -30,8 +27,6 @@ use std::marker::{Brand, Model};
 /// of the key at that moment. Else the call goes on along the chain as after any load of that word.
 #[derive(Drop)]
 pub struct GetCall {
-    pool: Pool,
-    slot: u32,
     walk: Walk,
     stage: Stage,
 }
@@ -41,24 +36,18 @@ impl Model for GetCall {
 
     ghost Value = { Getting };
 
-    ghost use Rattle.clover_get.specs.Kept.{meaning, IsKept};
+    ghost use Rattle.clover_get.specs.Kept.{meaning};
 
     ghost view = { meaning };
-
-    ghost invariant = { IsKept };
 }
 
 impl GetCall {
-    /// A get of the key of a bound slot. Its walk begins at the cursor where there is one, and else at the slot's root.
-    pub fn make(pool: Pool, slot: u32, cursor: Option<Tag>) -> GetCall
-        requires slot { slot < pool.slots }
-        requires cursor { IfSome cursor (λ tag. InRange pool (tag_number tag)) }
-        ensures value { result ≡ made_get pool slot (number_of cursor) }
+    /// A get of the key that the walk's slot binds. The walk has made no step yet.
+    pub fn make(walk: Walk) -> GetCall
+        ensures value { result ≡ getting walk Seeking }
     {
         GetCall {
-            pool,
-            slot,
-            walk: Walk::make(pool, slot, cursor),
+            walk,
             stage: Stage::Seeking,
         }
     }
@@ -144,7 +133,7 @@ impl GetCall {
         ensures kept { OnReached result (P.faults port.new ≡ P.faults port.old) }
         ensures exact { ExactGet (P.refuses port.old) result }
     {
-        match load_content::<P, Brand>(port, false, self.slot, tag, 0) {
+        match load_content::<P, Brand>(port, false, self.walk.slot(), tag, 0) {
             Ok(word) => {
                 self.take_meta(tag, word, into);
                 GetTurn::More
@@ -171,7 +160,7 @@ impl GetCall {
         ensures kept { OnReached result (P.faults port.new ≡ P.faults port.old) }
         ensures exact { ExactGet (P.refuses port.old) result }
     {
-        match load_content::<P, Brand>(port, false, self.slot, tag, next + 1) {
+        match load_content::<P, Brand>(port, false, self.walk.slot(), tag, next + 1) {
             Ok(word) => {
                 unpack(word, next, into);
                 self.stage = value_stage(tag, flags, into.length, next + 1);
@@ -198,7 +187,7 @@ impl GetCall {
         ensures kept { OnReached result (P.faults port.new ≡ P.faults port.old) }
         ensures exact { ExactGet (P.refuses port.old) result }
     {
-        match load_found::<P, Brand>(port, self.slot, tag, flags, into) {
+        match load_found::<P, Brand>(port, self.walk.slot(), tag, flags, into) {
             Ok(word) => {
                 if shows_unlinked(tag, word) {
                     self.stage = Stage::Over;
@@ -223,7 +212,7 @@ impl GetCall {
         ensures exact { ExactGet (P.refuses port.old) result }
     {
         let _ = into.length;
-        match load_dead::<P, Brand>(port, self.slot, tag) {
+        match load_dead::<P, Brand>(port, self.walk.slot(), tag) {
             Ok(word) => {
                 if shows_unlinked(tag, word) {
                     self.stage = Stage::Over;
@@ -248,7 +237,7 @@ impl GetCall {
         ensures exact { ExactGet (P.refuses port.old) result }
     {
         let _ = into.length;
-        match load_next::<P, Brand>(port, false, self.slot, tag) {
+        match load_next::<P, Brand>(port, false, self.walk.slot(), tag) {
             Ok(word) => self.go_on(port, word),
             Err(_) => GetTurn::Unreached,
         }
@@ -298,7 +287,7 @@ impl GetCall {
         self.stage = match Meta::decode(word) {
             Some(meta) => {
                 into.length = meta.length;
-                meta_stage(&self.pool, tag, meta)
+                meta_stage(&self.walk.pool(), tag, meta)
             }
             None => Stage::AtBad(tag),
         };

@@ -25,7 +25,7 @@ go_on-requires-clause-shows g c =
     let v1 = g.P.Port.view c.load_dead.new.port in
     let o1 = g.P.Port.told c.load_dead.new.port in
     let into = c.args.into.now in
-    let slot : z.walk.slot ≡ c.self.inside.slot = ap (λ (y : Getting). y.walk.slot) (sym c.self.view_is) ∙ c.self.invariant.slot in
+    let slot : z.walk.slot ≡ c.slot.result = ap (λ (y : Getting). y.walk.slot) (sym c.self.view_is) ∙ sym c.slot.ensures.value in
     let made = subst (λ (s : ℕ). Made p (DecideNext s t (Get (key_at v.pass.names s)) (Absent)) false v o c.in-Ok.word v1 o1) (sym slot) c.in-Ok.ensures.made in
     let holds = restaged (λ (y : Getting). GetHolds y v into) z (AtDead t) c.requires.at c.requires.holds in
     let differs : c.in-Ok.word ≢ unlinked t = λ e. (let q = c.shows_unlinked.ensures.1 e in let n = c.if-shows_unlinked.false in absurd cc) in
@@ -44,7 +44,7 @@ returns-then-shows_unlinked-clause-went g c =
     let v1 = g.P.Port.view c.load_dead.new.port in
     let o1 = g.P.Port.told c.load_dead.new.port in
     let into = c.args.into.now in
-    let slot : z.walk.slot ≡ c.self.inside.slot = ap (λ (y : Getting). y.walk.slot) (sym c.self.view_is) ∙ c.self.invariant.slot in
+    let slot : z.walk.slot ≡ c.slot.result = ap (λ (y : Getting). y.walk.slot) (sym c.self.view_is) ∙ sym c.slot.ensures.value in
     let made = subst (λ (s : ℕ). Made p (DecideNext s t (Get (key_at v.pass.names s)) (Absent)) false v o c.in-Ok.word v1 o1) (sym slot) c.in-Ok.ensures.made in
     let holds = restaged (λ (y : Getting). GetHolds y v into) z (AtDead t) c.requires.at c.requires.holds in
     let value : z1 ≡ getting z.walk Over = ap (λ (y : Getting). getting y.walk Over) c.self.view_is in
@@ -65,7 +65,7 @@ returns-else-shows_unlinked-clause-went g c =
     let o1 = g.P.Port.told c.load_dead.new.port in
     let into = c.args.into.now in
     let r = c.go_on.result in
-    let slot : z.walk.slot ≡ c.self.inside.slot = ap (λ (y : Getting). y.walk.slot) (sym c.self.view_is) ∙ c.self.invariant.slot in
+    let slot : z.walk.slot ≡ c.slot.result = ap (λ (y : Getting). y.walk.slot) (sym c.self.view_is) ∙ sym c.slot.ensures.value in
     let made = subst (λ (s : ℕ). Made p (DecideNext s t (Get (key_at v.pass.names s)) (Absent)) false v o c.in-Ok.word v1 o1) (sym slot) c.in-Ok.ensures.made in
     let holds = restaged (λ (y : Getting). GetHolds y v into) z (AtDead t) c.requires.at c.requires.holds in
     let differs : c.in-Ok.word ≢ unlinked t = λ e. (let q = c.shows_unlinked.ensures.1 e in let n = c.if-shows_unlinked.false in absurd cc) in

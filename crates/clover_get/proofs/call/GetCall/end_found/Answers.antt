@@ -23,7 +23,7 @@ load_found-requires-clause-rule g c =
     let t = tag_number c.args.tag in
     let v = g.P.Port.view c.args.port.now in
     let into = c.args.into.now in
-    let slot : z.walk.slot ≡ c.self.inside.slot = ap (λ (y : Getting). y.walk.slot) (sym c.self.view_is) ∙ c.self.invariant.slot in
+    let slot : z.walk.slot ≡ c.slot.result = ap (λ (y : Getting). y.walk.slot) (sym c.self.view_is) ∙ sym c.slot.ensures.value in
     let holds = restaged (λ (y : Getting). GetHolds y v into) z (AtFound t c.args.flags) c.requires.at c.requires.holds in
     subst (λ (s : ℕ). Asks p (DecideNext s t (Get (key_at v.pass.names s)) (Found t (value_in c.args.flags into))) v) slot
     (asks_found p z.walk t v c.requires.pool holds.walk holds.stage.0 c.args.flags into holds.stage.1)
@@ -38,7 +38,7 @@ go_on-requires-clause-shows g c =
     let v1 = g.P.Port.view c.load_found.new.port in
     let o1 = g.P.Port.told c.load_found.new.port in
     let into = c.args.into.now in
-    let slot : z.walk.slot ≡ c.self.inside.slot = ap (λ (y : Getting). y.walk.slot) (sym c.self.view_is) ∙ c.self.invariant.slot in
+    let slot : z.walk.slot ≡ c.slot.result = ap (λ (y : Getting). y.walk.slot) (sym c.self.view_is) ∙ sym c.slot.ensures.value in
     let made = subst (λ (s : ℕ). Made p (DecideNext s t (Get (key_at v.pass.names s)) (Found t (value_in c.args.flags into))) false v o c.in-Ok.word v1 o1) (sym slot) c.in-Ok.ensures.made in
     let holds = restaged (λ (y : Getting). GetHolds y v into) z (AtFound t c.args.flags) c.requires.at c.requires.holds in
     let differs : c.in-Ok.word ≢ unlinked t = λ e. (let q = c.shows_unlinked.ensures.1 e in let n = c.if-shows_unlinked.false in absurd cc) in
@@ -57,7 +57,7 @@ returns-then-shows_unlinked-clause-went g c =
     let v1 = g.P.Port.view c.load_found.new.port in
     let o1 = g.P.Port.told c.load_found.new.port in
     let into = c.args.into.now in
-    let slot : z.walk.slot ≡ c.self.inside.slot = ap (λ (y : Getting). y.walk.slot) (sym c.self.view_is) ∙ c.self.invariant.slot in
+    let slot : z.walk.slot ≡ c.slot.result = ap (λ (y : Getting). y.walk.slot) (sym c.self.view_is) ∙ sym c.slot.ensures.value in
     let made = subst (λ (s : ℕ). Made p (DecideNext s t (Get (key_at v.pass.names s)) (Found t (value_in c.args.flags into))) false v o c.in-Ok.word v1 o1) (sym slot) c.in-Ok.ensures.made in
     let holds = restaged (λ (y : Getting). GetHolds y v into) z (AtFound t c.args.flags) c.requires.at c.requires.holds in
     let value : z1 ≡ getting z.walk Over = ap (λ (y : Getting). getting y.walk Over) c.self.view_is in
@@ -78,7 +78,7 @@ returns-else-shows_unlinked-clause-went g c =
     let o1 = g.P.Port.told c.load_found.new.port in
     let into = c.args.into.now in
     let r = c.go_on.result in
-    let slot : z.walk.slot ≡ c.self.inside.slot = ap (λ (y : Getting). y.walk.slot) (sym c.self.view_is) ∙ c.self.invariant.slot in
+    let slot : z.walk.slot ≡ c.slot.result = ap (λ (y : Getting). y.walk.slot) (sym c.self.view_is) ∙ sym c.slot.ensures.value in
     let made = subst (λ (s : ℕ). Made p (DecideNext s t (Get (key_at v.pass.names s)) (Found t (value_in c.args.flags into))) false v o c.in-Ok.word v1 o1) (sym slot) c.in-Ok.ensures.made in
     let holds = restaged (λ (y : Getting). GetHolds y v into) z (AtFound t c.args.flags) c.requires.at c.requires.holds in
     let differs : c.in-Ok.word ≢ unlinked t = λ e. (let q = c.shows_unlinked.ensures.1 e in let n = c.if-shows_unlinked.false in absurd cc) in

@@ -19,7 +19,7 @@ go_on-requires-clause-shows g c =
     let o = g.P.Port.told c.args.port.now in
     let v1 = g.P.Port.view c.load_next.new.port in
     let o1 = g.P.Port.told c.load_next.new.port in
-    let slot : z.walk.slot ≡ c.self.inside.slot = ap (λ (y : Getting). y.walk.slot) (sym c.self.view_is) ∙ c.self.invariant.slot in
+    let slot : z.walk.slot ≡ c.slot.result = ap (λ (y : Getting). y.walk.slot) (sym c.self.view_is) ∙ sym c.slot.ensures.value in
     let made = subst (λ (s : ℕ). Made p (LoadNext s t) false v o c.in-Ok.word v1 o1) (sym slot) c.in-Ok.ensures.made in
     let holds = restaged (λ (y : Getting). GetHolds y v c.args.into.now) z (AtBad t) c.requires.at c.requires.holds in
     shows_load z.walk t p v o c.in-Ok.word v1 o1 holds.walk holds.stage.0.0 holds.stage.0.1 c.requires.pool made
@@ -37,7 +37,7 @@ returns-in-Ok-clause-went g c =
     let o1 = g.P.Port.told c.load_next.new.port in
     let into = c.args.into.now in
     let r = c.go_on.result in
-    let slot : z.walk.slot ≡ c.self.inside.slot = ap (λ (y : Getting). y.walk.slot) (sym c.self.view_is) ∙ c.self.invariant.slot in
+    let slot : z.walk.slot ≡ c.slot.result = ap (λ (y : Getting). y.walk.slot) (sym c.self.view_is) ∙ sym c.slot.ensures.value in
     let made = subst (λ (s : ℕ). Made p (LoadNext s t) false v o c.in-Ok.word v1 o1) (sym slot) c.in-Ok.ensures.made in
     let holds = restaged (λ (y : Getting). GetHolds y v into) z (AtBad t) c.requires.at c.requires.holds in
     let follows = subst (λ y. Follows p z1.walk (g.P.Port.view y) r) c.go_on.ensures.port (subst (λ (q : Pool). Follows q z1.walk (g.P.Port.view c.go_on.new.port) r) c.in-Ok.ensures.same.0 c.go_on.ensures.follows) in

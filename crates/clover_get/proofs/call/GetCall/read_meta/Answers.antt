@@ -26,7 +26,7 @@ returns-in-Ok-clause-went g c =
     let into = c.args.into.now in
     let into1 = c.take_meta.new.into in
     let s = c.take_meta.ensures.stage in
-    let slot : z.walk.slot ≡ c.self.inside.slot = ap (λ (y : Getting). y.walk.slot) (sym c.self.view_is) ∙ c.self.invariant.slot in
+    let slot : z.walk.slot ≡ c.slot.result = ap (λ (y : Getting). y.walk.slot) (sym c.self.view_is) ∙ sym c.slot.ensures.value in
     let made = subst (λ (s : ℕ). Made p (LoadContent s t 0) false v o c.in-Ok.word v1 o1) (sym slot) c.in-Ok.ensures.made in
     let holds = restaged (λ (y : Getting). GetHolds y v into) z (AtMeta t) c.requires.at c.requires.holds in
     staged (λ (y : Getting). Went p f f1 y z1 into into1 v o v1 o1 More) z (AtMeta t) c.requires.at
