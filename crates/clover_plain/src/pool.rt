@@ -8,6 +8,8 @@ ghost use Rattle.clover_plain.specs.Kept.{AllFit, views_of};
 
 mod preset;
 mod steps;
+#[cfg(test)]
+mod tests;
 
 use crate::port::PlainPort;
 use crate::seats::{Becomes, Beginning, Begun, Knowing};

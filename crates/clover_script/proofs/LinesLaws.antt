@@ -94,11 +94,11 @@ opening_built s line enough e (second_opening h) = h
 opening_built s line enough e (too_many_keys h) = h
 opening_built s line enough e (too_many_taken h) = h
 
-calls_append : (xs ys : List Spoken) → flat_map calls_in (xs ++ ys) ≡ flat_map calls_in xs ++ flat_map calls_in ys
+pub calls_append : (xs ys : List Spoken) → flat_map calls_in (xs ++ ys) ≡ flat_map calls_in xs ++ flat_map calls_in ys
 calls_append [] ys = refl
 calls_append (x ∷ xs) ys = ap (λ (l : List Call). calls_in x ++ l) (calls_append xs ys) ∙ sym (append_assoc (calls_in x) (flat_map calls_in xs) (flat_map calls_in ys))
 
-taken_append : (c : ℕ) (xs ys : List Spoken) → taken c (xs ++ ys) ≡ taken c xs + taken c ys
+pub taken_append : (c : ℕ) (xs ys : List Spoken) → taken c (xs ++ ys) ≡ taken c xs + taken c ys
 taken_append c [] ys = omega arith
 taken_append c (x ∷ xs) ys = let r = taken_append c xs ys in omega (arith, r)
 
