@@ -27,7 +27,7 @@ use Rattle.clover_rule.proofs.Spelling.{short_enough}
 use Rattle.clover_rule.proofs.Steps.{within_prefix}
 use Rattle.clover_rule.proofs.Ties.{buffer_in, content_in}
 use Rattle.clover_walk.specs.Walking.{Walking, Stand, StandsOn as WalkStandsOn, Holds, key_at}
-use Rattle.clover_get.specs.Copying.{Copied, CopiedDead, CopiedBad, SawBytes, copy}
+use Rattle.clover_get.specs.Copying.{Copied, CopiedDead, CopiedBad, copy}
 use Rattle.clover_get.specs.Getting.{Reads, value_in}
 use Rattle.clover_get.specs.Holding.{IsAt}
 
@@ -98,15 +98,6 @@ module _ (p : Pool) (w : Walking) (t : ℕ) (v : View) (of : p ≡ w.pool) (hold
 
   pub asks_content : (j : ℕ) → j < 1 + p.words → Asks p (LoadContent w.slot t j) v
   asks_content j h = (content_in p (home t) j range_here.0 h, (holds.client, tail_known))
-
--- what the accesses of a get that has copied the whole value saw
-pub saw_bytes : (p : Pool) (s t f : ℕ) (v : View) (into : ValueBuf) → Copied p s t f (words_of into.length) v into → SawBytes t (value_in f into) v.pass.since
-saw_bytes p s t f v into c = record {
-  before = c.loads.before;
-  after = c.loads.after;
-  split = c.loads.split ∙ ap (λ (x : ℕ). c.loads.before ++ Load (Meta (buffer_at (home t))) x ∷ c.loads.after) (value_meta_is f into);
-  words = λ k h. (packed into.bytes k, value_unpacks f into k, c.loads.words k (subst (λ (n : ℕ). k < words_of n) (value_length f into) h));
-}
 
 -- one value word more
 module _ (p : Pool) (s t f j : ℕ) (v v1 : View) (into into1 : ValueBuf) (x : ℕ)

@@ -15,21 +15,23 @@ use Rattle.clover_map.specs.declared.call.Call.TheVariants.{Get}
 use Rattle.clover_map.specs.declared.call.Reply.{Reply}
 use Rattle.clover_map.specs.declared.call.Reply.TheVariants.{Found, Absent}
 use Rattle.clover_port.specs.Told.{Open, Made}
-use Rattle.clover_rule.specs.Accesses.{AtTail, SawDead}
+use Rattle.clover_rule.specs.Accesses.{AtTail, SawWhole, SawDead}
 use Rattle.clover_rule.specs.Lists.{Within}
 use Rattle.clover_rule.specs.Steps.{Step, LoadContent, DecideNext, number_of, unlinked}
+use Rattle.clover_rule.specs.Told.{AreOneVersion}
 use Rattle.clover_rule.specs.declared.view.Role.{Role}
 use Rattle.clover_rule.specs.declared.view.Role.TheVariants.{Client}
 use Rattle.clover_rule.specs.declared.view.View.{View}
 use Rattle.clover_walk.specs.Walking.{Walking, Stand, StandsOn as WalkStandsOn, Holds, goes_on, key_at, budget}
 use Rattle.clover_walk.proofs.Endings.{stepped, copied_one, at_tail}
 use Rattle.clover_get.specs.declared.turn.GetTurn.TheVariants.{More, Found as IsFound, Absent as IsAbsent}
-use Rattle.clover_get.specs.Copying.{Copied, SawBytes}
+use Rattle.clover_get.specs.Copying.{Copied}
 use Rattle.clover_get.specs.Getting.{Getting, Stage, AtMeta, AtValue, AtFound, AtDead, AtBad, Over, getting, sought, Reads, read_stage, read_kind, valued, value_in, GoesOn, get_step}
 use Rattle.clover_get.specs.Going.{Went, key_of, most_accesses}
 use Rattle.clover_get.specs.Holding.{GetHolds, StandsOn, IsAt, copied}
-use Rattle.clover_get.proofs.Copies.{saw_bytes, more_value, first_value, first_dead, first_bad, undecoded, too_long}
+use Rattle.clover_get.proofs.Copies.{more_value, first_value, first_dead, first_bad, undecoded, too_long}
 use Rattle.clover_get.proofs.Counting.{bounded}
+use Rattle.clover_get.proofs.Versions.{saw_whole}
 use Rattle.clover_get.proofs.Walks.{one_more}
 
 -- a value of so many bytes takes no more words than the buffers have
@@ -179,9 +181,11 @@ module _ (p : Pool) (f f1 : ℕ) (w : Walking) (tag : TagParts) (v : View) (o : 
       let m = at_number key reply e made in
       let q = no_turn_more key reply h.walk at made e in
       let n = counts p f f1 w (tag_number tag) v o x v1 o1 of a (3 + w.pool.words) at made h.bound in
+      let one : AreOneVersion w.pool w.slot (tag_number tag) v = subst (λ (z : Pool). AreOneVersion z w.slot (tag_number tag) v) of (m.told.says refl).1 in
+      let saw : SawWhole (tag_number tag) (value_in fl into) v.pass.since = saw_whole w.pool w.slot (tag_number tag) fl v into h.stage.1 one in
       record {
         made = (x, later p f f1 w (tag_number tag) v o x v1 o1 of a at.1 made, value ∙ sym (ap (λ (b : Bool). cond b (getting w Over) (sought (goes_on w x))) (eq-eqb x (unlinked (tag_number tag)) e)));
-        found = record { made = m; tail = at_tail p w.slot (tag_number tag) key reply (SawBytes (tag_number tag) (value_in fl into)) v o v1 o1 m (saw_bytes w.pool w.slot (tag_number tag) fl v into h.stage.1) };
+        found = (record { slot = w.slot; tag = tag_number tag; made = m; decides = at_tail p w.slot (tag_number tag) key reply (SawWhole (tag_number tag) (value_in fl into)) v o v1 o1 m saw }, refl, refl);
         absent = tt;
         behind = tt;
         ahead = below h.walk q;

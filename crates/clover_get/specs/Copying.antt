@@ -51,15 +51,3 @@ pub record CopiedBad (p : Pool) (s t : ℕ) (v : View) : Type 0 where
   pub word : ℕ
   pub meta : Within (s, copy t 0 word) v.pass.copied
   pub bad : IsMetaWord p word → ⊥
-
--- a load of the meta word that gave the value's, and behind it loads of all of its value words, each of which gave the value's bytes there as far as they go
-pub record SawBytes (t : ℕ) (x : Value) (acts : List Act) : Type 0 where
-  pub before : List Act
-  pub after : List Act
-  pub split : acts ≡ before ++ Load (Meta (buffer_at (home t))) (value_meta x) ∷ after
-  pub words : (k : ℕ) → k < words_of (length x.bytes) → (y : ℕ) × Unpacks y x k × Within (Load (ValueOf (buffer_at (home t)) k) y) after
-
--- the access was a last load of the tag's next word that showed it unlinked, the tail of the key; before it the accesses of the call loaded the value
-pub record FoundAt (p : Pool) (s : ℕ) (k : List ℕ) (t : ℕ) (x : Value) (v : View) (before : Option Open) (w : View) (after : Option Open) : Type 0 where
-  pub made : Made p (DecideNext s t (Get k) (Found t x)) false v before (unlinked t) w after
-  pub tail : AtTail p made.now.words (Get k) t (SawBytes t x) w.pass.since

@@ -3,8 +3,9 @@ use Rattle.std.specs.Prelude.{◌≡◌, ℕ, ◌+◌, ◌*◌, ◌<◌, ◌≤�
 use Rattle.clover_words.specs.declared.bytes.ValueBuf.{ValueBuf}
 use Rattle.clover_words.specs.declared.pool.Pool.{Pool}
 use Rattle.clover_words.specs.Tag.{tag_number}
+use Rattle.clover_map.specs.declared.bytes.Value.{Value}
 use Rattle.clover_map.specs.declared.call.Call.TheVariants.{Get}
-use Rattle.clover_map.specs.declared.call.Reply.TheVariants.{Absent}
+use Rattle.clover_map.specs.declared.call.Reply.TheVariants.{Found, Absent}
 use Rattle.clover_port.specs.Told.{Open, Made, Rose}
 use Rattle.clover_rule.specs.declared.view.View.{View}
 use Rattle.clover_walk.specs.Ending.{Ended}
@@ -15,7 +16,6 @@ use Rattle.clover_walk.specs.declared.turn.Turn.TheVariants.{More as WalksOn, At
 use Rattle.clover_get.specs.declared.turn.GetTurn.TheVariants.{More, Behind, Unreached}
 use Rattle.clover_get.specs.declared.turn.GetTurn.{GetTurn}
 use Rattle.clover_get.specs.Answering.{OnReached, OnUnreached, OnGoing, OnOver, OnAhead, IfFound, IfAbsent, IfBehind}
-use Rattle.clover_get.specs.Copying.{FoundAt}
 use Rattle.clover_get.specs.Getting.{Getting, Over, get_step, value_in, GoesOn}
 use Rattle.clover_get.specs.Holding.{GetHolds}
 
@@ -27,6 +27,10 @@ key_of g v = key_at v.pass.names g.walk.slot
 abbrev pub OneAccess : Pool → Getting → Getting → ValueBuf → ValueBuf → View → Option Open → View → Option Open → Type 0
 OneAccess p g g1 into into1 v o v1 o1 = (x : ℕ) × Made p (get_step g (key_of g v) into) g.walk.first v o x v1 o1 × GoesOn g into1.length x g1
 
+-- the last load showed the tag unlinked, and the accesses of the call decide that the key has this value under it
+abbrev pub FoundAt : Pool → Getting → ℕ → Value → View → Option Open → View → Option Open → Type 0
+FoundAt p g t x v o v1 o1 = (e : Ended p (Get (key_of g v)) (Found t x) v o v1 o1) × (e.slot ≡ g.walk.slot) × (e.tag ≡ t)
+
 -- the last load showed the tombstone's tag unlinked, and the accesses of the call decide that the key is absent
 abbrev pub AbsentAt : Pool → Getting → ℕ → View → Option Open → View → Option Open → Type 0
 AbsentAt p g t v o v1 o1 = (e : Ended p (Get (key_of g v)) Absent v o v1 o1) × (e.slot ≡ g.walk.slot) × (e.tag ≡ t)
@@ -37,7 +41,7 @@ most_accesses p turns = (turns + 1) * (p.words + 5) + 2 * p.words + 4
 
 pub record Went (p : Pool) (faults faults1 : ℕ) (g g1 : Getting) (into into1 : ValueBuf) (v : View) (o : Option Open) (v1 : View) (o1 : Option Open) (r : GetTurn) : Type 0 where
   pub made : OnReached r (OneAccess p g g1 into into1 v o v1 o1)
-  pub found : IfFound r (λ t f. FoundAt p g.walk.slot (key_of g v) (tag_number t) (value_in f into1) v o v1 o1)
+  pub found : IfFound r (λ t f. FoundAt p g (tag_number t) (value_in f into1) v o v1 o1)
   pub absent : IfAbsent r (λ t. AbsentAt p g (tag_number t) v o v1 o1)
   pub behind : IfBehind r (λ n. (n ≡ budget p) × (v1.pass.turns ≡ budget p))
   pub ahead : OnAhead r (v1.pass.turns < budget p)

@@ -6,9 +6,8 @@ ghost use Rattle.clover_port.specs.Told.{Rose};
 ghost use Rattle.clover_walk.specs.Turning.{Answers, OnReached as WalkReached, OnUnreached as WalkUnreached};
 ghost use Rattle.clover_walk.specs.Walking.{ShowsNext, goes_on, budget};
 ghost use Rattle.clover_get.specs.Answering.{OnReached, OnUnreached, OnGoing, OnOver, OnAhead, IfFound, IfAbsent, IfBehind, ExactGet};
-ghost use Rattle.clover_get.specs.Copying.{FoundAt};
 ghost use Rattle.clover_get.specs.Getting.{Seeking, AtMeta, AtValue, AtFound, AtDead, AtBad, Over, IsOpen, Reads, getting, read_stage, valued, sought, value_in};
-ghost use Rattle.clover_get.specs.Going.{OneAccess, AbsentAt, Went, Follows, answer_of, key_of, most_accesses};
+ghost use Rattle.clover_get.specs.Going.{OneAccess, FoundAt, AbsentAt, Went, Follows, answer_of, key_of, most_accesses};
 ghost use Rattle.clover_get.specs.Holding.{GetHolds};
 ghost use Rattle.clover_get.specs.Standing.{standing};
 
@@ -67,7 +66,7 @@ impl GetCall {
         requires pool { P.pool port.old ≡ self.old.walk.pool }
         requires holds { GetHolds self.old (P.view port.old) into.old }
         ensures made { OnReached result (OneAccess (P.pool port.old) self.old self.new into.old into.new (P.view port.old) (P.told port.old) (P.view port.new) (P.told port.new)) }
-        ensures found { IfFound result (λ tag flags. FoundAt (P.pool port.old) self.old.walk.slot (key_of self.old (P.view port.old)) (tag_number tag) (value_in flags into.new) (P.view port.old) (P.told port.old) (P.view port.new) (P.told port.new)) }
+        ensures found { IfFound result (λ tag flags. FoundAt (P.pool port.old) self.old (tag_number tag) (value_in flags into.new) (P.view port.old) (P.told port.old) (P.view port.new) (P.told port.new)) }
         ensures absent { IfAbsent result (λ tail. AbsentAt (P.pool port.old) self.old (tag_number tail) (P.view port.old) (P.told port.old) (P.view port.new) (P.told port.new)) }
         ensures behind { IfBehind result (λ turns. (turns ≡ budget (P.pool port.old)) × ((P.view port.new).pass.turns ≡ budget (P.pool port.old))) }
         ensures ahead { OnAhead result ((P.view port.new).pass.turns < budget (P.pool port.old)) }

@@ -18,11 +18,11 @@ use Rattle.clover_rule.specs.Memory.{Mem, word, gen, home, age}
 use Rattle.clover_rule.specs.Parts.{Walk}
 use Rattle.clover_rule.specs.Steps.{Step, Asks, LoadNext, DecideNext, RaiseNext, LinkNext, StoreContent, FlushContent, LoadContent, ReadRoot, ReadShort, StoreShort, ReadCount, AbsentCount, found, unlinked}
 use Rattle.clover_rule.specs.Story.{Story, tag_at, tag_in_version}
-use Rattle.clover_rule.specs.Told.{IsMetaWord, Says}
+use Rattle.clover_rule.specs.Told.{IsMetaWord, AreOneVersion, Says}
 use Rattle.clover_rule.specs.Views.{IsCopied}
 use Rattle.clover_rule.specs.Words.{mem_of, next_of, buffer_at}
 use Rattle.clover_rule.specs.declared.view.View.{View}
-use Rattle.clover_rule.proofs.Decide.{tail_durable, slot_bound, last, version}
+use Rattle.clover_rule.proofs.Decide.{tail_durable, slot_bound, last, version, copied_word}
 use Rattle.clover_rule.proofs.Derived.{chains}
 use Rattle.clover_rule.proofs.Keeping.{inside_of, read_next, read_root}
 use Rattle.clover_rule.proofs.Standings.{tag_past}
@@ -64,6 +64,14 @@ module _ (p : Pool) (first : Tagged) (used : List ℕ) (ws : List ℕ) (vs : Lis
       let q = split_last (st.log s) d.0 x.0 x.1 l (st.lead s) (omega arith) in
       (s, q.0, w.help.keyed.current s k bound.0, subst (λ (ts : List ℕ). Walk m (m.root s) ts) (q.1 ∙ ap (λ (z : ℕ). q.0 ++ z ∷ []) x.2) ((chains m st b.core).walk s))
 
+  -- what is copied of a known durable tag of a named slot that is found unlinked is its version's content
+  one_version : (s t : ℕ) (k : List ℕ) → IsWithin p (NextOf (buffer_at (home t))) → Within (s, t) v.pass.durable → Within (s, k) v.pass.names → copy_in p ws (NextOf (buffer_at (home t))) Current ≡ unlinked t → AreOneVersion p s t v
+  one_version s t k hw tail name e =
+      let f : m.next (home t) ≡ word (age t) None = read_next p ws (home t) (inside_of p (home t) hw) ∙ ap next_of e ∙ next_again (age t) None (omega arith) in
+      let b = r.whole.basis in
+      let x = version (shows first) used m vs st h b id v at s k t tail name f in
+      record { value = x.0.value; fits = r.whole.help.ranged.fits s _ x.0 x.1; words = copied_word (shows first) used m vs st h b id v at s k t tail name f }
+
   -- a named slot has a root
   root_is : (s : ℕ) (k : List ℕ) → Within (s, k) v.pass.names → (t : ℕ) × (m.root s ≡ Some t)
   root_is s k name =
@@ -92,7 +100,7 @@ module _ (p : Pool) (first : Tagged) (used : List ℕ) (ws : List ℕ) (vs : Lis
 
   pub says : (a : Step) → Asks p a v → Says p ws a v (found p a ws)
   says (LoadNext s t) asks = λ e y q. meta_is s t y asks.0 e q
-  says (DecideNext s t c y) asks = λ e. tail_is s t (named c) asks.0 asks.1.tail asks.1.name e
+  says (DecideNext s t c y) asks = λ e. (tail_is s t (named c) asks.0 asks.1.tail asks.1.name e, one_version s t (named c) asks.0 asks.1.tail asks.1.name e)
   says (RaiseNext l) asks = tt
   says (LinkNext s u t c) asks = λ e. tail_is s u (named c) asks.0 asks.1.tail asks.1.name e
   says (StoreContent t j x) asks = tt

@@ -1,5 +1,5 @@
 -- What a step tells its actor: facts on its own view and the history, before and after.
-use Rattle.std.specs.Prelude.{◌≡◌, ℕ, ◌<◌, ◌≤◌, ◌⊎◌, List, Bool, Some}
+use Rattle.std.specs.Prelude.{◌≡◌, ℕ, ◌<◌, ◌≤◌, ◌⊎◌, List, Bool, Option, Some}
 use Rattle.clover_words.specs.declared.pool.Pool.{Pool}
 use Rattle.clover_words.specs.declared.word.Word.{Word}
 use Rattle.clover_words.specs.declared.word.Word.TheVariants.{Next as NextOf, Root, Short}
@@ -10,9 +10,9 @@ use Rattle.clover_map.specs.Tagged.{Tagged}
 use Rattle.clover_map.specs.Legal.{Legal}
 use Rattle.atomic_table.specs.Table.{State, Me, Allows}
 use Rattle.clover_rule.specs.Accesses.{IsTail}
-use Rattle.clover_rule.specs.Content.{InRange, IsKey, Fits, tombstone, value_meta}
+use Rattle.clover_rule.specs.Content.{InRange, IsKey, Fits, content, tombstone, value_meta}
 use Rattle.clover_rule.specs.History.{named}
-use Rattle.clover_rule.specs.Lists.{Each, IsPrefix, Within}
+use Rattle.clover_rule.specs.Lists.{Each, IsPrefix, Within, nth}
 use Rattle.clover_rule.specs.Meets.{IsCode, IsMet}
 use Rattle.clover_rule.specs.Memory.{gen, link}
 use Rattle.clover_rule.specs.Steps.{Step, LoadNext, ReadRoot, DecideNext, LinkNext, Asks, word_of, side_of, becomes, found, next_view, next_history, unlinked}
@@ -46,11 +46,17 @@ IsShown p w x = Unit {0}
 abbrev pub IsMetaWord : Pool → ℕ → Type 0
 IsMetaWord p y = (y ≡ tombstone) ⊎ ((u : Value) × Fits p (Some u) × (y ≡ value_meta u))
 
--- what else it says: a named slot has a root; a meta word that was copied of a tag is a version's where the tag is found unlinked; and a tag that a deciding step finds unlinked is the tail of its call's key in the words of that moment
+-- the words that were copied of a tag are those of one content that a buffer has room for
+pub record AreOneVersion (p : Pool) (s t : ℕ) (v : View) : Type 0 where
+  pub value : Option Value
+  pub fits : Fits p value
+  pub words : (j y z : ℕ) → Within (s, record { tag = t; place = j; word = y }) v.pass.copied → nth (content value) j ≡ Some z → z ≡ y
+
+-- what else it says: a named slot has a root; a meta word that was copied of a tag is a version's where the tag is found unlinked; a tag that a deciding step finds unlinked is the tail of its call's key in the words of that moment, and what was copied of it is one version's
 abbrev pub Says : Pool → List ℕ → Step → View → ℕ → Type 0
 Says p ws (LoadNext s t) v x = x ≡ unlinked t → (y : ℕ) → Within (s, record { tag = t; place = 0; word = y }) v.pass.copied → IsMetaWord p y
 Says p ws (ReadRoot s) v x = (k : List ℕ) → Within (s, k) v.pass.names → (t : ℕ) × (root_of x ≡ Some t)
-Says p ws (DecideNext s t c r) v x = x ≡ unlinked t → IsTail (mem_of p ws) (named c) t
+Says p ws (DecideNext s t c r) v x = x ≡ unlinked t → IsTail (mem_of p ws) (named c) t × AreOneVersion p s t v
 Says p ws (LinkNext s u t c) v x = x ≡ unlinked u → IsTail (mem_of p ws) (named c) u
 Says p ws a v x = Unit {0}
 

@@ -191,7 +191,7 @@ module _ (w : Walking) (t : ℕ) (p : Pool) (v : View) (before : Option Open) (x
 -- a last load that found the tag unlinked found the tail of the call's key, behind what the call had seen
 pub at_tail : (p : Pool) (s t : ℕ) (c : Call) (r : Reply) (seen_so : List Act → Type 0) (v : View) (before : Option Open) (w : View) (after : Option Open)
     → (made : Made p (DecideNext s t c r) false v before (unlinked t) w after) → seen_so v.pass.since → AtTail p made.now.words c t seen_so w.pass.since
-at_tail p s t c r seen_so v before w after made saw = (v.pass.since, (stepped p (DecideNext s t c r) false v before (unlinked t) w after made).since, saw, made.told.says refl)
+at_tail p s t c r seen_so v before w after made saw = (v.pass.since, (stepped p (DecideNext s t c r) false v before (unlinked t) w after made).since, saw, (made.told.says refl).0)
 
 -- an exchange that found the tag unlinked committed the call there
 pub commits : (p : Pool) (s u t : ℕ) (c : Call) (v : View) (before : Option Open) (w : View) (after : Option Open)
