@@ -1,5 +1,5 @@
 -- An access that is meant as a step: its word, what it finds, the words after it, and how it is listed.
-use Rattle.std.proofs.Common.{◌≡◌, ℕ, suc, ◌+◌, List, Bool, refl, sym, ap, ◌∙◌, subst, add-one}
+use Rattle.std.proofs.Common.{◌≡◌, ℕ, ◌+◌, List, Bool, sym, ap, ◌∙◌, subst, add-one}
 use Rattle.std.specs.Prelude.{slice_index}
 use Rattle.clover_words.specs.declared.pool.Pool.{Pool}
 use Rattle.clover_words.specs.declared.word.Word.{Word}
@@ -7,7 +7,6 @@ use Rattle.clover_words.specs.declared.word.Side.{Side}
 use Rattle.clover_words.specs.Place.{IsWithin, HasSide, address_of}
 use Rattle.clover_rule.specs.Accesses.{words_after_act}
 use Rattle.clover_rule.specs.Steps.{Step, act_of, word_of, side_of, found, words_after_step}
-use Rattle.clover_rule.specs.declared.access.Access.{Access}
 use Rattle.clover_rule.specs.declared.access.Act.{Act}
 use Rattle.clover_rule.specs.declared.access.Actor.TheVariants.{Client}
 use Rattle.clover_rule.proofs.Accessing.{access_law}

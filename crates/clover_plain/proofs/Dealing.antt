@@ -1,15 +1,14 @@
 -- Buffers by their numbers: the tags of the tombstones, and the tags that are dealt to the clients.
-use Rattle.std.proofs.Common.{◌≡◌, ◌≢◌, ℕ, zero, suc, ◌+◌, ◌-◌, ◌*◌, ◌/◌, ◌%◌, ◌<◌, ◌≤◌, ◌⊎◌, List, [], ◌∷◌, Bool, true, false, cond, nat_lt, refl, sym, ap, ◌∙◌, inl, inr, ⊎_elim, subst, arith}
+use Rattle.std.proofs.Common.{◌≡◌, ◌≢◌, ℕ, zero, suc, ◌+◌, ◌*◌, ◌/◌, ◌%◌, ◌<◌, ◌≤◌, List, [], ◌∷◌, Bool, true, false, cond, nat_lt, refl, sym, ap, ◌∙◌, inl, inr, ⊎_elim, subst, arith}
 use native.Mathlib.Decide.{ℕ_discrete, dec_le}
 use mathlib.Core.Logic.{dite}
 use Rattle.std.proofs.lemmas.Nat.{mul-add-lt}
 use Rattle.std.proofs.Math.Nat.{mul-le-mul_left}
-use Rattle.std.specs.Prelude.{Option, Some, None}
 use Rattle.clover_words.specs.declared.pool.Pool.{Pool}
 use Rattle.clover_words.specs.declared.setup.Setup.{Setup}
 use Rattle.clover_words.specs.Place.{IsBuffer}
-use Rattle.clover_words.specs.Preset.{buffers_total, tombstone_number, dealt_number}
-use Rattle.clover_words.specs.Tag.{TagParts, IsTag, tag_number}
+use Rattle.clover_words.specs.Preset.{buffers_total, dealt_number}
+use Rattle.clover_words.specs.Tag.{TagParts, IsTag}
 use Rattle.clover_words.proofs.Places.{split}
 use Rattle.clover_rule.specs.Content.{inside}
 use Rattle.clover_rule.specs.Lists.{Each, Within}
@@ -19,7 +18,7 @@ use Rattle.clover_rule.specs.Words.{buffer_at}
 use Rattle.clover_rule.proofs.Codecs.{home_tag, age_tag, buffer_tag}
 use Rattle.clover_rule.proofs.Keeping.{inside_of}
 use Rattle.clover_rule.proofs.Ties.{below, test_below, buffer_in}
-use Rattle.clover_plain.specs.Preset.{number_of, tag_at, tomb, dealt_from}
+use Rattle.clover_plain.specs.Preset.{number_of, tag_at, dealt_from}
 
 -- the buffer of a number is one of the pool
 pub node_below : (p : Pool) (n : ℕ) → n < buffers_total p → (n / p.buffers < p.nodes) × (n % p.buffers < p.buffers)

@@ -1,11 +1,11 @@
 -- Keys in a list, and their words.
-use Rattle.std.proofs.Common.{◌≡◌, ℕ, zero, suc, ◌+◌, ◌/◌, ◌<◌, ◌≤◌, List, [], ◌∷◌, length, get_or, refl, sym, ap, ◌∙◌, arith}
-use Rattle.std.specs.Prelude.{Option, Some, None}
+use Rattle.std.proofs.Common.{◌≡◌, ℕ, zero, suc, ◌+◌, ◌/◌, ◌<◌, ◌≤◌, List, [], ◌∷◌, length, get_or, refl, sym, ap, arith}
+use Rattle.std.specs.Prelude.{Some, None}
 use Rattle.clover_words.specs.Pack.{packed, words_of}
-use Rattle.clover_rule.specs.Content.{spelling, all_words, words_from}
+use Rattle.clover_rule.specs.Content.{spelling, words_from}
 use Rattle.clover_rule.specs.Lists.{nth}
 use Rattle.clover_rule.proofs.Spelling.{nth_all}
-use Rattle.clover_plain.specs.Preset.{or_zero}
+use Rattle.clover_plain.specs.Preset.{AreDistinct, or_zero}
 
 pub key_there : (xs : List (List ℕ)) (i : ℕ) (x k : List ℕ) → x ≡ get_or xs i x → nth xs i ≡ Some k → x ≡ k
 key_there [] i x k e f = absurd cc
@@ -39,3 +39,9 @@ word_there key k h = sym (ap or_zero (nth_all (length key ∷ key) k (omega arit
 pub word_past : (key : List ℕ) (k : ℕ) → (8 + length key) / 8 ≤ k → 0 ≡ or_zero (nth (spelling key) k)
 unfolding spelling
 word_past key k h = sym (ap or_zero (words_past (length key ∷ key) 0 (words_of (length (length key ∷ key))) k (omega arith)))
+
+-- a key alone stands once
+pub one_distinct : (k : List ℕ) → AreDistinct (k ∷ [])
+one_distinct k zero zero j e f = refl
+one_distinct k zero (suc r) j e f = absurd cc
+one_distinct k (suc s) r j e f = absurd cc

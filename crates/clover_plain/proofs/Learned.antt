@@ -1,5 +1,5 @@
 -- What a step leaves of a view and a history.
-use Rattle.std.proofs.Common.{◌≡◌, ℕ, ◌==◌, List, [], ◌∷◌, ◌++◌, length, Bool, true, false, cond, refl, ap}
+use Rattle.std.proofs.Common.{◌≡◌, ℕ, ◌==◌, List, [], ◌∷◌, ◌++◌, length, Bool, true, false, cond, refl}
 use Rattle.std.specs.Prelude.{Option, Some, None}
 use Rattle.clover_words.specs.declared.word.Word.{Word}
 use Rattle.clover_words.specs.declared.word.Side.{Side}
@@ -9,11 +9,10 @@ use Rattle.clover_map.specs.declared.call.Reply.TheVariants.{Absent}
 use Rattle.clover_rule.specs.Knowing.{link_entry, link_view}
 use Rattle.clover_rule.specs.Lists.{IsPrefix}
 use Rattle.clover_rule.specs.Memory.{Next, word}
-use Rattle.clover_rule.specs.Steps.{Step, LoadNext, DecideNext, RaiseNext, LinkNext, StoreContent, FlushContent, LoadContent, ReadRoot, ReadShort, StoreShort, ReadCount, AbsentCount, act_of, word_of, side_of, learned, next_view, next_history, seen, started, decided, missed, counts, unlinked, client, reply_of, rest_of}
+use Rattle.clover_rule.specs.Steps.{Step, LoadNext, DecideNext, RaiseNext, LinkNext, StoreContent, FlushContent, LoadContent, ReadRoot, ReadShort, StoreShort, ReadCount, AbsentCount, act_of, word_of, side_of, next_view, next_history, seen, started, decided, missed, counts, unlinked, client, reply_of, rest_of}
 use Rattle.clover_rule.specs.Words.{next_of, root_of}
 use Rattle.clover_rule.specs.declared.access.Act.{Act}
 use Rattle.clover_rule.specs.declared.access.Act.TheVariants.{Load, Store, Exchange, Raise}
-use Rattle.clover_rule.specs.declared.view.Role.{Role}
 use Rattle.clover_rule.specs.declared.view.View.{View}
 use Rattle.clover_rule.proofs.Steps.{prefix_self}
 

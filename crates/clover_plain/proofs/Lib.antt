@@ -4,7 +4,6 @@ pub mod Learned
 pub mod Acting
 pub mod Stepping
 pub mod Standing
-pub mod Quiet
 pub mod Keys
 pub mod Dealing
 pub mod PresetRule

@@ -1,7 +1,5 @@
 -- The preset pool meets the rule.
-use Rattle.std.proofs.Common.{◌≡◌, ◌≢◌, ℕ, zero, suc, ◌+◌, ◌-◌, ◌*◌, ◌/◌, ◌%◌, ◌<◌, ◌≤◌, ◌⊎◌, ◌&&◌, List, [], ◌∷◌, length, Bool, true, false, cond, nat_lt, eqb, refl, sym, ap, ◌∙◌, inl, inr, ⊎_elim, subst, arith}
-use native.Mathlib.Decide.{dec_le}
-use mathlib.Core.Logic.{dite}
+use Rattle.std.proofs.Common.{◌≡◌, ℕ, zero, suc, ◌+◌, ◌-◌, ◌*◌, ◌/◌, ◌%◌, ◌<◌, ◌≤◌, ◌&&◌, List, [], ◌∷◌, length, Bool, true, false, cond, nat_lt, refl, sym, ap, ◌∙◌, subst, arith}
 use Rattle.std.proofs.lemmas.Bool.Decides.{nat_tests}
 use Rattle.std.proofs.Math.Nat.{mul-le-mul_left}
 use Rattle.std.specs.Prelude.{Option, Some, None}
@@ -15,28 +13,26 @@ use Rattle.clover_words.specs.declared.word.Word.{Word}
 use Rattle.clover_words.specs.declared.word.Word.TheVariants.{Next as NextOf, Meta, Value as ValueOf, Root, Key, Short, Count}
 use Rattle.clover_words.specs.declared.word.Side.{Side}
 use Rattle.clover_words.specs.declared.word.Side.TheVariants.{Current, Flushed}
-use Rattle.clover_words.specs.Place.{IsWithin, HasSide, copy_in, pool_words}
+use Rattle.clover_words.specs.Place.{HasSide, copy_in, pool_words}
 use Rattle.clover_words.proofs.Places.{split}
 use Rattle.clover_words.specs.Pack.{words_of}
 use Rattle.clover_words.specs.Preset.{buffers_total, tombstone_number, dealt_number}
-use Rattle.clover_rule.specs.Content.{inside, tombstone, spelling, all_words, words_from, IsKey}
+use Rattle.clover_rule.specs.Content.{inside, tombstone, spelling, words_from, IsKey}
 use Rattle.clover_rule.specs.Lists.{nth, Within}
-use Rattle.clover_rule.specs.Meets.{Decodes, IsCode, OfRun}
-use Rattle.clover_rule.specs.Memory.{word, home, age, gen}
+use Rattle.clover_rule.specs.Meets.{Decodes, IsCode}
+use Rattle.clover_rule.specs.Memory.{word, home, gen}
 use Rattle.clover_rule.specs.Opening.{Starts}
 use Rattle.clover_rule.specs.Preset.{PresetWords, PresetKeys, PresetViews, bindings_from}
 use Rattle.clover_rule.specs.Rule.{Rule, longest}
-use Rattle.clover_rule.specs.Views.{Numbered}
-use Rattle.clover_rule.specs.Words.{root_code, next_code, root_of, next_of, buffer_at, content_at, guarded, mem_of}
-use Rattle.clover_rule.specs.declared.view.Role.{Role}
+use Rattle.clover_rule.specs.Words.{root_code, root_of, next_of, buffer_at, content_at, guarded, mem_of}
 use Rattle.clover_rule.specs.declared.view.Role.TheVariants.{Client, Serving}
 use Rattle.clover_rule.specs.declared.view.View.{View}
 use Rattle.clover_rule.proofs.Longest.{longest_law}
 use Rattle.clover_rule.proofs.Presets.{preset_law}
 use Rattle.clover_rule.proofs.Steps.{prefix_self}
 use Rattle.clover_rule.proofs.Ties.{guard, guard_true, both, below, test_below, buffer_in, content_in, content_side, root_again, and_true}
-use Rattle.clover_plain.specs.Preset.{number_of, tag_at, tomb, preset_word, key_word, or_zero, IsPreset, dealt_from, start_view, AreDistinct}
-use Rattle.clover_plain.proofs.Dealing.{tag_young, tag_home, tag_inside, number_tag, one_number, number_at, home_number, IsDealt, dealt_each, dealt_once, within_dealt}
+use Rattle.clover_plain.specs.Preset.{tag_at, tomb, preset_word, key_word, or_zero, IsPreset, dealt_from, start_view, AreDistinct}
+use Rattle.clover_plain.proofs.Dealing.{tag_young, tag_inside, number_tag, one_number, number_at, home_number, dealt_each, dealt_once, within_dealt}
 
 not_below : (a b : ℕ) → b ≤ a → nat_lt a b ≡ false
 not_below a b h = grind (arith, nat_tests)

@@ -1,10 +1,8 @@
 -- What a pool keeps, by whether it was preset.
-use Rattle.std.proofs.Common.{◌≡◌, Bool, true, false, List, [], sym, ap, ◌∙◌, subst}
-use Rattle.std.specs.Prelude.{ℕ}
-use Rattle.clover_rule.specs.Lists.{IsPrefix}
+use Rattle.std.proofs.Common.{◌≡◌, Bool, true, false, List, [], subst}
 use Rattle.clover_rule.specs.declared.access.Access.{Access}
 use Rattle.clover_plain.specs.Kept.{meaning, IsKept}
-use Rattle.clover_plain.specs.Plain.{Plain, Running, IsBlank, Stands, Leads, history}
+use Rattle.clover_plain.specs.Plain.{Plain, Running, IsBlank, Stands, Leads}
 use Rattle.clover_plain.specs.declared.pool.PlainPool.TheInside.{Inside}
 
 module _ (i : Inside) (p : Plain) (k : IsKept i) (is : meaning i ≡ p) where

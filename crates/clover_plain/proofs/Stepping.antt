@@ -1,6 +1,6 @@
 -- Each access keeps the pool running, and tells what a port promises.
-use Rattle.std.proofs.Common.{◌≡◌, ◌≢◌, ℕ, zero, suc, ◌+◌, ◌<◌, ◌⊎◌, List, [], ◌∷◌, ◌++◌, length, set, get_or, Bool, true, false, cond, ◌&&◌, refl, sym, ap, ◌∙◌, subst, ⊎_elim, arith}
-use Rattle.std.specs.Prelude.{Option, Some, None}
+use Rattle.std.proofs.Common.{◌≡◌, ℕ, zero, suc, ◌<◌, List, [], ◌∷◌, ◌++◌, length, set, get_or, Bool, true, false, ◌&&◌, refl, sym, ap, ◌∙◌, subst, ⊎_elim, arith}
+use Rattle.std.specs.Prelude.{Some}
 use Rattle.std.specs.FinMap as finite
 use Rattle.clover_words.specs.declared.pool.Pool.{Pool}
 use Rattle.clover_map.specs.declared.call.Entry.{Entry}
@@ -20,8 +20,8 @@ use Rattle.clover_rule.proofs.Longest.{longest_law}
 use Rattle.clover_rule.proofs.Steps.{nth_set, set_here, prefix_trans}
 use Rattle.clover_rule.proofs.Tails.{says}
 use Rattle.clover_rule.proofs.Telling.{facts, number_shown}
-use Rattle.clover_port.specs.Told.{Open, Made, opened}
-use Rattle.clover_plain.specs.Plain.{Plain, Running, Stepped, Refused, Leads, Same, outset, view_at, history, open_of, grown, access}
+use Rattle.clover_port.specs.Told.{Made}
+use Rattle.clover_plain.specs.Plain.{Plain, Running, Stepped, Refused, Leads, outset, view_at, history, open_of, grown, access}
 use Rattle.clover_plain.proofs.Learned.{role_kept, history_grows}
 use Rattle.clover_plain.proofs.Trails.{leads_more, leads_refused}
 

@@ -1,7 +1,7 @@
 -- Lists of accesses that grow by one at their end.
-use Rattle.std.proofs.Common.{◌≡◌, ℕ, zero, suc, ◌+◌, ◌≤◌, ◌^◌, min, List, [], ◌∷◌, ◌++◌, length, length-append, Bool, true, false, cond, refl, sym, ap, ◌∙◌, subst, arith}
+use Rattle.std.proofs.Common.{◌≡◌, ℕ, ◌+◌, List, [], ◌∷◌, ◌++◌, length, length-append, Bool, true, false, cond, refl, sym, ap, ◌∙◌, subst, arith}
 use Rattle.clover_words.specs.declared.pool.Pool.{Pool}
-use Rattle.clover_rule.specs.Accesses.{CameBack, words_after_act, ActsReplay, Replays, done}
+use Rattle.clover_rule.specs.Accesses.{CameBack, words_after_act, ActsReplay, done}
 use Rattle.clover_rule.specs.declared.access.Access.{Access}
 use Rattle.clover_rule.specs.declared.access.Act.{Act}
 use Rattle.clover_plain.specs.Plain.{after_acts, counted, Leads}

@@ -121,6 +121,7 @@ impl PlainPool {
     /// pool is then as before, and keeps what room it has.
     pub fn reserve(&mut self) -> Result<(), OutOfMemory>
         ensures room { OnOk result (HasRoom self.new) }
+        ensures kept { (self.old.access_room ≤ self.new.access_room) × (self.old.entry_room ≤ self.new.entry_room) }
         ensures same { Kept self.old self.new }
     {
         self.entries.reserve(1)?;

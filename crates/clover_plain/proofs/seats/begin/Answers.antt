@@ -1,5 +1,5 @@
 use Rattle.std.proofs.Common.{refl}
-use Rattle.atomic_table.specs.Table.{State, Act, Valid, keeps}
+use Rattle.atomic_table.specs.Table.{keeps}
 use Rattle.clover_plain.proofs.seats.begin.Goals as goal
 
 pub load-requires : goal.load-requires

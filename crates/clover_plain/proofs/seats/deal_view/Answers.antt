@@ -1,8 +1,8 @@
-use Rattle.std.proofs.Common.{◌≡◌, ◌<◌, ℕ, refl, sym, ap, ◌∙◌, set}
+use Rattle.std.proofs.Common.{◌≡◌, refl, sym, ap, ◌∙◌, set}
 use Rattle.std.specs.Prelude.{Some}
-use Rattle.atomic_table.specs.Table.{State, Act, Valid, keeps}
+use Rattle.atomic_table.specs.Table.{keeps}
 use Rattle.clover_rule.specs.declared.view.View.{View}
-use Rattle.clover_plain.specs.Kept.{AllFit, views_of, view_of}
+use Rattle.clover_plain.specs.Kept.{views_of, view_of}
 use Rattle.clover_plain.proofs.Seating.{views_of-set, fit_set, fit_at, view_here}
 use Rattle.clover_plain.proofs.seats.deal_view.Goals as goal
 

@@ -1,6 +1,4 @@
-use Rattle.std.proofs.Common.{◌≡◌, Bool, true, List, [], ◌∷◌, ◌++◌, append-nil, sym, ap, ◌∙◌, subst}
-use Rattle.clover_map.specs.declared.call.Entry.{Entry}
-use Rattle.clover_rule.specs.Lists.{IsPrefix}
+use Rattle.std.proofs.Common.{◌≡◌, Bool, true, [], ◌∷◌, ◌++◌, append-nil, sym, ap, ◌∙◌, subst}
 use Rattle.clover_plain.specs.Kept.{meaning}
 use Rattle.clover_plain.specs.Plain.{Plain, Running, Stands, history}
 use Rattle.clover_plain.proofs.pool.PlainPool.enter.Goals as goal

@@ -1,17 +1,13 @@
-use Rattle.std.proofs.Common.{◌≡◌, ◌<◌, ◌≤◌, ◌+◌, ℕ, suc, List, length, set, max, Bool, true, false, cond, ◌&&◌, ◌==◌, refl, sym, ap, ◌∙◌, subst, arith}
-use Rattle.std.specs.Prelude.{Some, slice_index}
-use prog.Atomic.{either}
-use Rattle.std.proofs.lemmas.List.{length-set}
+use Rattle.std.proofs.Common.{◌≡◌, ◌<◌, ℕ, length, Bool, true, false, ◌&&◌, refl, sym, ap, ◌∙◌, subst}
+use Rattle.std.specs.Prelude.{Some}
 use Rattle.clover_words.specs.declared.pool.Pool.{Pool}
-use Rattle.clover_words.specs.declared.word.Side.TheVariants.{Current, Flushed}
-use Rattle.clover_rule.specs.Meant.{load_step, store_step, exchange_step, raise_step}
-use Rattle.clover_rule.specs.Steps.{Step, Asks, words_after_step, found}
+use Rattle.clover_rule.specs.Meant.{load_step}
+use Rattle.clover_rule.specs.Steps.{Step, Asks, words_after_step}
 use Rattle.clover_rule.specs.declared.access.Act.{Act}
-use Rattle.clover_rule.specs.declared.access.Act.TheVariants.{Load, Store, Exchange, Raise}
+use Rattle.clover_rule.specs.declared.access.Act.TheVariants.{Load}
 use Rattle.clover_port.specs.Told.{Made}
-use Rattle.clover_plain.specs.Kept.{views_of, meaning}
+use Rattle.clover_plain.specs.Kept.{meaning}
 use Rattle.clover_plain.specs.Plain.{Plain, Running, Stands, Stepped, grown, outset, open_of, view_at}
-use Rattle.clover_plain.specs.declared.pool.PlainPool.TheInside.{Inside}
 use Rattle.clover_plain.proofs.Acting.{words_as, found_as, within_as, access_as}
 use Rattle.clover_plain.proofs.Stepping.{running, made, nth_default}
 use Rattle.clover_plain.proofs.pool.PlainPool.load.Goals as goal

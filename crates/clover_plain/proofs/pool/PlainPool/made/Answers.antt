@@ -1,6 +1,6 @@
-use Rattle.std.proofs.Common.{◌≡◌, ℕ, true, false, sym, ap, subst}
-use Rattle.clover_plain.specs.Plain.{Plain, Running, Leads}
-use Rattle.clover_plain.proofs.Standing.{running, blank, replays, untraced}
+use Rattle.std.proofs.Common.{ℕ, sym, ap, subst}
+use Rattle.clover_plain.specs.Plain.{Plain, Leads}
+use Rattle.clover_plain.proofs.Standing.{running}
 use Rattle.clover_plain.proofs.pool.PlainPool.made.Goals as goal
 
 pub returns-clause-counted : goal.returns-clause-counted

@@ -1,10 +1,9 @@
-use Rattle.std.proofs.Common.{◌≡◌, ◌<◌, ◌≤◌, ◌-◌, ◌&&◌, ℕ, suc, length, Bool, true, false, List, sym, ap, ◌∙◌, subst, arith, refl}
+use Rattle.std.proofs.Common.{◌≡◌, ◌<◌, ◌-◌, ◌&&◌, ℕ, suc, length, Bool, true, false, sym, ap, ◌∙◌, subst, arith, refl}
 use Rattle.clover_rule.specs.declared.access.Actor.{Actor}
 use Rattle.clover_rule.specs.declared.access.Actor.TheVariants.{Client}
 use Rattle.clover_rule.specs.declared.view.Role.TheVariants.{Client as ClientRole}
-use Rattle.clover_rule.specs.declared.view.View.{View}
 use Rattle.clover_plain.specs.Kept.{meaning, views_of, IsKept}
-use Rattle.clover_plain.specs.Plain.{Plain, Running, Stands, HasSeat, HasRole, IsActor, view_at, outset}
+use Rattle.clover_plain.specs.Plain.{Plain, Running, Stands, HasRole, IsActor, view_at, outset}
 use Rattle.clover_plain.specs.declared.pool.PlainPool.TheInside.{Inside}
 use Rattle.clover_plain.proofs.Seating.{length_views}
 use Rattle.clover_plain.proofs.Stepping.{nth_default}

@@ -1,15 +1,12 @@
-use Rattle.std.proofs.Common.{◌≡◌, ◌<◌, ◌≤◌, ℕ, List, [], length, Bool, true, false, refl, sym, ap, ◌∙◌, subst}
-use Rattle.std.specs.Prelude.{Some}
+use Rattle.std.proofs.Common.{◌≡◌, ◌≤◌, List, [], length, Bool, true, refl, sym, ap, ◌∙◌, subst}
 use Rattle.std.specs.FinMap as finite
 use Rattle.clover_words.specs.Preset.{buffers_total}
 use Rattle.clover_map.specs.declared.call.Entry.{Entry}
-use Rattle.clover_rule.specs.Lists.{nth, IsPrefix}
-use Rattle.clover_rule.specs.Rule.{Rule, longest}
-use Rattle.clover_rule.specs.declared.access.Access.{Access}
+use Rattle.clover_rule.specs.Lists.{IsPrefix}
+use Rattle.clover_rule.specs.Rule.{Rule}
 use Rattle.clover_rule.specs.declared.view.View.{View}
-use Rattle.clover_plain.specs.Kept.{meaning, views_of}
-use Rattle.clover_plain.specs.Plain.{Plain, Running, IsBlank, Stands, Leads, history}
-use Rattle.clover_plain.specs.Preset.{IsPreset, start_view, AreDistinct}
+use Rattle.clover_plain.specs.Kept.{meaning}
+use Rattle.clover_plain.specs.Plain.{Plain, Running, IsBlank, Stands, history}
 use Rattle.clover_plain.proofs.PresetRule.{preset_rule, preset_history}
 use Rattle.clover_plain.proofs.Seating.{length_views}
 use Rattle.clover_plain.proofs.pool.PlainPool.preset.Goals as goal

@@ -1,7 +1,7 @@
-use Rattle.std.proofs.Common.{◌≡◌, ℕ, suc, ◌+◌, Bool, true, refl, sym, ap, ◌∙◌, subst, add-one}
+use Rattle.std.proofs.Common.{◌≡◌, ℕ, Bool, true, refl, sym, ap, ◌∙◌, subst, add-one}
 use Rattle.clover_rule.specs.declared.access.Actor.TheVariants.{Client}
 use Rattle.clover_plain.specs.Kept.{meaning}
-use Rattle.clover_plain.specs.Plain.{Plain, Running, Stands, Refused, grown}
+use Rattle.clover_plain.specs.Plain.{Plain, Stands, Refused, grown}
 use Rattle.clover_plain.proofs.Stepping.{refused_running}
 use Rattle.clover_plain.proofs.pool.PlainPool.refuse.Goals as goal
 use Rattle.clover_plain.proofs.pool.PlainPool.refuse.Goals.{After-note}

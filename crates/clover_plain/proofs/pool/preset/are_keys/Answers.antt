@@ -1,7 +1,6 @@
-use Rattle.std.proofs.Common.{◌≡◌, ◌<◌, ℕ, List, subst, arith}
+use Rattle.std.proofs.Common.{subst, arith}
 use native.Mathlib.Decide.{ℕ_discrete}
 use mathlib.Core.Logic.{dite}
-use Rattle.std.specs.Prelude.{Some}
 use Rattle.std.proofs.Common.{ap, ◌∙◌, sym}
 use Rattle.clover_rule.specs.Content.{IsKey}
 use Rattle.clover_rule.specs.Lists.{nth}

@@ -1,4 +1,4 @@
-use Rattle.std.proofs.Common.{◌≡◌, ◌<◌, ℕ, length, ap, sym, ◌∙◌, arith}
+use Rattle.std.proofs.Common.{length, ap, ◌∙◌, arith}
 use Rattle.clover_plain.proofs.Keys.{word_there, word_past}
 use Rattle.clover_plain.proofs.pool.preset.key_word_of.Goals as goal
 

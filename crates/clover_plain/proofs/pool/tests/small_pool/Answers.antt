@@ -1,4 +1,4 @@
-use Rattle.clover_plain.proofs.Quiet.{one_distinct}
+use Rattle.clover_plain.proofs.Keys.{one_distinct}
 use Rattle.clover_plain.proofs.pool.tests.small_pool.Goals as goal
 
 pub preset-requires-clause-distinct : goal.preset-requires-clause-distinct
