@@ -1,39 +1,23 @@
 -- Where what is copied of the tail is one version's content, the loads of a get gave the value's packing, word for word.
 use Prim.Native.Nat.{suc}
-use Rattle.std.proofs.Common.{◌≡◌, ℕ, ◌<◌, ◌≤◌, ◌++◌, ◌∷◌, List, length, sym, ap, ◌∙◌, subst, arith}
-use Rattle.std.specs.Prelude.{Option, Some, None}
+use Rattle.std.proofs.Common.{◌≡◌, ℕ, ◌<◌, ◌≤◌, ◌++◌, ◌∷◌, length, sym, ap, ◌∙◌, subst}
+use Rattle.std.specs.Prelude.{Option, Some}
 use Rattle.clover_words.specs.declared.bytes.ValueBuf.{ValueBuf}
 use Rattle.clover_words.specs.declared.meta.Kind.TheVariants.{Value as IsValue}
 use Rattle.clover_words.specs.declared.pool.Pool.{Pool}
-use Rattle.clover_words.specs.declared.word.Word.TheVariants.{Next as NextOf, Meta, Value as ValueOf}
-use Rattle.clover_words.specs.declared.word.Side.TheVariants.{Current}
+use Rattle.clover_words.specs.declared.word.Word.TheVariants.{Meta, Value as ValueOf}
 use Rattle.clover_words.specs.Meta.{meta_word}
 use Rattle.clover_words.specs.Pack.{packed, words_of}
-use Rattle.clover_words.specs.Place.{IsWithin, copy_in}
 use Rattle.clover_map.specs.declared.bytes.Value.{Value}
-use Rattle.clover_map.specs.declared.call.Call.TheVariants.{Get}
-use Rattle.clover_map.specs.declared.call.Reply.TheVariants.{Found}
-use Rattle.clover_map.specs.declared.call.Entry.{Entry}
-use Rattle.clover_map.specs.Tagged.{Tagged}
-use Rattle.clover_port.specs.Told.{Open}
 use Rattle.clover_rule.specs.Accesses.{SawWhole}
-use Rattle.clover_rule.specs.Content.{content, Fits}
-use Rattle.clover_rule.specs.History.{shows}
+use Rattle.clover_rule.specs.Content.{content}
 use Rattle.clover_rule.specs.Lists.{nth, Within}
-use Rattle.clover_rule.specs.Meets.{Meets}
-use Rattle.clover_rule.specs.Memory.{Mem, word, home, age}
-use Rattle.clover_rule.specs.Steps.{unlinked}
-use Rattle.clover_rule.specs.Story.{Story}
+use Rattle.clover_rule.specs.Memory.{home}
 use Rattle.clover_rule.specs.Told.{AreOneVersion}
 use Rattle.clover_rule.specs.Words.{buffer_at}
 use Rattle.clover_rule.specs.declared.access.Act.TheVariants.{Load}
 use Rattle.clover_rule.specs.declared.view.View.{View}
-use Rattle.clover_rule.proofs.Decide.{version, copied_word}
-use Rattle.clover_rule.proofs.Keeping.{inside_of, read_next}
 use Rattle.clover_rule.proofs.Spelling.{nth_all, read_content}
-use Rattle.clover_rule.proofs.Ties.{next_again}
-use Rattle.clover_walk.specs.Ending.{Ended}
-use Rattle.clover_walk.proofs.Endings.{at_tail}
 use Rattle.clover_get.specs.Copying.{Copied}
 use Rattle.clover_get.specs.Getting.{value_in}
 use Rattle.clover_get.proofs.Copies.{value_length, value_meta_is, value_unpacks}

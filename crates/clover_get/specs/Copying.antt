@@ -1,21 +1,15 @@
 -- What a get has copied of the tail's version, and what it means that its accesses show a value.
 use Prim.Native.Nat.{suc}
-use Rattle.std.specs.Prelude.{◌≡◌, ℕ, ◌*◌, ◌^◌, ◌<◌, ◌≤◌, length, List, ◌∷◌, ◌++◌, false, Option}
+use Rattle.std.specs.Prelude.{◌≡◌, ℕ, ◌*◌, ◌^◌, ◌<◌, ◌≤◌, List, ◌∷◌, ◌++◌}
 use Rattle.clover_words.specs.declared.bytes.ValueBuf.{ValueBuf}
 use Rattle.clover_words.specs.declared.meta.Kind.TheVariants.{Value as IsValue}
 use Rattle.clover_words.specs.declared.pool.Pool.{Pool}
 use Rattle.clover_words.specs.declared.word.Word.TheVariants.{Meta, Value as ValueOf}
 use Rattle.clover_words.specs.Meta.{meta_word}
-use Rattle.clover_words.specs.Pack.{packed, words_of}
-use Rattle.clover_map.specs.declared.bytes.Value.{Value}
-use Rattle.clover_map.specs.declared.call.Call.TheVariants.{Get}
-use Rattle.clover_map.specs.declared.call.Reply.TheVariants.{Found}
-use Rattle.clover_port.specs.Told.{Open, Made}
-use Rattle.clover_rule.specs.Accesses.{AtTail}
-use Rattle.clover_rule.specs.Content.{value_meta, tombstone, Unpacks}
+use Rattle.clover_words.specs.Pack.{packed}
+use Rattle.clover_rule.specs.Content.{tombstone}
 use Rattle.clover_rule.specs.Lists.{Within}
 use Rattle.clover_rule.specs.Memory.{home}
-use Rattle.clover_rule.specs.Steps.{DecideNext, unlinked}
 use Rattle.clover_rule.specs.Told.{IsMetaWord}
 use Rattle.clover_rule.specs.Words.{buffer_at}
 use Rattle.clover_rule.specs.declared.access.Act.{Act}

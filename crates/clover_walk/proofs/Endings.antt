@@ -1,31 +1,26 @@
 -- What a step of a call leaves of what its actor knew, and that what an access at the tail showed is what the walk goes on by.
-use Rattle.std.proofs.Common.{◌≡◌, ◌≢◌, ℕ, ◌+◌, ◌==◌, List, [], ◌∷◌, ◌++◌, Bool, true, false, cond, eqb, refl, sym, ap, ◌∙◌, inl, inr, ⊎_elim, subst, ne_eqb, eq-eqb, arith}
-use Rattle.std.specs.Prelude.{◌⊎◌, Option, Some, None}
+use Rattle.std.proofs.Common.{◌≡◌, ◌≢◌, ℕ, ◌+◌, ◌==◌, List, [], ◌∷◌, ◌++◌, Bool, true, false, cond, eqb, refl, sym, ap, ◌∙◌, inl, inr, subst, ne_eqb, eq-eqb}
+use Rattle.std.specs.Prelude.{Option, Some, None}
 use Rattle.clover_words.specs.declared.pool.Pool.{Pool}
 use Rattle.clover_words.specs.declared.word.Word.TheVariants.{Next as NextOf}
-use Rattle.clover_map.specs.declared.bytes.Value.{Value}
 use Rattle.clover_map.specs.declared.call.Call.{Call}
 use Rattle.clover_map.specs.declared.call.Entry.{Entry}
 use Rattle.clover_map.specs.declared.call.Reply.{Reply}
-use Rattle.clover_rule.specs.Accesses.{AtTail, Committed, StoredBoth, SawFor, shows_tail, wrote_link}
-use Rattle.clover_rule.specs.History.{named}
+use Rattle.clover_rule.specs.Accesses.{AtTail, Committed, StoredBoth, SawFor}
 use Rattle.clover_rule.specs.Knowing.{link_view}
 use Rattle.clover_rule.specs.Lists.{Within}
 use Rattle.clover_rule.specs.Memory.{Next, word, home, age}
 use Rattle.clover_words.specs.declared.word.Word.{Word}
-use Rattle.clover_rule.specs.Steps.{Step, number_of, LoadNext, DecideNext, RaiseNext, LinkNext, StoreContent, FlushContent, LoadContent, ReadRoot, ReadShort, StoreShort, ReadCount, AbsentCount, IsClient, act_of, word_of, value_of, reply_of, rest_of, client, decided, seen, started, unlinked, turn_at, turn_of, learned, counted}
-use Rattle.clover_rule.specs.Told.{ToldAt, IsShown}
-use Rattle.clover_rule.specs.Words.{next_of, root_of, buffer_at, mem_of}
+use Rattle.clover_rule.specs.Steps.{Step, number_of, LoadNext, DecideNext, RaiseNext, LinkNext, StoreContent, FlushContent, LoadContent, ReadRoot, ReadShort, StoreShort, ReadCount, AbsentCount, act_of, word_of, value_of, reply_of, rest_of, client, decided, seen, started, unlinked, turn_at, turn_of, learned, counted}
+use Rattle.clover_rule.specs.Told.{IsShown}
+use Rattle.clover_rule.specs.Words.{next_of, root_of, buffer_at}
 use Rattle.clover_rule.specs.declared.access.Act.{Act}
-use Rattle.clover_rule.specs.declared.access.Act.TheVariants.{Load}
 use Rattle.clover_rule.specs.declared.view.Link.{Link}
 use Rattle.clover_rule.specs.declared.view.Role.{Role}
 use Rattle.clover_rule.specs.declared.view.Role.TheVariants.{Client}
-use Rattle.clover_rule.specs.declared.view.Pass.{Pass}
 use Rattle.clover_rule.specs.declared.view.View.{View}
-use Rattle.clover_rule.specs.declared.view.Content.{Content}
 use Rattle.clover_port.specs.Told.{Open, Made}
-use Rattle.clover_walk.specs.Walking.{Walking, Stand, OnTail, StandsOn, Holds, Shows, ShowsNext, key_at, budget}
+use Rattle.clover_walk.specs.Walking.{Walking, Stand, OnTail, StandsOn, Holds, ShowsNext, key_at}
 
 -- what every step of a client leaves of the actor's view as it was, the list of accesses and the turns before they are counted
 record Stays (v w : View) : Type 0 where

@@ -1,6 +1,5 @@
 use Rattle.std.proofs.Common.{ap}
 use Rattle.clover_words.specs.Tag.{tag_number}
-use Rattle.clover_words.specs.declared.word.Buffer.{Buffer}
 use Rattle.clover_words.specs.declared.word.Word.TheVariants.{Next as NextOf}
 use Rattle.clover_walk.proofs.Tailing.{last_named}
 use Rattle.clover_walk.proofs.tail.load_last.Goals as goal
