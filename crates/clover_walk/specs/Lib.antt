@@ -1,0 +1,4 @@
+pub mod Walking
+pub mod Turning
+pub mod Standing
+pub mod Kept

@@ -1,0 +1,46 @@
+-- What the answer of a walk's step says.
+use Rattle.std.specs.Prelude.{◌≡◌, ℕ, Bool, true, false, Option, Some, None}
+use Rattle.clover_words.specs.Tag.{TagParts, tag_number}
+use Rattle.clover_walk.specs.declared.turn.Turn.{Turn}
+use Rattle.clover_walk.specs.declared.turn.Turn.TheVariants.{More, AtTail, Behind, Unreached}
+use Rattle.clover_walk.specs.Walking.{Walking, OnTail, Ended, IsOnWay, budget}
+
+-- the answer tells how the walk stands afterwards
+abbrev pub Answers : Walking → Turn → Type 0
+Answers w More = IsOnWay w.stand
+Answers w (AtTail t) = w.stand ≡ OnTail (tag_number t)
+Answers w (Behind n) = (w.stand ≡ Ended) × (n ≡ w.turns)
+Answers w Unreached = ⊥
+
+-- where the access was made, and where it was refused
+abbrev pub OnReached : Turn → Type 0 → Type 0
+OnReached Unreached A = Unit {0}
+OnReached r A = A
+
+abbrev pub OnUnreached : Turn → Type 0 → Type 0
+OnUnreached Unreached A = A
+OnUnreached r A = Unit {0}
+
+-- where the turns of the call are below the budget after an access, and where the walk has not ended
+abbrev pub OnAhead : Turn → Type 0 → Type 0
+OnAhead More A = A
+OnAhead (AtTail t) A = A
+OnAhead r A = Unit {0}
+
+abbrev pub OnGoing : Turn → Type 0 → Type 0
+OnGoing (Behind n) A = Unit {0}
+OnGoing r A = A
+
+abbrev pub IfAtTail : Turn → (TagParts → Type 0) → Type 0
+IfAtTail (AtTail t) P = P t
+IfAtTail r P = Unit {0}
+
+abbrev pub IfBehind : Turn → (ℕ → Type 0) → Type 0
+IfBehind (Behind n) P = P n
+IfBehind r P = Unit {0}
+
+-- where it was known how the access ends, it is refused exactly where that was known
+abbrev pub ExactTurn : Option Bool → Turn → Type 0
+ExactTurn None r = Unit {0}
+ExactTurn (Some true) r = OnReached r ⊥
+ExactTurn (Some false) r = OnUnreached r ⊥

@@ -1,0 +1,154 @@
+-- A walk along a slot's chain, from a start to the tail: where it stands, which step its next access is, and how it goes on by what that access found.
+use Prim.Native.Nat.{suc}
+use Rattle.std.specs.Prelude.{◌≡◌, ℕ, ◌+◌, ◌*◌, ◌<◌, ◌≤◌, List, [], ◌∷◌, Bool, false, cond, eqb, ltb, Option, Some, None}
+use Rattle.clover_words.specs.declared.pool.Pool.{Pool}
+use Rattle.clover_words.specs.declared.word.Word.TheVariants.{Next as NextOf}
+use Rattle.clover_rule.specs.Content.{InRange}
+use Rattle.clover_rule.specs.Lists.{Within}
+use Rattle.clover_rule.specs.Memory.{Next, word, home, age}
+use Rattle.clover_rule.specs.Steps.{Step, ReadRoot, LoadNext, RaiseNext, IsClient, turn_at}
+use Rattle.clover_rule.specs.Told.{IsShown}
+use Rattle.clover_rule.specs.Words.{next_of, root_of, buffer_at}
+use Rattle.clover_rule.specs.declared.view.View.{View}
+use Rattle.clover_walk.specs.declared.start.Start.{Start}
+use Rattle.clover_walk.specs.declared.start.Start.TheVariants.{FromCursor, FromRoot}
+
+-- where a walk stands: the slot's root or a tag's next word is to be loaded, the flushed copy of a link that was loaded is to be raised, the tail is reached, or the walk has ended before it
+pub data Stand : Type 0 where
+  AtRoot : Stand
+  AtTag : ℕ → Stand
+  AtLink : ℕ → ℕ → Stand
+  OnTail : ℕ → Stand
+  Ended : Stand
+
+-- a walk of a call: the turns of the call so far, whether the next access is the call's first, where it began last, and where it stands
+pub record Walking : Type 0 where
+  pub pool : Pool
+  pub slot : ℕ
+  pub turns : ℕ
+  pub first : Bool
+  pub start : Start
+  pub stand : Stand
+
+-- the turns at which a call ends
+abbrev pub budget : Pool → ℕ
+budget p = p.nodes * p.buffers + 2
+
+-- where a walk stands that begins anew, and where it begins after this start was stale
+abbrev pub begins : Start → Stand
+begins FromCursor = AtRoot
+begins FromRoot = AtRoot
+
+abbrev pub next_start : Start → Start
+next_start FromCursor = FromRoot
+next_start FromRoot = FromRoot
+
+-- the walk as it is made
+abbrev pub made_walk : Pool → ℕ → Option ℕ → Walking
+made_walk p s None = record { pool = p; slot = s; turns = 0; first = Bool.true; start = FromRoot; stand = AtRoot }
+made_walk p s (Some t) = record { pool = p; slot = s; turns = 0; first = Bool.true; start = FromCursor; stand = AtTag t }
+
+-- the walk in a call that has made an access already
+abbrev pub begun : Walking → Walking
+begun w = record w { first = false }
+
+-- it has more accesses to make
+abbrev pub IsOnWay : Stand → Type 0
+IsOnWay AtRoot = Unit {0}
+IsOnWay (AtTag t) = Unit {0}
+IsOnWay (AtLink t u) = Unit {0}
+IsOnWay (OnTail t) = ⊥
+IsOnWay Ended = ⊥
+
+-- the step that the next access is; a walk that has ended makes none
+abbrev pub walk_step : Walking → Step
+walk_step w = step_at w.stand
+  where
+    step_at : Stand → Step
+    step_at AtRoot = ReadRoot w.slot
+    step_at (AtTag t) = LoadNext w.slot t
+    step_at (AtLink t u) = RaiseNext (record { slot = w.slot; from = t; to = u })
+    step_at (OnTail t) = LoadNext w.slot t
+    step_at Ended = ReadRoot w.slot
+
+-- the walk stands there without a turn
+abbrev pub placed : Walking → Stand → Walking
+placed w at = record w { first = false; stand = at }
+
+-- the walk makes a turn and stands there, or has ended where its turns reach the budget
+abbrev pub turned : Walking → Start → Stand → Walking
+turned w f at = record w { turns = suc w.turns; first = false; start = f; stand = cond (ltb (suc w.turns) (budget w.pool)) at Ended }
+
+-- how the tag's next word leads on at its own generation: to the tail, or over the link
+abbrev pub hops : Walking → ℕ → Option ℕ → Walking
+hops w t None = placed w (OnTail t)
+hops w t (Some u) = turned w w.start (AtLink t u)
+
+-- how the tag's next word leads on: another generation makes the start stale
+abbrev pub followed : Walking → ℕ → Next → Walking
+followed w t (word a l) = cond (eqb a (age t)) (hops w t l) (turned w (next_start w.start) (begins (next_start w.start)))
+
+-- how a root leads on
+abbrev pub rooted : Walking → Option ℕ → Walking
+rooted w None = placed w AtRoot
+rooted w (Some t) = placed w (AtTag t)
+
+-- how the walk goes on where its access found this number, or where the caller's own access found it at the tail
+abbrev pub goes_on : Walking → ℕ → Walking
+goes_on w x = from w.stand
+  where
+    from : Stand → Walking
+    from AtRoot = rooted w (root_of x)
+    from (AtTag t) = followed w t (next_of x)
+    from (AtLink t u) = placed w (AtTag u)
+    from (OnTail t) = followed w t (next_of x)
+    from Ended = w
+
+-- the key of a slot in a list of names: the first one there
+abbrev pub key_at : List (ℕ × List ℕ) → ℕ → List ℕ
+key_at [] s = []
+key_at (q ∷ qs) s = cond (eqb q.0 s) q.1 (key_at qs s)
+
+-- what the view must hold where the walk stands
+abbrev pub StandsOn : ℕ → Stand → View → Type 0
+StandsOn s AtRoot v = Unit {0}
+StandsOn s (AtTag t) v = Within (s, t) v.pass.durable
+StandsOn s (AtLink t u) v = Within (record { slot = s; from = t; to = u }) v.pass.links
+StandsOn s (OnTail t) v = Within (s, t) v.pass.durable
+StandsOn s Ended v = ⊥
+
+-- the view holds what the walk stands on: the slot is bound, and the turns of the call are those that the walk counted
+pub record Holds (w : Walking) (v : View) : Type 0 where
+  pub pool : v.pass.pool ≡ w.pool
+  pub client : IsClient v
+  pub named : Within (w.slot, key_at v.pass.names w.slot) v.pass.names
+  pub stand : StandsOn w.slot w.stand v
+  pub turns : cond w.first 0 v.pass.turns ≡ w.turns
+  pub below : w.turns < budget w.pool
+
+-- the view after an access of the caller at the tail t that found the number x there: it may stand there, its link is held, and its turn is counted
+pub record Shows (w : Walking) (t : ℕ) (v : View) (x : ℕ) : Type 0 where
+  pub pool : v.pass.pool ≡ w.pool
+  pub client : IsClient v
+  pub named : Within (w.slot, key_at v.pass.names w.slot) v.pass.names
+  pub tail : Within (w.slot, t) v.pass.durable
+  pub number : IsShown w.pool (NextOf (buffer_at (home t))) x
+  pub link : (u : ℕ) → next_of x ≡ word (age t) (Some u) → Within (record { slot = w.slot; from = t; to = u }) v.pass.links
+  pub turns : v.pass.turns ≡ w.turns + turn_at t x
+  pub below : w.turns < budget w.pool
+
+-- the same, where the walk is at its tail
+abbrev pub ShowsNext : Walking → View → ℕ → Type 0
+ShowsNext w v x = at w.stand
+  where
+    at : Stand → Type 0
+    at (OnTail t) = Shows w t v x
+    at _ = ⊥
+
+-- the tags are of the pool
+abbrev pub AreTags : Pool → Stand → Type 0
+AreTags p AtRoot = Unit {0}
+AreTags p (AtTag t) = InRange p t
+AreTags p (AtLink t u) = InRange p t × InRange p u
+AreTags p (OnTail t) = InRange p t
+AreTags p Ended = Unit {0}
