@@ -1,0 +1,6 @@
+pub mod Codes
+pub mod Endings
+pub mod Naming
+pub mod Promises
+pub mod Shown
+pub mod Tailing

@@ -2,3 +2,4 @@ pub mod Walking
 pub mod Turning
 pub mod Standing
 pub mod Kept
+pub mod Ending

@@ -61,15 +61,15 @@ IsOnWay (OnTail t) = ⊥
 IsOnWay Ended = ⊥
 
 -- the step that the next access is; a walk that has ended makes none
+abbrev pub step_at : ℕ → Stand → Step
+step_at s AtRoot = ReadRoot s
+step_at s (AtTag t) = LoadNext s t
+step_at s (AtLink t u) = RaiseNext (record { slot = s; from = t; to = u })
+step_at s (OnTail t) = LoadNext s t
+step_at s Ended = ReadRoot s
+
 abbrev pub walk_step : Walking → Step
-walk_step w = step_at w.stand
-  where
-    step_at : Stand → Step
-    step_at AtRoot = ReadRoot w.slot
-    step_at (AtTag t) = LoadNext w.slot t
-    step_at (AtLink t u) = RaiseNext (record { slot = w.slot; from = t; to = u })
-    step_at (OnTail t) = LoadNext w.slot t
-    step_at Ended = ReadRoot w.slot
+walk_step w = step_at w.slot w.stand
 
 -- the walk stands there without a turn
 abbrev pub placed : Walking → Stand → Walking
@@ -94,15 +94,15 @@ rooted w None = placed w AtRoot
 rooted w (Some t) = placed w (AtTag t)
 
 -- how the walk goes on where its access found this number, or where the caller's own access found it at the tail
+abbrev pub goes_from : Stand → Walking → ℕ → Walking
+goes_from AtRoot w x = rooted w (root_of x)
+goes_from (AtTag t) w x = followed w t (next_of x)
+goes_from (AtLink t u) w x = placed w (AtTag u)
+goes_from (OnTail t) w x = followed w t (next_of x)
+goes_from Ended w x = w
+
 abbrev pub goes_on : Walking → ℕ → Walking
-goes_on w x = from w.stand
-  where
-    from : Stand → Walking
-    from AtRoot = rooted w (root_of x)
-    from (AtTag t) = followed w t (next_of x)
-    from (AtLink t u) = placed w (AtTag u)
-    from (OnTail t) = followed w t (next_of x)
-    from Ended = w
+goes_on w x = goes_from w.stand w x
 
 -- the key of a slot in a list of names: the first one there
 abbrev pub key_at : List (ℕ × List ℕ) → ℕ → List ℕ
@@ -138,12 +138,12 @@ pub record Shows (w : Walking) (t : ℕ) (v : View) (x : ℕ) : Type 0 where
   pub below : w.turns < budget w.pool
 
 -- the same, where the walk is at its tail
+abbrev pub ShowsFrom : Stand → Walking → View → ℕ → Type 0
+ShowsFrom (OnTail t) w v x = Shows w t v x
+ShowsFrom at w v x = ⊥
+
 abbrev pub ShowsNext : Walking → View → ℕ → Type 0
-ShowsNext w v x = at w.stand
-  where
-    at : Stand → Type 0
-    at (OnTail t) = Shows w t v x
-    at _ = ⊥
+ShowsNext w v x = ShowsFrom w.stand w v x
 
 -- the tags are of the pool
 abbrev pub AreTags : Pool → Stand → Type 0

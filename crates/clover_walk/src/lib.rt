@@ -4,8 +4,11 @@
 
 mod reach;
 mod start;
+mod tail;
 mod turn;
 mod walk;
 
+pub use reach::load_next;
+pub use tail::{load_content, load_last};
 pub use turn::Turn;
 pub use walk::Walk;

@@ -1,6 +1,6 @@
 // One access of each kind that a walk makes. The caller names the step by M.
 ghost use Rattle.std.specs.Prelude.{◌≡◌, ◌≤◌, ℕ, IfOk, OnOk, OnErr};
-ghost use Rattle.clover_words.specs.Tag.{tag_number};
+ghost use Rattle.clover_words.specs.Tag.{IsTag, tag_number};
 ghost use Rattle.clover_rule.specs.Steps.{ReadRoot, LoadNext, RaiseNext, Asks, linked};
 ghost use Rattle.clover_rule.specs.declared.step.Kind.TheVariants.{Start, Follow};
 ghost use Rattle.clover_words.specs.declared.word.Word.{Word};
@@ -13,7 +13,8 @@ use clover_words::{Buffer, NextWord, Tag, Word};
 
 // The word that holds the link behind a tag.
 fn next_word(tag: Tag) -> Word
-    ensures { result ≡ NextOf (record { node = tag.node; index = tag.index }) }
+    ensures word { result ≡ NextOf (record { node = tag.node; index = tag.index }) }
+    ensures tag { IsTag tag }
 {
     Word::Next(Buffer {
         node: tag.node,
@@ -69,6 +70,8 @@ pub fn raise_next<P: Port, M: StepName>(
     ensures exact { Exact (P.refuses port.old) result }
 {
     let _ = (first, slot);
+    // Read for its range alone.
+    let _node = to.node;
     let linked = NextWord {
         own: from.generation,
         link: Some(to),

@@ -186,10 +186,9 @@ impl Walk {
         ensures value { self.new ≡ rooted self.old (root_of word) }
         ensures answer { Answers self.new result }
     {
-        match root_decode(word) {
-            Some(Some(tag)) => self.place(Stand::AtTag(tag)),
-            _ => unreachable!(),
-        }
+        // A bound slot's root leads to a tag.
+        let tag = root_decode(word).unwrap().unwrap();
+        self.place(Stand::AtTag(tag))
     }
 
     // Goes on by a next word of the tag.
