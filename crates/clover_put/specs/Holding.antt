@@ -14,9 +14,9 @@ use Rattle.clover_walk.specs.Walking.{Walking, Stand, AtRoot, AtTag, AtLink as O
 use Rattle.clover_put.specs.Putting.{Putting, Stage, Storing, Flushing, Seeking, AtMeta, AtLink, AtDead, AtOther, AtBad, AtRaise, Over, body, call_at, kind_of}
 
 -- the first words of the version are stored, and of these the first ones flushed
-pub record Filled (c : Putting) (stored flushed : ℕ) (v : View) : Type 0 where
-  pub written : (j x : ℕ) → j < stored → nth (body c) j ≡ Some x → Within (record { tag = c.own; place = j; word = x }) v.pass.written × Within (Store (content_at (home c.own) j) Current x) v.pass.since
-  pub flushed : (j x : ℕ) → j < flushed → nth (body c) j ≡ Some x → Within (record { tag = c.own; place = j; word = x }) v.pass.flushed × Within (Store (content_at (home c.own) j) Flushed x) v.pass.since
+pub record Filled (c : Putting) (m n : ℕ) (v : View) : Type 0 where
+  pub written : (j x : ℕ) → j < m → nth (body c) j ≡ Some x → Within (record { tag = c.own; place = j; word = x }) v.pass.written × Within (Store (content_at (home c.own) j) Current x) v.pass.since
+  pub flushed : (j x : ℕ) → j < n → nth (body c) j ≡ Some x → Within (record { tag = c.own; place = j; word = x }) v.pass.flushed × Within (Store (content_at (home c.own) j) Flushed x) v.pass.since
 
 -- how much of the own version is stored and flushed, and that the first store is the first access of the call
 abbrev pub Fills : Stage → Putting → View → Type 0

@@ -6,7 +6,7 @@ use Rattle.clover_map.specs.declared.call.Reply.TheVariants.{Absent, Differs}
 use Rattle.clover_port.specs.Told.{Open, Made, Rose}
 use Rattle.clover_rule.specs.Lists.{Within}
 use Rattle.clover_rule.specs.declared.view.View.{View}
-use Rattle.clover_walk.specs.Ending.{Ended, Committed}
+use Rattle.clover_walk.specs.Ending.{Ended, Commits}
 use Rattle.clover_walk.specs.Turning.{Answers as WalkAnswers, OnAhead as WalkAhead, OnGoing as WalkGoing, IfAtTail, IfBehind as WalkBehind}
 use Rattle.clover_walk.specs.Walking.{Walking, Holds, budget}
 use Rattle.clover_walk.specs.declared.turn.Turn.{Turn}
@@ -25,7 +25,7 @@ turn_bound p turns = (turns + 1) * (p.words + 5) + 2 * p.words + 4
 pub record PutStep (p : Pool) (c : Putting) (v : View) (told : Option Open) (faults : ℕ) (n : Putting) (w : View) (told1 : Option Open) (faults1 : ℕ) (r : PutTurn) : Type 0 where
   pub made : OnReached r ((x : ℕ) × Made p (put_step c v) c.walk.first v told x w told1 × (n ≡ put_on c x))
   pub answer : Answers c n r
-  pub decided : IfDecided r (λ t. Committed p (call_at c v) c.own v told w told1)
+  pub decided : IfDecided r (λ t. Commits p (call_at c v) c.own v told w told1)
   pub done : IfDone r (λ t. Within (c.walk.slot, c.own) w.pass.durable)
   pub absent : IfAbsent r (λ t. Ended p (call_at c v) Absent v told w told1)
   pub differs : IfDiffers r (λ t. Ended p (call_at c v) (Differs (tag_number t)) v told w told1)

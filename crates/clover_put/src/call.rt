@@ -8,7 +8,7 @@ ghost use Rattle.clover_rule.specs.Steps.{unlinked};
 ghost use Rattle.clover_words.specs.Meta.{IsMeta, meta_word as spelled};
 ghost use Rattle.clover_map.specs.declared.call.Reply.TheVariants.{Absent, Differs};
 ghost use Rattle.clover_port.specs.Told.{Made, Rose};
-ghost use Rattle.clover_walk.specs.Ending.{Ended, Committed};
+ghost use Rattle.clover_walk.specs.Ending.{Ended, Commits};
 ghost use Rattle.clover_walk.specs.Turning.{Answers as WalkAnswers};
 ghost use Rattle.clover_walk.specs.Walking.{ShowsNext, goes_on, budget};
 ghost use Rattle.clover_walk.specs.declared.turn.Turn.{Turn as WalkTurn};
@@ -124,7 +124,7 @@ impl PutCall {
         requires holds { PutHolds self.old (P.view port.old) }
         ensures made { OnReached result ((x : ℕ) × Made (P.pool port.old) (put_step self.old (P.view port.old)) self.old.walk.first (P.view port.old) (P.told port.old) x (P.view port.new) (P.told port.new) × (self.new ≡ put_on self.old x)) }
         ensures answer { Answers self.old self.new result }
-        ensures decided { IfDecided result (λ _. Committed (P.pool port.old) (call_at self.old (P.view port.old)) self.old.own (P.view port.old) (P.told port.old) (P.view port.new) (P.told port.new)) }
+        ensures decided { IfDecided result (λ _. Commits (P.pool port.old) (call_at self.old (P.view port.old)) self.old.own (P.view port.old) (P.told port.old) (P.view port.new) (P.told port.new)) }
         ensures done { IfDone result (λ _. Within (self.old.walk.slot, self.old.own) (P.view port.new).pass.durable) }
         ensures absent { IfAbsent result (λ _. Ended (P.pool port.old) (call_at self.old (P.view port.old)) Absent (P.view port.old) (P.told port.old) (P.view port.new) (P.told port.new)) }
         ensures differs { IfDiffers result (λ tag. Ended (P.pool port.old) (call_at self.old (P.view port.old)) (Differs (tag_number tag)) (P.view port.old) (P.told port.old) (P.view port.new) (P.told port.new)) }
@@ -236,10 +236,10 @@ impl PutCall {
         ensures value { self.new ≡ walked self.old self.old.walk }
         ensures answer { result ≡ as_put turn }
     {
-        self.stage = match (&turn, self.job) {
+        self.stage = match (turn, self.job) {
             (Turn::More, _) => Stage::Seeking,
-            (Turn::AtTail(tail), Job::Put) => Stage::AtLink(*tail),
-            (Turn::AtTail(tail), _) => Stage::AtMeta(*tail),
+            (Turn::AtTail(tail), Job::Put) => Stage::AtLink(tail),
+            (Turn::AtTail(tail), _) => Stage::AtMeta(tail),
             (Turn::Behind { .. } | Turn::Unreached, _) => Stage::Over,
         };
         put_turn(turn)

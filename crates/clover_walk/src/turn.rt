@@ -2,7 +2,7 @@
 use clover_words::Tag;
 
 /// What a step of a walk came to.
-#[derive(Drop)]
+#[derive(Clone, Copy)]
 pub enum Turn {
     /// The walk goes on by a further step.
     More,

@@ -79,6 +79,20 @@ impl Walk {
         self.first = false;
     }
 
+    /// The pool that the walk is in.
+    pub fn pool(&self) -> Pool
+        ensures value { result ≡ self.now.pool }
+    {
+        self.pool
+    }
+
+    /// The slot whose chain it walks.
+    pub fn slot(&self) -> u32
+        ensures value { result ≡ self.now.slot }
+    {
+        self.slot
+    }
+
     /// Makes the walk's next access, and goes on by what it found.
     ///
     /// The walk has not ended, nor is it at the tail; the port is of its pool, and of the one actor that makes all
