@@ -11,6 +11,8 @@ use Rattle.clover_rule.specs.Words.{content_at}
 use Rattle.clover_rule.specs.declared.access.Act.TheVariants.{Store}
 use Rattle.clover_rule.specs.declared.view.View.{View}
 use Rattle.clover_walk.specs.Walking.{Walking, Stand, AtRoot, AtTag, AtLink as OnLink, OnTail, Ended, IsOnWay, Holds}
+use Rattle.clover_put.specs.declared.job.Job.{Job}
+use Rattle.clover_put.specs.declared.job.Job.TheVariants.{Put, Delete, Swap}
 use Rattle.clover_put.specs.Putting.{Putting, Stage, Storing, Flushing, Seeking, AtMeta, AtLink, AtDead, AtOther, AtBad, AtRaise, Over, body, call_at, kind_of}
 
 -- the first words of the version are stored, and of these the first ones flushed
@@ -35,9 +37,15 @@ Owns _ c v = (rest : List ℕ) × (v.pass.stock ≡ c.own ∷ rest)
 abbrev pub IsAt : Putting → ℕ → Type 0
 IsAt c u = (c.walk.stand ≡ OnTail u) × InRange c.walk.pool u
 
+-- the job looks at the tail's meta word
+abbrev pub Reads : Job → Type 0
+Reads Put = ⊥
+Reads Delete = Unit {0}
+Reads (Swap t) = Unit {0}
+
 -- what the call has seen where it stands
 abbrev pub Looks : Stage → Putting → View → Type 0
-Looks (AtMeta u) c v = IsAt c u
+Looks (AtMeta u) c v = IsAt c u × Reads c.job
 Looks (AtLink u) c v = IsAt c u × MayCall v c.walk.slot u (call_at c v) × SawFor u (call_at c v) v.pass.since
 Looks (AtDead u) c v = IsAt c u × MayReply v c.walk.slot u (call_at c v) Absent × SawDead u v.pass.since
 Looks (AtOther u) c v = IsAt c u × MayReply v c.walk.slot u (call_at c v) (Differs u) × SawLive u v.pass.since

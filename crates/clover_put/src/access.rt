@@ -1,5 +1,6 @@
 // One access of each kind that a put makes beside those of its walk. The caller names the step by M.
 ghost use Rattle.std.specs.Prelude.{◌≡◌, ◌≤◌, ℕ, false, take, Some, IfOk, OnOk, OnErr};
+ghost use Rattle.clover_words.specs.Next.{next_word};
 ghost use Rattle.clover_words.specs.Tag.{IsTag, tag_number};
 ghost use Rattle.clover_words.specs.declared.word.Word.{Word};
 ghost use Rattle.clover_words.specs.declared.word.Word.TheVariants.{Next as NextOf};
@@ -48,6 +49,20 @@ pub fn unlinked_word(tag: Tag) -> u64
     NextWord {
         own: tag.generation,
         link: None,
+    }
+    .encode()
+}
+
+// The number of a tag's next word where it is linked to the own tag.
+fn linked_word(tag: Tag, own: Tag) -> u64
+    ensures value { result ≡ next_word (record { own = tag.generation; link = Some own }) }
+    ensures own { IsTag own }
+{
+    // Made for the range of the own tag alone.
+    let _ = buffer_of(own);
+    NextWord {
+        own: tag.generation,
+        link: Some(own),
     }
     .encode()
 }
@@ -114,13 +129,7 @@ pub fn link_own<P: Port, M: StepName>(
 {
     let _ = (slot, job, flags);
     let _ = bytes.len();
-    // Read for its range alone.
-    let _ = own.node;
-    let linked = NextWord {
-        own: tail.generation,
-        link: Some(own),
-    };
-    exchange_as::<P, M>(port, Word::Next(buffer_of(tail)), unlinked_word(tail), linked.encode())
+    exchange_as::<P, M>(port, Word::Next(buffer_of(tail)), unlinked_word(tail), linked_word(tail, own))
 }
 
 /// Loads a tombstone's next word again: where it shows the tag unlinked, the call is answered absent.

@@ -12,11 +12,11 @@ ghost use Rattle.clover_walk.specs.Ending.{Ended, Commits};
 ghost use Rattle.clover_walk.specs.Turning.{Answers as WalkAnswers};
 ghost use Rattle.clover_walk.specs.Walking.{ShowsNext, goes_on, budget};
 ghost use Rattle.clover_walk.specs.declared.turn.Turn.{Turn as WalkTurn};
-ghost use Rattle.clover_put.specs.Putting.{Storing, Flushing, Seeking, AtMeta, AtLink, AtDead, AtOther, AtBad, AtRaise, Over, made_put, put_step, put_on, call_at, body, staged, filled, walked, after_store, after_flush, on_meta, on_value, kind_of};
+ghost use Rattle.clover_put.specs.Putting.{Storing, Flushing, Seeking, AtMeta, AtLink, AtDead, AtOther, AtBad, AtRaise, Over, made_put, put_step, put_on, call_at, body, body_word, at_tail, staged, filled, walked, after_store, after_flush, on_meta, on_value, kind_of};
 ghost use Rattle.clover_put.specs.Answering.{Answers, OnReached, OnRefused, OnGoing, OnAhead, IfDecided, IfDone, IfAbsent, IfDiffers, IfBehind, ExactPut};
 ghost use Rattle.clover_put.specs.Holding.{PutHolds};
 ghost use Rattle.clover_put.specs.Standing.{standing};
-ghost use Rattle.clover_put.specs.Stepping.{PutStep, Went, as_put, turn_bound};
+ghost use Rattle.clover_put.specs.Stepping.{PutStep, Went, as_put, stage_on, turn_bound};
 
 use crate::access::{
     flush_content, link_own, load_dead, load_other, store_content, unlinked_word,
@@ -63,7 +63,10 @@ impl Model for PutCall {
 fn kind_in(word: u64) -> Option<Kind>
     ensures { result ≡ kind_of word }
 {
-    Some(Meta::decode(word)?.kind)
+    match Meta::decode(word) {
+        Some(meta) => Some(meta.kind),
+        None => None,
+    }
 }
 
 // What the walk's answer is for the call.
@@ -74,6 +77,27 @@ fn put_turn(turn: Turn) -> PutTurn
         Turn::More | Turn::AtTail(_) => PutTurn::More,
         Turn::Behind { turns } => PutTurn::Behind { turns },
         Turn::Unreached => PutTurn::Unreached,
+    }
+}
+
+// What a job does at a tail.
+fn at_tail_stage(job: Job, tail: Tag) -> Stage
+    ensures { standing result ≡ at_tail job (tag_number tail) }
+{
+    match job {
+        Job::Put => Stage::AtLink(tail),
+        Job::Delete | Job::Swap(_) => Stage::AtMeta(tail),
+    }
+}
+
+// Where a job stands after the walk's answer.
+fn stage_after(job: Job, turn: Turn) -> Stage
+    ensures { standing result ≡ stage_on job turn }
+{
+    match turn {
+        Turn::More => Stage::Seeking,
+        Turn::AtTail(tail) => at_tail_stage(job, tail),
+        Turn::Behind { .. } | Turn::Unreached => Stage::Over,
     }
 }
 
@@ -166,7 +190,7 @@ impl PutCall {
     // The content word of the own version at this place.
     fn body_word(&self, place: u32) -> u64
         requires { place < length (body self.now) }
-        ensures { nth (body self.now) place ≡ Some result }
+        ensures { result ≡ body_word self.now.job self.now.value place }
     {
         match self.job {
             Job::Delete => meta_word(Kind::Tombstone, 0, 0),
@@ -197,7 +221,8 @@ impl PutCall {
         requires { place < length (body self.now) }
         ensures { standing result ≡ after_store (length (body self.now)) place }
     {
-        if place + 1 < self.body_length() {
+        let length = self.body_length();
+        if place + 1 < length {
             Stage::Storing(place + 1)
         } else {
             Stage::Flushing(0)
@@ -209,7 +234,8 @@ impl PutCall {
         requires { place < length (body self.now) }
         ensures { standing result ≡ after_flush (length (body self.now)) place }
     {
-        if place + 1 < self.body_length() {
+        let length = self.body_length();
+        if place + 1 < length {
             Stage::Flushing(place + 1)
         } else {
             Stage::Seeking
@@ -236,12 +262,7 @@ impl PutCall {
         ensures value { self.new ≡ walked self.old self.old.walk }
         ensures answer { result ≡ as_put turn }
     {
-        self.stage = match (turn, self.job) {
-            (Turn::More, _) => Stage::Seeking,
-            (Turn::AtTail(tail), Job::Put) => Stage::AtLink(tail),
-            (Turn::AtTail(tail), _) => Stage::AtMeta(tail),
-            (Turn::Behind { .. } | Turn::Unreached, _) => Stage::Over,
-        };
+        self.stage = stage_after(self.job, turn);
         put_turn(turn)
     }
 
