@@ -1,11 +1,12 @@
 -- The content words of the version that a put commits, and what a meta word says.
 use Prim.Native.Nat.{zero, suc}
-use Rattle.std.proofs.Common.{◌≡◌, ◌≢◌, ℕ, ◌+◌, ◌-◌, ◌*◌, ◌/◌, ◌%◌, ◌^◌, ◌<◌, ◌≤◌, ◌==◌, List, [], ◌∷◌, length, Bool, true, false, cond, eqb, ltb, leb, ◌&&◌, refl, sym, ap, ◌∙◌, arith, subst, eqb-true, eq-eqb, ne_eqb}
+use Rattle.std.proofs.Common.{⊎_elim, ◌⊎◌, ◌≡◌, ◌≢◌, ℕ, ◌+◌, ◌-◌, ◌*◌, ◌/◌, ◌%◌, ◌^◌, ◌<◌, ◌≤◌, ◌==◌, List, [], ◌∷◌, length, Bool, true, false, cond, eqb, ltb, leb, ◌&&◌, refl, sym, ap, ◌∙◌, arith, subst, eqb-true, eq-eqb, ne_eqb}
 use Rattle.std.specs.Prelude.{Option, Some, None}
 use Rattle.std.proofs.lemmas.Bool.Decides.{nat_tests}
 use Rattle.clover_words.specs.declared.meta.Kind.{Kind}
 use Rattle.clover_words.specs.declared.meta.Kind.TheVariants.{Value as IsValue, Tombstone}
 use Rattle.clover_words.specs.Meta.{MetaParts, IsMeta, meta_word}
+use Rattle.clover_words.specs.Tag.{TagParts}
 use Rattle.clover_words.specs.Pack.{packed, words_of}
 use Rattle.clover_map.specs.declared.bytes.Value.{Value}
 use Rattle.clover_rule.specs.Content.{content, tombstone, value_meta, words_from, all_words, Fits}
@@ -137,3 +138,13 @@ kind_none y no_meta = go (kind_of y) refl
 
 pub none_some : {A : Type 0} (o : Option A) (x : A) → o ≡ None → o ≡ Some x → ⊥
 none_some o x e f = let q : None ≡ Some x = sym e ∙ f in absurd cc
+
+-- how many words the version of a job has
+pub count_dead : (j : Job) (x : Value) → j ≡ Delete → 1 ≡ length (content (commits j x))
+count_dead j x e = sym (ap (λ (z : Job). length (content (commits z x))) e ∙ tombstone_length)
+
+pub count_value : (j : Job) (x : Value) (n : ℕ) → (j ≡ Put) ⊎ ((t : TagParts) × (j ≡ Swap t)) → n ≡ length x.bytes → 1 + (n + 7) / 8 ≡ length (content (commits j x))
+count_value j x n h e =
+    let l = value_length x in
+    let q : length (content (commits j x)) ≡ length (content (Some x)) = ⊎_elim (λ q. ap (λ (z : Job). length (content (commits z x))) q) (λ q. ap (λ (z : Job). length (content (commits z x))) q.1) h in
+    omega arith

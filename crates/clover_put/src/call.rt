@@ -183,7 +183,7 @@ impl PutCall {
     {
         match self.job {
             Job::Delete => 1,
-            Job::Put | Job::Swap(_) => 1 + self.buffer.length.div_ceil(8),
+            Job::Put | Job::Swap(_) => 1 + (self.buffer.value().len() as u32 + 7) / 8,
         }
     }
 
