@@ -15,8 +15,7 @@ use Rattle.clover_put.specs.declared.turn.PutTurn.{PutTurn}
 use Rattle.clover_put.specs.declared.turn.PutTurn.TheVariants.{More, Behind, Unreached}
 use Rattle.clover_put.specs.Answering.{Answers, OnReached, OnRefused, OnGoing, OnAhead, IfDecided, IfDone, IfAbsent, IfDiffers, IfBehind}
 use Rattle.clover_put.specs.Holding.{PutHolds}
-use Rattle.clover_put.specs.declared.job.Job.{Job}
-use Rattle.clover_put.specs.Putting.{Putting, Stage, Seeking, Over, at_tail, put_step, put_on, call_at}
+use Rattle.clover_put.specs.Putting.{Putting, put_step, put_on, call_at}
 
 -- the most accesses of a call in a pool, after so many turns
 abbrev pub turn_bound : Pool → ℕ → ℕ
@@ -42,13 +41,6 @@ as_put WalkMore = More
 as_put (AtTail t) = More
 as_put (WalkBehindBy n) = Behind n
 as_put WalkUnreached = Unreached
-
--- where a job stands after the walk's answer
-abbrev pub stage_on : Job → Turn → Stage
-stage_on j WalkMore = Seeking
-stage_on j (AtTail t) = at_tail j (tag_number t)
-stage_on j (WalkBehindBy n) = Over
-stage_on j WalkUnreached = Over
 
 -- a walk in the slot s went on to n with this answer, and v is the view afterwards
 pub record Went (p : Pool) (s : ℕ) (n : Walking) (v : View) (r : Turn) : Type 0 where

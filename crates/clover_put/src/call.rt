@@ -16,7 +16,7 @@ ghost use Rattle.clover_put.specs.Putting.{Storing, Flushing, Seeking, AtMeta, A
 ghost use Rattle.clover_put.specs.Answering.{Answers, OnReached, OnRefused, OnGoing, OnAhead, IfDecided, IfDone, IfAbsent, IfDiffers, IfBehind, ExactPut};
 ghost use Rattle.clover_put.specs.Holding.{PutHolds};
 ghost use Rattle.clover_put.specs.Standing.{standing};
-ghost use Rattle.clover_put.specs.Stepping.{PutStep, Went, as_put, stage_on, turn_bound};
+ghost use Rattle.clover_put.specs.Stepping.{PutStep, Went, as_put, turn_bound};
 
 use crate::access::{
     flush_content, link_own, load_dead, load_other, store_content, unlinked_word,
@@ -69,17 +69,6 @@ fn kind_in(word: u64) -> Option<Kind>
     }
 }
 
-// What the walk's answer is for the call.
-fn put_turn(turn: Turn) -> PutTurn
-    ensures { result ≡ as_put turn }
-{
-    match turn {
-        Turn::More | Turn::AtTail(_) => PutTurn::More,
-        Turn::Behind { turns } => PutTurn::Behind { turns },
-        Turn::Unreached => PutTurn::Unreached,
-    }
-}
-
 // What a job does at a tail.
 fn at_tail_stage(job: Job, tail: Tag) -> Stage
     ensures { standing result ≡ at_tail job (tag_number tail) }
@@ -87,17 +76,6 @@ fn at_tail_stage(job: Job, tail: Tag) -> Stage
     match job {
         Job::Put => Stage::AtLink(tail),
         Job::Delete | Job::Swap(_) => Stage::AtMeta(tail),
-    }
-}
-
-// Where a job stands after the walk's answer.
-fn stage_after(job: Job, turn: Turn) -> Stage
-    ensures { standing result ≡ stage_on job turn }
-{
-    match turn {
-        Turn::More => Stage::Seeking,
-        Turn::AtTail(tail) => at_tail_stage(job, tail),
-        Turn::Behind { .. } | Turn::Unreached => Stage::Over,
     }
 }
 
@@ -262,8 +240,21 @@ impl PutCall {
         ensures value { self.new ≡ walked self.old self.old.walk }
         ensures answer { result ≡ as_put turn }
     {
-        self.stage = stage_after(self.job, turn);
-        put_turn(turn)
+        match turn {
+            Turn::More => {
+                self.stage = Stage::Seeking;
+                PutTurn::More
+            }
+            Turn::AtTail(tail) => {
+                self.stage = at_tail_stage(self.job, tail);
+                PutTurn::More
+            }
+            Turn::Behind { turns } => {
+                self.stage = Stage::Over;
+                PutTurn::Behind { turns }
+            }
+            Turn::Unreached => unreachable!(),
+        }
     }
 
     // Takes a next word that the call's own access found at the tail, and goes on as after a load of the walk.
