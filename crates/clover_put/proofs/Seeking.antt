@@ -20,8 +20,9 @@ use Rattle.clover_rule.specs.Words.{next_of, root_of, next_code, buffer_at}
 use Rattle.clover_rule.specs.declared.access.Act.{Act}
 use Rattle.clover_rule.specs.declared.view.View.{View}
 use Rattle.clover_rule.proofs.Steps.{each_within}
-use Rattle.clover_walk.specs.Walking.{Walking, Stand, AtRoot, AtTag, AtLink as OnLink, OnTail, Ended, Holds, IsOnWay, ShowsNext, walk_step, step_at, goes_on}
-use Rattle.clover_walk.specs.Turning.{OnReached as WalkReached, OnUnreached as WalkUnreachedSo, ExactTurn}
+use Rattle.clover_words.specs.Tag.{TagParts, tag_number}
+use Rattle.clover_walk.specs.Walking.{Walking, Stand, AtRoot, AtTag, AtLink as OnLink, OnTail, Ended, Holds, IsOnWay, ShowsNext, walk_step, step_at, goes_on, budget}
+use Rattle.clover_walk.specs.Turning.{OnReached as WalkReached, ExactTurn, Answers as WalkAnswers, IfAtTail, IfBehind as WalkIfBehind, OnAhead as WalkAhead, OnGoing as WalkGoing}
 use Rattle.clover_walk.specs.declared.turn.Turn.{Turn}
 use Rattle.clover_walk.specs.declared.turn.Turn.TheVariants.{More as WalkMore, AtTail, Behind as WalkBehind, Unreached as WalkUnreached}
 use Rattle.clover_walk.proofs.Endings.{Stepped, Keeps, IsPlain, stepped, kept, shows_load, shows_decide, shows_link}
@@ -176,3 +177,23 @@ other_shows p c v o w o1 u x h here at made d = let k = at_stage c (AtOther u) v
 
 pub bad_shows : (p : Pool) (c : Putting) (v : View) (o : Option Open) (w : View) (o1 : Option Open) (u x : ℕ) → PutHolds c v → p ≡ c.walk.pool → c.stage ≡ AtBad u → Made p (LoadNext c.walk.slot u) false v o x w o1 → ShowsNext c.walk w x
 bad_shows p c v o w o1 u x h here at made = let k = at_stage c (AtBad u) v at h in shows_load c.walk u p v o x w o1 h.walk k.2.0.0 k.1.1 here made
+
+-- what a walk's clauses say together
+pub went_by : (p q : Pool) (s z : ℕ) (n : Walking) (v : View) (r : Turn) (A B : TagParts → Type 0) → q ≡ p → z ≡ s → WalkAnswers n r → IfAtTail r (λ t. A t × B t × Within (z, tag_number t) v.pass.durable)
+    → WalkIfBehind r (λ k. (k ≡ budget q) × (v.pass.turns ≡ budget q)) → WalkAhead r (v.pass.turns < budget q) → WalkGoing r (Holds n v) → Went p s n v r
+went_by p q s z n v r A B eq es answer tail behind ahead stands = record {
+  answer = answer;
+  tail = subst (λ (k : ℕ). IfAtTail r (λ t. Within (k, tag_number t) v.pass.durable)) es (last r tail);
+  behind = subst (λ (k : Pool). WalkIfBehind r (λ m. (m ≡ budget k) × (v.pass.turns ≡ budget k))) eq behind;
+  ahead = subst (λ (k : Pool). WalkAhead r (v.pass.turns < budget k)) eq ahead;
+  stands = stands;
+}
+  where
+    last : (r : Turn) → IfAtTail r (λ t. A t × B t × Within (z, tag_number t) v.pass.durable) → IfAtTail r (λ t. Within (z, tag_number t) v.pass.durable)
+    last WalkMore h = tt
+    last (AtTail t) h = h.2
+    last (WalkBehind m) h = tt
+    last WalkUnreached h = tt
+
+pub went_in : (p q : Pool) (s z : ℕ) (n m : Walking) (v : View) (r : Turn) → q ≡ p → z ≡ s → n ≡ m → Went q z n v r → Went p s m v r
+went_in p q s z n m v r eq es en h = subst (λ (y : Walking). Went p s y v r) en (subst (λ (y : ℕ). Went p y n v r) es (subst (λ (y : Pool). Went y z n v r) eq h))

@@ -17,11 +17,11 @@ use Rattle.clover_port.specs.Told.{Open, Made, Rose}
 use Rattle.clover_rule.specs.Accesses.{SawDead, SawLive, SawFor, StoredBoth, Decides, Committed, AtTail}
 use Rattle.clover_rule.specs.Content.{content, tombstone, InRange}
 use Rattle.clover_rule.specs.History.{named}
-use Rattle.clover_rule.specs.Knowing.{SawTombstone, SawValue}
+use Rattle.clover_rule.specs.Knowing.{SawTombstone, SawValue, link_view}
 use Rattle.clover_rule.specs.Lists.{nth, Within}
 use Rattle.clover_rule.specs.Memory.{home}
-use Rattle.clover_rule.specs.Steps.{Step, LoadContent, LinkNext, DecideNext, RaiseNext, MayCall, MayReply, unlinked, value_of, reply_of, turn_of, turn_at}
-use Rattle.clover_rule.specs.Words.{buffer_at, content_at}
+use Rattle.clover_rule.specs.Steps.{Step, LoadContent, LinkNext, DecideNext, RaiseNext, MayCall, MayReply, unlinked, value_of, reply_of, turn_of, turn_at, counted, act_of, client, rest_of, seen}
+use Rattle.clover_rule.specs.Words.{buffer_at, content_at, next_of}
 use Rattle.clover_rule.specs.declared.access.Act.{Act}
 use Rattle.clover_rule.specs.declared.access.Act.TheVariants.{Load, Store}
 use Rattle.clover_rule.specs.declared.view.View.{View}
@@ -144,3 +144,171 @@ pub look_done : (p : Pool) (c : Putting) (v : View) (o : Option Open) (f : ℕ) 
 look_done p c v o f w o1 f1 h here fit u y t s n at et en es made =
     subst (λ (z : Putting). PutStep p c v o f z w o1 f1 More) (sym (en ∙ ap (staged c) es))
     (look_step p c v o f w o1 f1 h here fit u at y (subst (λ (z : ℕ). Made p (LoadContent z u 0) false v o y w o1) et made))
+
+-- what a job commits, and the key that its call names
+pub value_is : (j : Job) (k : List ℕ) (x : Value) → value_of (call_of j k x) ≡ commits j x
+value_is Put k x = refl
+value_is Delete k x = refl
+value_is (Swap t) k x = refl
+
+pub named_is : (j : Job) (k : List ℕ) (x : Value) → named (call_of j k x) ≡ k
+named_is Put k x = refl
+named_is Delete k x = refl
+named_is (Swap t) k x = refl
+
+decides_link : (p : Pool) (ws : List ℕ) (names : List (ℕ × List ℕ)) (acts : List Act) (j : Job) (k : List ℕ) (x : Value) (t : ℕ) → Committed p ws (call_of j k x) t acts → Decides p ws names acts (call_of j k x) (reply_of t (call_of j k x))
+decides_link p ws names acts Put k x t h = h
+decides_link p ws names acts Delete k x t h = h
+decides_link p ws names acts (Swap e) k x t h = h
+
+decides_dead : (p : Pool) (ws : List ℕ) (names : List (ℕ × List ℕ)) (acts : List Act) (j : Job) (k : List ℕ) (x : Value) (v : View) (s u : ℕ) → MayReply v s u (call_of j k x) Absent → AtTail p ws (call_of j k x) u (SawDead u) acts → Decides p ws names acts (call_of j k x) Absent
+decides_dead p ws names acts Put k x v s u m h = absurd m
+decides_dead p ws names acts Delete k x v s u m h = inl (u, h)
+decides_dead p ws names acts (Swap e) k x v s u m h = inl (u, h)
+
+decides_other : (p : Pool) (ws : List ℕ) (names : List (ℕ × List ℕ)) (acts : List Act) (j : Job) (k : List ℕ) (x : Value) (v : View) (s u : ℕ) → MayReply v s u (call_of j k x) (Differs u) → AtTail p ws (call_of j k x) u (SawLive u) acts → Decides p ws names acts (call_of j k x) (Differs u)
+decides_other p ws names acts Put k x v s u m h = absurd m
+decides_other p ws names acts Delete k x v s u m h = absurd m
+decides_other p ws names acts (Swap e) k x v s u m h = (m.1, h)
+
+-- both copies of the whole version are stored
+pub stored_both : (c : Putting) (v : View) (k : List ℕ) → Filled c (length (body c)) (length (body c)) v → StoredBoth c.own (value_of (call_of c.job k c.value)) v.pass.since
+stored_both c v k f j x q =
+    let e = ap (λ (o : Option Value). nth (content o) j) (sym (value_is c.job k c.value)) ∙ q in
+    let l = nth_less (body c) j x e in
+    ((f.written j x l e).1, (f.flushed j x l e).1)
+
+module _ (p : Pool) (c : Putting) (v : View) (o : Option Open) (f : ℕ) (w : View) (o1 : Option Open) (f1 : ℕ) (h : PutHolds c v) (here : p ≡ c.walk.pool) (fit : length (body c) ≤ suc p.words) (u : ℕ) (t : TagParts) where
+  abbrev key : List ℕ
+  key = key_at v.pass.names c.walk.slot
+
+  module _ (at : c.stage ≡ AtLink u) (own : tag_number t ≡ c.own) (made : Made p (LinkNext c.walk.slot u c.own (call_at c v)) false v o (unlinked u) w o1) where
+    kl : Owns (AtLink u) c v × Fills (AtLink u) c v × Looks (AtLink u) c v × (cond c.walk.first 0 (length v.pass.since) ≤ behind_it c + 3)
+    kl = at_stage c (AtLink u) v at h
+
+    laterl : Made p (LinkNext c.walk.slot u c.own (call_at c v)) c.walk.first v o (unlinked u) w o1
+    laterl = subst (λ (b : Bool). Made p (LinkNext c.walk.slot u c.own (call_at c v)) b v o (unlinked u) w o1) (sym kl.1.1) made
+
+    sl : Stepped (LinkNext c.walk.slot u c.own (call_at c v)) c.walk.first (unlinked u) v w
+    sl = stepped p (LinkNext c.walk.slot u c.own (call_at c v)) c.walk.first v o (unlinked u) w o1 laterl
+
+    same : (unlinked u == unlinked u) ≡ true
+    same = eq-eqb (unlinked u) (unlinked u) refl
+
+    next : w ≡ counted false (act_of (LinkNext c.walk.slot u c.own (call_at c v)) (unlinked u)) (turn_at u (unlinked u)) (link_view v made.now.history (client v) c.walk.slot u c.own (call_at c v) (reply_of c.own (call_at c v)) (rest_of v.pass.stock))
+    next = made.told.next ∙ ap (λ (b : Bool). counted false (act_of (LinkNext c.walk.slot u c.own (call_at c v)) (unlinked u)) (turn_at u (unlinked u)) (cond b (link_view v made.now.history (client v) c.walk.slot u c.own (call_at c v) (reply_of c.own (call_at c v)) (rest_of v.pass.stock)) (seen c.walk.slot u v (next_of (unlinked u))))) same
+
+    heldl : Holds c.walk w
+    heldl = holds_later c.walk w kl.1.1 (walk_kept c.walk v w _ (unlinked u) h.walk sl (ap (λ (b : Bool). cond b 0 1) same)
+        (λ q i. subst (Within q) (sym (ap (λ (z : View). z.pass.durable) next)) i) (λ l i. subst (Within l) (sym (ap (λ (z : View). z.pass.links) next)) (inr i)))
+
+    spentl : length w.pass.since ≤ suc (behind_it c + 3)
+    spentl = one_more c.walk.first v w _ (behind_it c + 3) sl.since kl.3
+
+    pub link_hit : PutStep p c v o f (staged c (AtRaise u)) w o1 f1 (Decided t)
+    link_hit =
+        let turns : w.pass.turns ≡ c.walk.turns = subst (λ (b : Bool). cond b 0 w.pass.turns ≡ c.walk.turns) kl.1.1 heldl.turns in record {
+          made = (unlinked u, subst (λ (a : Step). Made p a c.walk.first v o (unlinked u) w o1) (sym (at_step c (AtLink u) v at)) laterl,
+              sym (at_on c (AtLink u) (unlinked u) at ∙ ap (λ (b : Bool). cond b (staged c (AtRaise u)) (walked c (goes_on c.walk (unlinked u)))) same));
+          answer = (u, at, refl, own);
+          decided = record { slot = c.walk.slot; tail = u; made = made; decides = decides_link p made.now.words v.pass.names w.pass.since c.job key c.value c.own (committed_by p c.walk.slot u c.own (call_at c v) v o w o1 made (stored_both c v key kl.1.0) kl.2.2) };
+          done = tt; absent = tt; differs = tt; behind = tt;
+          ahead = subst (λ (n : ℕ). n < budget p) (sym turns) (subst (λ (q : Pool). c.walk.turns < budget q) (sym here) heldl.below);
+          refused = tt;
+          stands = record { walk = heldl; owns = tt; fills = kl.1.1; looks = (kl.2.0, subst (Within (record { slot = c.walk.slot; from = u; to = c.own })) (sym (ap (λ (z : View). z.pass.links) next)) (inl refl)); spent = subst (λ (b : Bool). cond b 0 (length w.pass.since) ≤ behind_it c + 4) (sym kl.1.1) (omega (arith, spentl)) };
+          bound = bounded p (length w.pass.since) (length (body c)) w.pass.turns (let q = spentl in omega arith) fit;
+        }
+
+  -- the last load of a tombstone, and of another tag than the expected one
+  module _ (r : Reply) (at_r : ℕ → Stage) (at : c.stage ≡ at_r u) (first : c.walk.first ≡ false) (own : tag_number t ≡ u) (spent_v : cond c.walk.first 0 (length v.pass.since) ≤ behind_it c + 3)
+      (made : Made p (DecideNext c.walk.slot u (call_at c v) r) false v o (unlinked u) w o1) (step : put_step c v ≡ DecideNext c.walk.slot u (call_at c v) r) (goes : put_on c (unlinked u) ≡ unless_left c u Over (unlinked u)) where
+    laterd : Made p (put_step c v) c.walk.first v o (unlinked u) w o1
+    laterd = subst (λ (b : Bool). Made p (put_step c v) b v o (unlinked u) w o1) (sym first) (subst (λ (a : Step). Made p a false v o (unlinked u) w o1) (sym step) made)
+
+    sd : Stepped (DecideNext c.walk.slot u (call_at c v) r) false (unlinked u) v w
+    sd = stepped p (DecideNext c.walk.slot u (call_at c v) r) false v o (unlinked u) w o1 made
+
+    samed : (unlinked u == unlinked u) ≡ true
+    samed = eq-eqb (unlinked u) (unlinked u) refl
+
+    pub turnsd : w.pass.turns ≡ c.walk.turns
+    turnsd =
+        let a : v.pass.turns ≡ c.walk.turns = subst (λ (b : Bool). cond b 0 v.pass.turns ≡ c.walk.turns) first h.walk.turns in
+        let b : turn_at u (unlinked u) ≡ 0 = ap (λ (b : Bool). cond b 0 1) samed in let s = sd.turns in omega arith
+
+    pub maded : (x : ℕ) × Made p (put_step c v) c.walk.first v o x w o1 × (staged c Over ≡ put_on c x)
+    maded = (unlinked u, laterd, sym (goes ∙ ap (λ (b : Bool). cond b (staged c Over) (walked c (goes_on c.walk (unlinked u)))) samed))
+
+    pub boundd : length w.pass.since ≤ turn_bound p w.pass.turns
+    boundd =
+        let a : length v.pass.since ≤ behind_it c + 3 = subst (λ (b : Bool). cond b 0 (length v.pass.since) ≤ behind_it c + 3) first spent_v in
+        let q = one_more false v w _ (behind_it c + 3) sd.since a in let e = turnsd in bounded p (length w.pass.since) (length (body c)) w.pass.turns (omega arith) fit
+
+    pub aheadd : w.pass.turns < budget p
+    aheadd = subst (λ (n : ℕ). n < budget p) (sym turnsd) (subst (λ (q : Pool). c.walk.turns < budget q) (sym here) h.walk.below)
+
+  pub dead_hit : c.stage ≡ AtDead u → tag_number t ≡ u → (made : Made p (DecideNext c.walk.slot u (call_at c v) Absent) false v o (unlinked u) w o1) → PutStep p c v o f (staged c Over) w o1 f1 (AbsentTurn t)
+  dead_hit at own made =
+      let k = at_stage c (AtDead u) v at h in
+      let step = at_step c (AtDead u) v at in let goes = at_on c (AtDead u) (unlinked u) at in record {
+        made = maded Absent AtDead at k.1.1 own k.3 made step goes;
+        answer = (at ∙ ap AtDead (sym own), refl);
+        decided = tt; done = tt;
+        absent = record { slot = c.walk.slot; tag = u; made = made; decides = decides_dead p made.now.words v.pass.names w.pass.since c.job key c.value v c.walk.slot u k.2.1 (at_tail p c.walk.slot u (call_at c v) Absent (SawDead u) v o w o1 made k.2.2) };
+        differs = tt; behind = tt;
+        ahead = aheadd Absent AtDead at k.1.1 own k.3 made step goes;
+        refused = tt; stands = tt;
+        bound = boundd Absent AtDead at k.1.1 own k.3 made step goes;
+      }
+
+  pub other_hit : c.stage ≡ AtOther u → tag_number t ≡ u → (made : Made p (DecideNext c.walk.slot u (call_at c v) (Differs u)) false v o (unlinked u) w o1) → PutStep p c v o f (staged c Over) w o1 f1 (DiffersTurn t)
+  other_hit at own made =
+      let k = at_stage c (AtOther u) v at h in
+      let step = at_step c (AtOther u) v at in let goes = at_on c (AtOther u) (unlinked u) at in record {
+        made = maded (Differs u) AtOther at k.1.1 own k.3 made step goes;
+        answer = (at ∙ ap AtOther (sym own), refl);
+        decided = tt; done = tt; absent = tt;
+        differs = subst (λ (n : ℕ). Ended p (call_at c v) (Differs n) v o w o1) (sym own) (record { slot = c.walk.slot; tag = u; made = made; decides = decides_other p made.now.words v.pass.names w.pass.since c.job key c.value v c.walk.slot u k.2.1 (at_tail p c.walk.slot u (call_at c v) (Differs u) (SawLive u) v o w o1 made k.2.2) });
+        behind = tt;
+        ahead = aheadd (Differs u) AtOther at k.1.1 own k.3 made step goes;
+        refused = tt; stands = tt;
+        bound = boundd (Differs u) AtOther at k.1.1 own k.3 made step goes;
+      }
+
+  -- the raise of the link
+  module _ (at : c.stage ≡ AtRaise u) (own : tag_number t ≡ c.own) where
+    kr : Owns (AtRaise u) c v × Fills (AtRaise u) c v × Looks (AtRaise u) c v × (cond c.walk.first 0 (length v.pass.since) ≤ behind_it c + 4)
+    kr = at_stage c (AtRaise u) v at h
+
+    raising : IsRaising c.stage
+    raising = subst IsRaising (sym at) tt
+
+    module _ (x : ℕ) (made : Made p (RaiseNext (record { slot = c.walk.slot; from = u; to = c.own })) false v o x w o1) where
+      sr : Stepped (RaiseNext (record { slot = c.walk.slot; from = u; to = c.own })) false x v w
+      sr = stepped p (RaiseNext (record { slot = c.walk.slot; from = u; to = c.own })) false v o x w o1 made
+
+      mader : (y : ℕ) × Made p (put_step c v) c.walk.first v o y w o1 × (staged c Over ≡ put_on c y)
+      mader = (x, subst (λ (b : Bool). Made p (put_step c v) b v o x w o1) (sym kr.1) (subst (λ (a : Step). Made p a false v o x w o1) (sym (at_step c (AtRaise u) v at)) made), sym (at_on c (AtRaise u) x at))
+
+      turnsr : w.pass.turns ≡ c.walk.turns
+      turnsr = let a : v.pass.turns ≡ c.walk.turns = subst (λ (b : Bool). cond b 0 v.pass.turns ≡ c.walk.turns) kr.1 h.walk.turns in let s = sr.turns in omega arith
+
+      aheadr : w.pass.turns < budget p
+      aheadr = subst (λ (n : ℕ). n < budget p) (sym turnsr) (subst (λ (q : Pool). c.walk.turns < budget q) (sym here) h.walk.below)
+
+      boundr : length w.pass.since ≤ turn_bound p w.pass.turns
+      boundr =
+          let a : length v.pass.since ≤ behind_it c + 4 = subst (λ (b : Bool). cond b 0 (length v.pass.since) ≤ behind_it c + 4) kr.1 kr.3 in
+          let q = one_more false v w _ (behind_it c + 4) sr.since a in let e = turnsr in bounded p (length w.pass.since) (length (body c)) w.pass.turns (omega arith) fit
+
+      known : Within (c.walk.slot, c.own) w.pass.durable
+      known = subst (Within (c.walk.slot, c.own)) (sym (ap (λ (z : View). z.pass.durable) made.told.next)) (inl refl)
+
+      pub stored_done : Stores c.job → PutStep p c v o f (staged c Over) w o1 f1 (Stored t)
+      stored_done j = record { made = mader; answer = (raising, refl, own, j); decided = tt; done = known; absent = tt; differs = tt; behind = tt; ahead = aheadr; refused = tt; stands = tt; bound = boundr }
+
+      pub deleted_done : Deletes c.job → PutStep p c v o f (staged c Over) w o1 f1 (Deleted t)
+      deleted_done j = record { made = mader; answer = (raising, refl, own, j); decided = tt; done = known; absent = tt; differs = tt; behind = tt; ahead = aheadr; refused = tt; stands = tt; bound = boundr }
+
+    pub linked_done : Rose f f1 × (w ≡ v) × (o1 ≡ o) → PutStep p c v o f (staged c Over) w o1 f1 (Linked t)
+    linked_done r = record { made = tt; answer = (raising, refl, own); decided = tt; done = tt; absent = tt; differs = tt; behind = tt; ahead = tt; refused = r; stands = tt; bound = tt }
