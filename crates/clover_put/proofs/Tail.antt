@@ -31,7 +31,7 @@ use Rattle.clover_walk.proofs.Endings.{Stepped, stepped, at_tail, commits as com
 use Rattle.clover_put.specs.Answering.{IsBefore, IsRaising, Stores, Deletes}
 use Rattle.clover_put.specs.Holding.{Filled, Fills, Owns, Looks, IsAt, Reads, PutHolds, most, behind_it, steps_at}
 use Rattle.clover_put.specs.Putting.{Putting, Stage, Storing, Flushing, Seeking, AtMeta, AtLink, AtDead, AtOther, AtBad, AtRaise, Over, body, body_word, call_of, call_at, commits, kind_of, on_meta, on_value, staged, unless_left, walked, put_step, put_on}
-use Rattle.clover_put.specs.Stepping.{PutStep, turn_bound}
+use Rattle.clover_put.specs.Stepping.{PutStep, turn_bound, done_with}
 use Rattle.clover_put.specs.declared.job.Job.{Job}
 use Rattle.clover_put.specs.declared.job.Job.TheVariants.{Put, Delete, Swap}
 use Rattle.clover_put.specs.declared.turn.PutTurn.{PutTurn}
@@ -310,5 +310,36 @@ module _ (p : Pool) (c : Putting) (v : View) (o : Option Open) (f : ℕ) (w : Vi
       pub deleted_done : Deletes c.job → PutStep p c v o f (staged c Over) w o1 f1 (Deleted t)
       deleted_done j = record { made = mader; answer = (raising, refl, own, j); decided = tt; done = known; absent = tt; differs = tt; behind = tt; ahead = aheadr; refused = tt; stands = tt; bound = boundr }
 
+      by_job : (j : Job) → c.job ≡ j → PutStep p c v o f (staged c Over) w o1 f1 (done_with j t)
+      by_job Put e = stored_done (subst Stores (sym e) tt)
+      by_job Delete e = deleted_done (subst Deletes (sym e) tt)
+      by_job (Swap x) e = stored_done (subst Stores (sym e) tt)
+
+      pub raised_done : PutStep p c v o f (staged c Over) w o1 f1 (done_with c.job t)
+      raised_done = by_job c.job refl
+
     pub linked_done : Rose f f1 × (w ≡ v) × (o1 ≡ o) → PutStep p c v o f (staged c Over) w o1 f1 (Linked t)
     linked_done r = record { made = tt; answer = (raising, refl, own); decided = tt; done = tt; absent = tt; differs = tt; behind = tt; ahead = tt; refused = r; stands = tt; bound = tt }
+
+-- the step that the code names is the one of the call
+pub link_named : (c : Putting) (v : View) (u s t : ℕ) (j : Job) (x : Value) → s ≡ c.walk.slot → t ≡ c.own → j ≡ c.job → x ≡ c.value → LinkNext s u t (call_of j (key_at v.pass.names s) x) ≡ LinkNext c.walk.slot u c.own (call_at c v)
+link_named c v u s t j x es et ej ex = λ i. LinkNext (es i) u (et i) (call_of (ej i) (key_at v.pass.names (es i)) (ex i))
+
+pub decide_named : (c : Putting) (v : View) (u s : ℕ) (j : Job) (x : Value) (r : Reply) → s ≡ c.walk.slot → j ≡ c.job → x ≡ c.value → DecideNext s u (call_of j (key_at v.pass.names s) x) r ≡ DecideNext c.walk.slot u (call_at c v) r
+decide_named c v u s j x r es ej ex = λ i. DecideNext (es i) u (call_of (ej i) (key_at v.pass.names (es i)) (ex i)) r
+
+-- the steps at the tail u
+abbrev pub act_link : Putting → View → ℕ → Step
+act_link c v u = LinkNext c.walk.slot u c.own (call_at c v)
+
+abbrev pub act_last_dead : Putting → View → ℕ → Step
+act_last_dead c v u = DecideNext c.walk.slot u (call_at c v) Absent
+
+abbrev pub act_last_other : Putting → View → ℕ → Step
+act_last_other c v u = DecideNext c.walk.slot u (call_at c v) (Differs u)
+
+abbrev pub act_raise : Putting → ℕ → Step
+act_raise c u = RaiseNext (record { slot = c.walk.slot; from = u; to = c.own })
+
+pub raise_named : (c : Putting) (u s t : ℕ) → s ≡ c.walk.slot → t ≡ c.own → RaiseNext (record { slot = s; from = u; to = t }) ≡ act_raise c u
+raise_named c u s t es et = λ i. RaiseNext (record { slot = es i; from = u; to = et i })

@@ -1,7 +1,7 @@
 -- What one step of a put promises.
 use Rattle.std.specs.Prelude.{◌≡◌, ℕ, ◌+◌, ◌*◌, ◌<◌, ◌≤◌, length, Option, Some, None}
 use Rattle.clover_words.specs.declared.pool.Pool.{Pool}
-use Rattle.clover_words.specs.Tag.{tag_number}
+use Rattle.clover_words.specs.Tag.{TagParts, tag_number}
 use Rattle.clover_map.specs.declared.call.Reply.TheVariants.{Absent, Differs}
 use Rattle.clover_port.specs.Told.{Open, Made, Rose}
 use Rattle.clover_rule.specs.Lists.{Within}
@@ -11,8 +11,10 @@ use Rattle.clover_walk.specs.Turning.{Answers as WalkAnswers, OnAhead as WalkAhe
 use Rattle.clover_walk.specs.Walking.{Walking, Holds, budget}
 use Rattle.clover_walk.specs.declared.turn.Turn.{Turn}
 use Rattle.clover_walk.specs.declared.turn.Turn.TheVariants.{More as WalkMore, AtTail, Behind as WalkBehindBy, Unreached as WalkUnreached}
+use Rattle.clover_put.specs.declared.job.Job.{Job}
+use Rattle.clover_put.specs.declared.job.Job.TheVariants.{Put, Delete, Swap}
 use Rattle.clover_put.specs.declared.turn.PutTurn.{PutTurn}
-use Rattle.clover_put.specs.declared.turn.PutTurn.TheVariants.{More, Behind, Unreached}
+use Rattle.clover_put.specs.declared.turn.PutTurn.TheVariants.{More, Behind, Unreached, Stored, Deleted}
 use Rattle.clover_put.specs.Answering.{Answers, OnReached, OnRefused, OnGoing, OnAhead, IfDecided, IfDone, IfAbsent, IfDiffers, IfBehind}
 use Rattle.clover_put.specs.Holding.{PutHolds}
 use Rattle.clover_put.specs.Putting.{Putting, put_step, put_on, call_at}
@@ -41,6 +43,12 @@ as_put WalkMore = More
 as_put (AtTail t) = More
 as_put (WalkBehindBy n) = Behind n
 as_put WalkUnreached = Unreached
+
+-- the answer of a job whose own version is durable
+abbrev pub done_with : Job → TagParts → PutTurn
+done_with Put t = Stored t
+done_with Delete t = Deleted t
+done_with (Swap e) t = Stored t
 
 -- a walk in the slot s went on to n with this answer, and v is the view afterwards
 pub record Went (p : Pool) (s : ℕ) (n : Walking) (v : View) (r : Turn) : Type 0 where

@@ -16,7 +16,7 @@ ghost use Rattle.clover_put.specs.Putting.{Storing, Flushing, Seeking, AtMeta, A
 ghost use Rattle.clover_put.specs.Answering.{Answers, OnReached, OnRefused, OnGoing, OnAhead, IfDecided, IfDone, IfAbsent, IfDiffers, IfBehind, ExactPut};
 ghost use Rattle.clover_put.specs.Holding.{PutHolds};
 ghost use Rattle.clover_put.specs.Standing.{standing};
-ghost use Rattle.clover_put.specs.Stepping.{PutStep, Went, as_put, turn_bound};
+ghost use Rattle.clover_put.specs.Stepping.{PutStep, Went, as_put, done_with, turn_bound};
 
 use crate::access::{
     flush_content, link_own, load_dead, load_other, store_content, unlinked_word,
@@ -66,6 +66,16 @@ fn kind_in(word: u64) -> Option<Kind>
     match Meta::decode(word) {
         Some(meta) => Some(meta.kind),
         None => None,
+    }
+}
+
+// The answer of a job whose own version is durable.
+fn done_turn(job: Job, tag: Tag) -> PutTurn
+    ensures { result ≡ done_with job tag }
+{
+    match job {
+        Job::Put | Job::Swap(_) => PutTurn::Stored { tag },
+        Job::Delete => PutTurn::Deleted { tag },
     }
 }
 
@@ -449,12 +459,15 @@ impl PutCall {
         ensures exact { ExactPut (P.refuses port.old) result }
     {
         let tag = self.own;
-        let raised = raise_next::<P, Brand>(port, false, self.walk.slot(), tail, tag);
-        self.place(Stage::Over);
-        match (raised, self.job) {
-            (Err(_), _) => PutTurn::Linked { tag },
-            (Ok(_), Job::Delete) => PutTurn::Deleted { tag },
-            (Ok(_), Job::Put | Job::Swap(_)) => PutTurn::Stored { tag },
+        match raise_next::<P, Brand>(port, false, self.walk.slot(), tail, tag) {
+            Ok(_) => {
+                self.place(Stage::Over);
+                done_turn(self.job, tag)
+            }
+            Err(_) => {
+                self.place(Stage::Over);
+                PutTurn::Linked { tag }
+            }
         }
     }
 }
