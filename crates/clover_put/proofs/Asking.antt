@@ -16,10 +16,10 @@ use Rattle.std.specs.Prelude.{Option, Some}
 use Rattle.clover_rule.specs.declared.view.View.{View}
 use Rattle.clover_rule.proofs.Ties.{content_in, buffer_in}
 use Rattle.clover_put.specs.Holding.{PutHolds}
-use Rattle.clover_put.specs.Putting.{Putting, Storing, Flushing, AtLink, AtDead, AtOther, body, commits, call_at}
+use Rattle.clover_put.specs.Putting.{Putting, Storing, Flushing, AtLink, AtDead, AtOther, AtRaise, body, commits, call_at}
 use Rattle.clover_put.proofs.Body.{body_fits, nth_less}
 use Rattle.clover_put.proofs.Done.{at_stage}
-use Rattle.clover_put.proofs.Tail.{named_is, value_is}
+use Rattle.clover_put.proofs.Tail.{named_is, value_is, act_raise}
 
 first_in : (t : ℕ) (xs rest : List ℕ) → xs ≡ t ∷ rest → Within t xs
 first_in t xs rest e = subst (Within t) (sym e) (inl refl)
@@ -72,3 +72,6 @@ module _ (p : Pool) (c : Putting) (v : View) (u : ℕ) (h : PutHolds c v) (here 
   asks_other at =
       let k = at_stage c (AtOther u) v at h in
       (word_in k.2.0.1, record { client = h.walk.client; tail = tail_in k.2.0.0; name = name_in; reply = k.2.1 })
+
+  pub asks_raise : c.stage ≡ AtRaise u → Asks p (act_raise c u) v
+  asks_raise at = let k = at_stage c (AtRaise u) v at h in (word_in k.2.0.1, (h.walk.client, k.2.1))
