@@ -1,5 +1,5 @@
 -- What the number at a tag's next word shows, and the turn that it makes.
-use Rattle.std.proofs.Common.{◌≡◌, ◌≢◌, ℕ, ◌+◌, ◌==◌, Bool, true, false, cond, refl, sym, ap, ◌∙◌, arith, eq-eqb, ne_eqb}
+use Rattle.std.proofs.Common.{◌≡◌, ◌≢◌, ℕ, ◌+◌, Bool, cond, refl, sym, ap, ◌∙◌, arith, eq-eqb, ne_eqb}
 use Rattle.std.specs.Prelude.{Option, Some, None}
 use Rattle.clover_words.specs.declared.pool.Pool.{Pool}
 use Rattle.clover_words.specs.declared.word.Word.TheVariants.{Root}

@@ -1,21 +1,19 @@
 -- The steps that an access of a walk is named as.
 use Rattle.std.proofs.Common.{◌≡◌, ℕ, refl, sym, ap, ◌∙◌, subst}
-use Rattle.std.specs.Prelude.{Option, Some, None, ◌%◌}
+use Rattle.std.specs.Prelude.{Option, Some, ◌%◌}
 use Rattle.clover_words.specs.Tag.{TagParts, IsTag, tag_number}
-use Rattle.clover_words.specs.Next.{NextParts, IsNext, next_word}
+use Rattle.clover_words.specs.Next.{next_word}
 use Rattle.clover_words.specs.declared.word.Word.{Word}
 use Rattle.clover_words.specs.declared.word.Word.TheVariants.{Next as NextOf}
 use Rattle.clover_map.specs.declared.call.Call.{Call}
 use Rattle.clover_map.specs.declared.call.Reply.{Reply}
-use Rattle.clover_rule.specs.Memory.{Next, word, link, home}
+use Rattle.clover_rule.specs.Memory.{link, home}
 use Rattle.clover_rule.specs.Meant.{load_step, raise_step, target_of, IsLoad, IsRaise}
-use Rattle.clover_rule.specs.Steps.{Step, RaiseNext, linked}
+use Rattle.clover_rule.specs.Steps.{RaiseNext, linked}
 use Rattle.clover_rule.specs.Words.{root_of, buffer_at}
-use Rattle.clover_rule.specs.declared.access.Act.{Act}
 use Rattle.clover_rule.specs.declared.access.Act.TheVariants.{Load, Raise}
 use Rattle.clover_rule.specs.declared.step.Kind.{Kind}
 use Rattle.clover_rule.specs.declared.step.Kind.TheVariants.{Follow}
-use Rattle.clover_rule.specs.declared.view.Link.{Link}
 use Rattle.clover_rule.proofs.Codecs.{next_of_word, linked_is}
 use Rattle.clover_rule.proofs.Reading.{next_place}
 

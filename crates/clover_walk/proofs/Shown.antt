@@ -1,20 +1,18 @@
 -- A tag's next word that an access found, and how the walk goes on by it.
-use Rattle.std.proofs.Common.{◌≡◌, ◌≢◌, ℕ, suc, ◌+◌, ◌<◌, Bool, true, false, cond, eqb, ltb, refl, sym, ap, ◌∙◌, arith, subst, eq-eqb, eqb-true, ne_eqb}
+use Rattle.std.proofs.Common.{◌≡◌, ◌≢◌, ℕ, suc, ◌+◌, Bool, true, false, cond, eqb, ltb, refl, sym, ap, ◌∙◌, arith, subst, eq-eqb, eqb-true}
 use Rattle.std.specs.Prelude.{Option, Some, None}
-use Rattle.std.proofs.lemmas.Bool.Decides.{nat_tests}
 use Rattle.clover_words.specs.Tag.{TagParts, tag_number}
-use Rattle.clover_rule.specs.Lists.{Within}
 use Rattle.clover_rule.specs.Memory.{Next, word, age}
 use Rattle.clover_rule.specs.Steps.{unlinked, turn_at}
 use Rattle.clover_rule.specs.Words.{next_of}
 use Rattle.clover_rule.specs.declared.view.View.{View}
-use Rattle.clover_walk.specs.Walking.{Walking, Stand, AtRoot, AtTag, AtLink, OnTail, Ended, StandsOn, Shows, placed, turned, hops, followed, next_start, begins, budget}
-use Rattle.clover_walk.specs.Turning.{Answers, IfAtTail}
+use Rattle.clover_walk.specs.Walking.{Walking, AtRoot, AtLink, OnTail, Ended, Shows, placed, turned, hops, followed, next_start, begins, budget}
+use Rattle.clover_walk.specs.Turning.{Answers}
 use Rattle.clover_walk.specs.declared.turn.Turn.{Turn}
 use Rattle.clover_walk.specs.declared.turn.Turn.TheVariants.{More, AtTail, Behind, Unreached}
 use Rattle.clover_walk.specs.declared.start.Start.{Start}
 use Rattle.clover_walk.specs.declared.start.Start.TheVariants.{FromCursor, FromRoot}
-use Rattle.clover_walk.proofs.Codes.{no_turn, one_turn}
+use Rattle.clover_walk.proofs.Codes.{no_turn, one_turn, unlinked_says}
 use Rattle.clover_walk.proofs.Promises.{Knows, Promises, placed_promises, turned_promises}
 
 pub shows_knows : (w : Walking) (t : ℕ) (v : View) (x : ℕ) → Shows w t v x → Knows w v
@@ -83,3 +81,13 @@ followed_promises w t v x n r s e a = subst (λ (z : Walking). Promises w v z r)
 
 pub followed_tail : (w : Walking) (t : ℕ) (v : View) (x : ℕ) (n : Walking) (u : ℕ) → Shows w t v x → n ≡ followed w t (next_of x) → n.stand ≡ OnTail u → (x ≡ unlinked t) × (t ≡ u)
 followed_tail w t v x n u s e q = follow_tail w t v x s u (ap (λ (z : Walking). z.stand) (sym e) ∙ q)
+
+-- a walk that finds its tag unlinked answers that it is at the tail
+answer_tail : (w : Walking) (t : ℕ) (r : Turn) → Answers (placed w (OnTail t)) r → (u : TagParts) × (r ≡ AtTail u) × (tag_number u ≡ t)
+answer_tail w t More a = absurd a
+answer_tail w t (AtTail u) a = (u, refl, let z : OnTail t ≡ OnTail (tag_number u) = a in cc)
+answer_tail w t (Behind n) a = absurd (let z : OnTail t ≡ Ended = a.0 in cc)
+answer_tail w t Unreached a = absurd a
+
+pub tail_when : (w n : Walking) (t x : ℕ) (r : Turn) → x ≡ unlinked t → n ≡ followed w t (next_of x) → Answers n r → (u : TagParts) × (r ≡ AtTail u) × (tag_number u ≡ t)
+tail_when w n t x r e q a = answer_tail w t r (subst (λ (z : Walking). Answers z r) (q ∙ ap (λ (z : Next). followed w t z) (ap next_of e ∙ unlinked_says t) ∙ ap (λ (b : Bool). cond b (placed w (OnTail t)) (turned w (next_start w.start) (begins (next_start w.start)))) (eq-eqb (age t) (age t) refl)) a)

@@ -1,5 +1,5 @@
 -- The value of a walk from its fields.
-use Rattle.std.specs.Prelude.{◌≤◌, ◌<◌, Option, Some, None, ℕ}
+use Rattle.std.specs.Prelude.{Option, Some, None, ℕ}
 use Rattle.clover_words.specs.Tag.{TagParts, tag_number}
 use Rattle.clover_walk.specs.Walking.{Stand as Place, AtRoot as ToRoot, AtTag as ToTag, AtLink as ToLink, OnTail as ToTail, Ended as ToEnd}
 use Rattle.clover_walk.specs.declared.start.Stand.{Stand}

@@ -1,9 +1,10 @@
 -- What the answer of a walk's step says.
 use Rattle.std.specs.Prelude.{◌≡◌, ℕ, Bool, true, false, Option, Some, None}
 use Rattle.clover_words.specs.Tag.{TagParts, tag_number}
+use Rattle.clover_rule.specs.Steps.{unlinked}
 use Rattle.clover_walk.specs.declared.turn.Turn.{Turn}
 use Rattle.clover_walk.specs.declared.turn.Turn.TheVariants.{More, AtTail, Behind, Unreached}
-use Rattle.clover_walk.specs.Walking.{Walking, OnTail, Ended, IsOnWay, budget}
+use Rattle.clover_walk.specs.Walking.{Walking, Stand, AtTag, OnTail, Ended, IsOnWay}
 
 -- the answer tells how the walk stands afterwards
 abbrev pub Answers : Walking → Turn → Type 0
@@ -38,6 +39,17 @@ IfAtTail r P = Unit {0}
 abbrev pub IfBehind : Turn → (ℕ → Type 0) → Type 0
 IfBehind (Behind n) P = P n
 IfBehind r P = Unit {0}
+
+-- the answer is that the walk is at the tail
+abbrev pub IsAtTail : Turn → Type 0
+IsAtTail (AtTail t) = Unit {0}
+IsAtTail r = ⊥
+
+-- the number shows a walk that stands there the tail: it is that of the tag's next word, unlinked at the tag's generation
+abbrev pub ShowsTail : Stand → ℕ → Type 0
+ShowsTail (AtTag t) x = x ≡ unlinked t
+ShowsTail (OnTail t) x = x ≡ unlinked t
+ShowsTail at x = ⊥
 
 -- where it was known how the access ends, it is refused exactly where that was known
 abbrev pub ExactTurn : Option Bool → Turn → Type 0

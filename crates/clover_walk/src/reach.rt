@@ -38,7 +38,12 @@ pub fn load_root<P: Port, M: StepName>(port: &mut P, first: bool, slot: u32) -> 
 }
 
 /// Loads the next word of a tag of the slot.
-pub fn load_next<P: Port, M: StepName>(port: &mut P, first: bool, slot: u32, tag: Tag) -> Result<u64, Failed>
+pub fn load_next<P: Port, M: StepName>(
+    port: &mut P,
+    first: bool,
+    slot: u32,
+    tag: Tag,
+) -> Result<u64, Failed>
     requires name { (M.kind ≡ Follow) × (M.first ≡ first) × (M.slot ≡ slot) × (M.tag ≡ tag_number tag) }
     requires rule { Asks (P.pool port.old) (LoadNext slot (tag_number tag)) (P.view port.old) }
     ensures made { IfOk result (λ x. Made (P.pool port.old) (LoadNext slot (tag_number tag)) first (P.view port.old) (P.told port.old) x (P.view port.new) (P.told port.new)) }

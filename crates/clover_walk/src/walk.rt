@@ -1,5 +1,5 @@
 // A walk: where it stands, and how it goes on.
-ghost use Rattle.std.specs.Prelude.{◌≡◌, ◌≤◌, ◌<◌, ℕ, Option, Some, IfSome};
+ghost use Rattle.std.specs.Prelude.{◌≡◌, ◌≤◌, ◌<◌, ◌+◌, ◌↔◌, ℕ, Option, Some, IfSome, false};
 ghost use Rattle.clover_words.specs.Tag.{tag_number};
 ghost use Rattle.clover_rule.specs.Content.{InRange};
 ghost use Rattle.clover_rule.specs.Lists.{Within};
@@ -11,7 +11,7 @@ ghost use Rattle.clover_words.specs.declared.word.Word.TheVariants.{Next as Next
 ghost use Rattle.clover_port.specs.Told.{Made, Rose};
 ghost use Rattle.clover_walk.specs.Walking.{AtTag, OnTail, IsOnWay, AreTags, Holds, ShowsNext, made_walk, begun, walk_step, goes_on, followed, hops, rooted, turned, placed, budget};
 ghost use Rattle.clover_walk.specs.Standing.{standing, number_of};
-ghost use Rattle.clover_walk.specs.Turning.{Answers, OnReached, OnUnreached, OnAhead, OnGoing, IfAtTail, IfBehind, ExactTurn};
+ghost use Rattle.clover_walk.specs.Turning.{Answers, OnReached, OnUnreached, OnAhead, OnGoing, IfAtTail, IfBehind, IsAtTail, ShowsTail, ExactTurn};
 ghost use Rattle.clover_walk.specs.declared.turn.Turn.TheVariants.{More};
 
 use crate::reach::{load_next, load_root, raise_next};
@@ -105,13 +105,17 @@ impl Walk {
         requires way { IsOnWay self.old.stand }
         requires pool { P.pool port.old ≡ self.old.pool }
         requires holds { Holds self.old (P.view port.old) }
-        ensures made { OnReached result ((x : ℕ) × Made (P.pool port.old) (walk_step self.old) self.old.first (P.view port.old) (P.told port.old) x (P.view port.new) (P.told port.new) × (self.new ≡ goes_on self.old x)) }
+        ensures made { OnReached result ((x : ℕ) × Made (P.pool port.old) (walk_step self.old) self.old.first (P.view port.old) (P.told port.old) x (P.view port.new) (P.told port.new) × (self.new ≡ goes_on self.old x) × (IsAtTail result ↔ ShowsTail self.old.stand x)) }
         ensures answer { OnReached result (Answers self.new result) }
         ensures tail { IfAtTail result (λ tag. (self.old.stand ≡ AtTag (tag_number tag)) × Made (P.pool port.old) (LoadNext self.old.slot (tag_number tag)) self.old.first (P.view port.old) (P.told port.old) (unlinked (tag_number tag)) (P.view port.new) (P.told port.new) × Within (self.old.slot, tag_number tag) (P.view port.new).pass.durable) }
         ensures behind { IfBehind result (λ turns. (turns ≡ budget self.old.pool) × ((P.view port.new).pass.turns ≡ budget self.old.pool)) }
         ensures ahead { OnAhead result ((P.view port.new).pass.turns < budget self.old.pool) }
         ensures unreached { OnUnreached result (Rose (P.faults port.old) (P.faults port.new) × (P.view port.new ≡ P.view port.old) × (P.told port.new ≡ P.told port.old) × (self.new ≡ self.old)) }
         ensures exact { ExactTurn (P.refuses port.old) result }
+        ensures one { OnReached result ((P.view port.new).pass.made ≡ (P.view port.old).pass.made + 1) }
+        ensures range { IfAtTail result (λ tag. InRange self.old.pool (tag_number tag)) }
+        ensures walk { (self.new.pool ≡ self.old.pool) × (self.new.slot ≡ self.old.slot) }
+        ensures later { OnReached result (self.new.first ≡ false) }
         ensures stands { OnGoing result (Holds self.new (P.view port.new)) }
         ensures same { (P.pool port.new ≡ P.pool port.old) × (P.table port.new ≡ P.table port.old) × (P.lender port.new ≡ P.lender port.old) }
         ensures count { P.faults port.old ≤ P.faults port.new }
@@ -140,17 +144,21 @@ impl Walk {
     /// Takes a next word that the caller's own access found at the walk's tail, and goes on as after a load. It
     /// makes no access: the caller's has counted the turn already.
     ///
-    /// `AtTail`, exactly where the word shows the tag unlinked at its generation. `Behind`, exactly where the turns of the call have
-    /// reached the budget. It never answers `Unreached`.
+    /// `AtTail`, exactly where the word shows the tag unlinked at its generation. `Behind`, exactly where the turns
+    /// of the call have reached the budget. It never answers `Unreached`.
     pub fn seen<P: Port>(&mut self, port: &mut P, word: u64) -> Turn
         requires pool { P.pool port.old ≡ self.old.pool }
         requires shows { ShowsNext self.old (P.view port.old) word }
         ensures value { self.new ≡ goes_on self.old word }
         ensures answer { Answers self.new result }
+        ensures when { IsAtTail result ↔ ShowsTail self.old.stand word }
         ensures tail { IfAtTail result (λ tag. (self.old.stand ≡ OnTail (tag_number tag)) × (word ≡ unlinked (tag_number tag)) × Within (self.old.slot, tag_number tag) (P.view port.new).pass.durable) }
         ensures behind { IfBehind result (λ turns. (turns ≡ budget self.old.pool) × ((P.view port.new).pass.turns ≡ budget self.old.pool)) }
         ensures ahead { OnAhead result ((P.view port.new).pass.turns < budget self.old.pool) }
         ensures stands { OnGoing result (Holds self.new (P.view port.new)) }
+        ensures range { IfAtTail result (λ tag. InRange self.old.pool (tag_number tag)) }
+        ensures walk { (self.new.pool ≡ self.old.pool) × (self.new.slot ≡ self.old.slot) }
+        ensures later { self.new.first ≡ false }
         ensures port { port.new ≡ port.old }
     {
         let _ = port;

@@ -1,7 +1,7 @@
-use Rattle.std.proofs.Common.{◌≡◌, ℕ, Bool, sym, ap, ◌∙◌, subst, IfOk}
+use Rattle.std.proofs.Common.{◌≡◌, Bool, ap, ◌∙◌, subst, IfOk}
 use Rattle.std.specs.Prelude.{Some}
-use Rattle.clover_words.specs.Tag.{TagParts, IsTag, tag_number}
-use Rattle.clover_words.specs.Next.{NextParts, next_word}
+use Rattle.clover_words.specs.Tag.{TagParts, IsTag}
+use Rattle.clover_words.specs.Next.{next_word}
 use Rattle.clover_rule.specs.Meant.{raise_step}
 use Rattle.clover_rule.specs.Steps.{Step}
 use Rattle.clover_port.specs.Told.{Made}

@@ -1,5 +1,5 @@
-use Rattle.std.proofs.Common.{◌≡◌, ℕ, sym, ap, ◌∙◌, subst}
-use Rattle.std.specs.Prelude.{Some, None, Option}
+use Rattle.std.proofs.Common.{◌≡◌, sym, ap, ◌∙◌, subst}
+use Rattle.std.specs.Prelude.{Some}
 use Rattle.clover_words.specs.Tag.{TagParts, IsTag, tag_number}
 use Rattle.clover_words.specs.Next.{NextParts}
 use Rattle.clover_rule.specs.Memory.{home}
@@ -22,7 +22,7 @@ returns-in-Some-clause-value c =
     c.advance.ensures.value
     ∙ ap (λ (n : NextParts). hops c.args.self.now (tag_number c.args.tag) (number_of n.link)) seen
     ∙ sym (follow_own c.args.self.now c.args.tag c.in-Some.next c.args.word (subst IsTag tag c.tag.invariant) c.in-Some.ensures.found.0 c.in-Some.ensures.found.1
-        (ap (λ (n : NextParts). n.own) (sym seen) ∙ c.if-next-tag.true ∙ ap (λ (t : TagParts). t.generation) tag))
+    (ap (λ (n : NextParts). n.own) (sym seen) ∙ c.if-next-tag.true ∙ ap (λ (t : TagParts). t.generation) tag))
 
 pub returns-in-Some-2-clause-value : goal.returns-in-Some-2-clause-value
 returns-in-Some-2-clause-value c =
@@ -32,4 +32,4 @@ returns-in-Some-2-clause-value c =
     ∙ ap (λ (at : Stand). turned w c.next-start.result at) c.stand.ensures
     ∙ ap (λ (z : Start). turned w z (begins z)) f
     ∙ sym (follow_stale w c.args.tag c.in-Some.next c.args.word (subst IsTag tag c.tag.invariant) c.in-Some.ensures.found.0 c.in-Some.ensures.found.1
-        (λ q. c.if-next-tag.false (ap (λ (n : NextParts). n.own) seen ∙ q ∙ ap (λ (t : TagParts). t.generation) (sym tag))))
+    (λ q. c.if-next-tag.false (ap (λ (n : NextParts). n.own) seen ∙ q ∙ ap (λ (t : TagParts). t.generation) (sym tag))))

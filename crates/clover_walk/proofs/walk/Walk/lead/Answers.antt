@@ -1,5 +1,5 @@
 use Rattle.std.proofs.Common.{◌≡◌, refl, sym, subst}
-use Rattle.std.specs.Prelude.{Some, None, Option}
+use Rattle.std.specs.Prelude.{Some, Option}
 use Rattle.std.specs.Option.{IsSome}
 use Rattle.clover_words.specs.Tag.{TagParts}
 use Rattle.clover_walk.proofs.Codes.{root_tag}

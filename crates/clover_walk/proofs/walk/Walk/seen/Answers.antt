@@ -1,8 +1,7 @@
-use Rattle.std.proofs.Common.{◌≡◌, ℕ, sym, ap, ◌∙◌, subst}
+use Rattle.std.proofs.Common.{◌≡◌, sym, ap, ◌∙◌, subst}
 use Rattle.clover_words.specs.Tag.{tag_number}
 use Rattle.clover_walk.specs.Walking.{Walking, Stand, OnTail, Shows, ShowsFrom}
 use Rattle.clover_walk.specs.Standing.{standing}
-use Rattle.clover_walk.proofs.Promises.{Promises}
 use Rattle.clover_walk.proofs.Shown.{followed_promises}
 use Rattle.clover_walk.proofs.walk.Walk.seen.Goals as goal
 

@@ -1,4 +1,4 @@
-use Rattle.std.proofs.Common.{◌≡◌, ℕ, sym, ap, ◌∙◌, subst}
+use Rattle.std.proofs.Common.{sym, subst}
 use Rattle.clover_rule.specs.Lists.{Within}
 use Rattle.clover_walk.specs.Walking.{Walking, key_at}
 use Rattle.clover_walk.proofs.walk.Walk.step.Goals as goal
