@@ -1,5 +1,5 @@
 -- What each access of a put asks for is known where the put stands.
-use Rattle.std.proofs.Common.{◌≡◌, ◌≢◌, ℕ, ◌+◌, ◌<◌, ◌≤◌, List, [], ◌∷◌, length, Bool, true, false, refl, sym, ap, ◌∙◌, inl, inr, arith, subst}
+use Rattle.std.proofs.Common.{◌≡◌, ℕ, List, ◌∷◌, refl, sym, ap, ◌∙◌, inl, arith, subst}
 use Rattle.clover_words.specs.declared.pool.Pool.{Pool}
 use Rattle.clover_rule.specs.Content.{InRange, Fits, content}
 use Rattle.clover_rule.specs.Lists.{Within, nth}
@@ -9,10 +9,10 @@ use Rattle.clover_map.specs.declared.bytes.Value.{Value}
 use Rattle.clover_map.specs.declared.call.Reply.TheVariants.{Absent, Differs}
 use Rattle.clover_words.specs.Place.{IsWithin}
 use Rattle.clover_rule.specs.History.{named}
-use Rattle.clover_rule.specs.Steps.{Step, StoreContent, FlushContent, LinkNext, DecideNext, Asks}
+use Rattle.clover_rule.specs.Steps.{StoreContent, FlushContent, LinkNext, DecideNext, Asks}
 use Rattle.clover_rule.specs.Words.{buffer_at}
 use Rattle.clover_walk.specs.Walking.{Stand, OnTail, StandsOn, key_at}
-use Rattle.std.specs.Prelude.{Option, Some}
+use Rattle.std.specs.Prelude.{Option}
 use Rattle.clover_rule.specs.declared.view.View.{View}
 use Rattle.clover_rule.proofs.Ties.{content_in, buffer_in}
 use Rattle.clover_put.specs.Holding.{PutHolds}
@@ -51,17 +51,19 @@ module _ (p : Pool) (c : Putting) (v : View) (u : ℕ) (h : PutHolds c v) (here 
   pub asks_link : c.stage ≡ AtLink u → Fits c.walk.pool (commits c.job c.value) → Asks p (LinkNext c.walk.slot u c.own (call_at c v)) v
   asks_link at f =
       let k = at_stage c (AtLink u) v at h in
-      let value = value_is c.job (key_at v.pass.names c.walk.slot) c.value in
-      (word_in k.2.0.1, record {
-        client = h.walk.client;
-        rest = k.0.0;
-        stock = k.0.1;
-        tail = tail_in k.2.0.0;
-        name = name_in;
-        stored = λ j x q. let e = ap (λ (o : Option Value). nth (content o) j) (sym value) ∙ q in let l = nth_less (body c) j x e in ((k.1.0.written j x l e).0, (k.1.0.flushed j x l e).0);
-        fits = subst (Fits p) (sym value) (subst (λ (q : Pool). Fits q (commits c.job c.value)) (sym here) f);
-        call = k.2.1;
-      })
+      let value = value_is c.job (key_at v.pass.names c.walk.slot) c.value in (
+        word_in k.2.0.1,
+        record {
+          client = h.walk.client;
+          rest = k.0.0;
+          stock = k.0.1;
+          tail = tail_in k.2.0.0;
+          name = name_in;
+          stored = λ j x q. let e = ap (λ (o : Option Value). nth (content o) j) (sym value) ∙ q in let l = nth_less (body c) j x e in ((k.1.0.written j x l e).0, (k.1.0.flushed j x l e).0);
+          fits = subst (Fits p) (sym value) (subst (λ (q : Pool). Fits q (commits c.job c.value)) (sym here) f);
+          call = k.2.1;
+        },
+      )
 
   pub asks_dead : c.stage ≡ AtDead u → Asks p (DecideNext c.walk.slot u (call_at c v) Absent) v
   asks_dead at =

@@ -1,6 +1,6 @@
 -- The content words of the version that a put commits, and what a meta word says.
 use Prim.Native.Nat.{zero, suc}
-use Rattle.std.proofs.Common.{⊎_elim, ◌⊎◌, ◌≡◌, ◌≢◌, ℕ, ◌+◌, ◌-◌, ◌*◌, ◌/◌, ◌%◌, ◌^◌, ◌<◌, ◌≤◌, ◌==◌, List, [], ◌∷◌, length, Bool, true, false, cond, eqb, ltb, leb, ◌&&◌, refl, sym, ap, ◌∙◌, arith, subst, eqb-true, eq-eqb, ne_eqb}
+use Rattle.std.proofs.Common.{⊎_elim, ◌⊎◌, ◌≡◌, ℕ, ◌+◌, ◌-◌, ◌/◌, ◌%◌, ◌^◌, ◌<◌, ◌≤◌, ◌==◌, List, [], ◌∷◌, length, Bool, true, false, cond, eqb, leb, ◌&&◌, refl, sym, ap, ◌∙◌, arith, eqb-true, eq-eqb}
 use Rattle.std.specs.Prelude.{Option, Some, None}
 use Rattle.std.proofs.lemmas.Bool.Decides.{nat_tests}
 use Rattle.clover_words.specs.declared.meta.Kind.{Kind}
@@ -9,12 +9,12 @@ use Rattle.clover_words.specs.Meta.{MetaParts, IsMeta, meta_word}
 use Rattle.clover_words.specs.Tag.{TagParts}
 use Rattle.clover_words.specs.Pack.{packed, words_of}
 use Rattle.clover_map.specs.declared.bytes.Value.{Value}
-use Rattle.clover_rule.specs.Content.{content, tombstone, value_meta, words_from, all_words, Fits}
+use Rattle.clover_rule.specs.Content.{content, tombstone, value_meta, words_from, Fits}
 use Rattle.clover_rule.specs.Lists.{nth}
 use Rattle.clover_words.specs.declared.pool.Pool.{Pool}
 use Rattle.clover_put.specs.declared.job.Job.{Job}
 use Rattle.clover_put.specs.declared.job.Job.TheVariants.{Put, Delete, Swap}
-use Rattle.clover_put.specs.Putting.{Putting, commits, body, body_word, kind_of}
+use Rattle.clover_put.specs.Putting.{commits, body_word, kind_of}
 
 from_length : (bytes : List ℕ) (k n : ℕ) → length (words_from bytes k n) ≡ n
 from_length bytes k zero = refl

@@ -1,28 +1,23 @@
 -- What each access of a put promises: the stores, the flushes and a refusal.
-use Prim.Native.Nat.{zero, suc}
-use Rattle.std.proofs.Common.{◌≡◌, ◌≢◌, ℕ, ◌+◌, ◌*◌, ◌<◌, ◌≤◌, List, [], ◌∷◌, ◌++◌, length, Bool, true, false, cond, eqb, ltb, refl, sym, ap, ◌∙◌, inl, inr, arith, subst, eqb-true, ne_eqb}
-use Rattle.std.specs.Prelude.{Option, Some, None, min, ◌-◌, ◌^◌}
+use Prim.Native.Nat.{suc}
+use Rattle.std.proofs.Common.{◌≡◌, ℕ, ◌+◌, ◌<◌, ◌≤◌, [], ◌∷◌, ◌++◌, length, Bool, true, false, cond, eqb, ltb, refl, sym, ap, ◌∙◌, arith, subst, ne_eqb}
+use Rattle.std.specs.Prelude.{Option}
 use Rattle.std.proofs.lemmas.Bool.Decides.{nat_tests}
-use Rattle.clover_words.specs.declared.word.Side.TheVariants.{Current, Flushed}
 use Rattle.clover_words.specs.declared.pool.Pool.{Pool}
 use Rattle.clover_port.specs.Told.{Open, Made, MadeBlind, Rose}
-use Rattle.clover_rule.specs.Knowing.{dropped}
-use Rattle.clover_rule.specs.Lists.{nth, Within}
-use Rattle.clover_rule.specs.Memory.{home}
-use Rattle.clover_rule.specs.Steps.{Step, StoreContent, FlushContent, turn_of}
-use Rattle.clover_rule.specs.Words.{content_at}
+use Rattle.clover_rule.specs.Lists.{Within}
+use Rattle.clover_rule.specs.Steps.{Step, StoreContent, FlushContent}
 use Rattle.clover_rule.specs.declared.access.Act.{Act}
-use Rattle.clover_rule.specs.declared.access.Act.TheVariants.{Store}
 use Rattle.clover_rule.specs.declared.view.View.{View}
-use Rattle.clover_walk.specs.Walking.{Walking, Holds, IsOnWay, begun, budget}
+use Rattle.clover_walk.specs.Walking.{Holds, begun, budget}
 use Rattle.clover_walk.proofs.Endings.{Stepped, stepped}
-use Rattle.clover_put.specs.Answering.{IsBefore, IsRaising}
-use Rattle.clover_put.specs.Holding.{Filled, Fills, Owns, Looks, PutHolds, most, behind_it, steps_at}
-use Rattle.clover_put.specs.Putting.{Putting, Stage, Storing, Flushing, Seeking, AtMeta, AtLink, AtDead, AtOther, AtBad, AtRaise, Over, body, body_word, filled, after_store, after_flush, put_step, put_on}
-use Rattle.clover_put.specs.Stepping.{PutStep, turn_bound}
+use Rattle.clover_put.specs.Answering.{IsBefore}
+use Rattle.clover_put.specs.Holding.{Filled, Fills, Owns, Looks, PutHolds, most}
+use Rattle.clover_put.specs.Putting.{Putting, Stage, Storing, Flushing, Seeking, body, body_word, filled, after_store, after_flush, put_step, put_on}
+use Rattle.clover_put.specs.Stepping.{PutStep}
 use Rattle.clover_put.specs.declared.turn.PutTurn.TheVariants.{More, Unreached}
 use Rattle.clover_put.proofs.Body.{body_nth, body_some}
-use Rattle.clover_put.proofs.Known.{walk_kept, filled_stored, filled_flushed, filled_kept, length_more, bounded}
+use Rattle.clover_put.proofs.Known.{walk_kept, filled_stored, filled_flushed, length_more, bounded}
 
 -- a refused access leaves all as it was
 pub refused_step : (p : Pool) (c : Putting) (v : View) (o : Option Open) (f : ℕ) (w : View) (o1 : Option Open) (f1 : ℕ) → PutHolds c v → IsBefore c.stage → Rose f f1 × (w ≡ v) × (o1 ≡ o) → PutStep p c v o f c w o1 f1 Unreached
@@ -85,7 +80,11 @@ module _ (p : Pool) (c : Putting) (v : View) (o : Option Open) (f : ℕ) (w : Vi
         let t = held.turns in let l = k.1.1 in let b = held.below in record {
           made = (x, subst (λ (a : Step). Made p a c.walk.first v o x w o1) (sym (at_step c (Storing j) v at)) made, sym (at_on c (Storing j) x at));
           answer = (subst IsBefore (sym at) tt, before (ltb (suc j) (length (body c))));
-          decided = tt; done = tt; absent = tt; differs = tt; behind = tt;
+          decided = tt;
+          done = tt;
+          absent = tt;
+          differs = tt;
+          behind = tt;
           ahead = subst (λ (n : ℕ). n < budget p) (sym t) (subst (λ (q : Pool). c.walk.turns < budget q) (sym here) b);
           refused = tt;
           stands = stands (ltb (suc j) (length (body c))) refl;
@@ -137,7 +136,11 @@ module _ (p : Pool) (c : Putting) (v : View) (o : Option Open) (f : ℕ) (w : Vi
         let t = held1.turns in let l = k1.1.1 in let b = held1.below in record {
           made = (x, subst (λ (a : Step). Made p a c.walk.first v o x w o1) (sym (at_step c (Flushing j) v at)) later, sym (at_on c (Flushing j) x at));
           answer = (subst IsBefore (sym at) tt, before (ltb (suc j) (length (body c))));
-          decided = tt; done = tt; absent = tt; differs = tt; behind = tt;
+          decided = tt;
+          done = tt;
+          absent = tt;
+          differs = tt;
+          behind = tt;
           ahead = subst (λ (n : ℕ). n < budget p) (sym t) (subst (λ (q : Pool). c.walk.turns < budget q) (sym here) b);
           refused = tt;
           stands = stands1 (ltb (suc j) (length (body c))) refl;

@@ -2,17 +2,14 @@
 use Prim.Native.Nat.{zero, suc}
 use native.Mathlib.Decide.{ℕ_discrete}
 use mathlib.Core.Logic.{dite}
-use Rattle.std.proofs.Common.{◌≡◌, ◌≢◌, ℕ, ◌+◌, ◌*◌, ◌<◌, ◌≤◌, List, [], ◌∷◌, ◌++◌, length, Bool, true, false, cond, eqb, ltb, ◌&&◌, refl, sym, ap, ◌∙◌, inl, inr, ⊎_elim, arith, subst, eqb-true, ne_eqb}
-use Rattle.std.specs.Prelude.{Option, Some, None}
-use Rattle.std.proofs.lemmas.Bool.Decides.{nat_tests}
+use Rattle.std.proofs.Common.{◌≡◌, ◌≢◌, ℕ, ◌+◌, ◌*◌, ◌<◌, ◌≤◌, List, [], ◌∷◌, ◌++◌, length, Bool, true, false, cond, eqb, ◌&&◌, refl, sym, ap, ◌∙◌, inl, inr, ⊎_elim, arith, subst, eqb-true, ne_eqb}
+use Rattle.std.specs.Prelude.{Some}
 use Rattle.clover_words.specs.declared.word.Side.TheVariants.{Current, Flushed}
 use Rattle.clover_words.specs.declared.pool.Pool.{Pool}
-use Rattle.clover_port.specs.Told.{Open, Made}
-use Rattle.clover_rule.specs.Content.{InRange}
 use Rattle.clover_rule.specs.Knowing.{dropped}
-use Rattle.clover_rule.specs.Lists.{nth, Within, Each}
+use Rattle.clover_rule.specs.Lists.{nth, Within}
 use Rattle.clover_rule.specs.Memory.{home}
-use Rattle.clover_rule.specs.Steps.{Step, number_of, act_of, turn_of}
+use Rattle.clover_rule.specs.Steps.{Step, number_of, turn_of}
 use Rattle.clover_rule.specs.Words.{content_at}
 use Rattle.clover_rule.specs.declared.access.Act.{Act}
 use Rattle.clover_rule.specs.declared.access.Act.TheVariants.{Store}
@@ -23,8 +20,8 @@ use Rattle.clover_rule.specs.declared.view.Role.TheVariants.{Client}
 use Rattle.clover_rule.specs.declared.view.View.{View}
 use Rattle.clover_rule.proofs.Snocs.{within_back}
 use Rattle.clover_rule.proofs.Steps.{within_prefix}
-use Rattle.clover_walk.specs.Walking.{Walking, Stand, AtRoot, AtTag, AtLink as OnLink, OnTail, Ended, StandsOn, Holds, begun, key_at, budget}
-use Rattle.clover_walk.proofs.Endings.{Stepped, Keeps}
+use Rattle.clover_walk.specs.Walking.{Walking, Stand, AtRoot, AtTag, AtLink as OnLink, OnTail, Ended, StandsOn, Holds, begun, key_at}
+use Rattle.clover_walk.proofs.Endings.{Stepped}
 use Rattle.clover_put.specs.Holding.{Filled}
 use Rattle.clover_put.specs.Putting.{Putting, body}
 use Rattle.clover_put.specs.Stepping.{turn_bound}
@@ -74,12 +71,14 @@ walk_kept q v w a x h s e d k = record {
 -- what is stored and flushed stays so where the step stores nothing
 pub filled_kept : (c e : Putting) (m n : ℕ) (v w : View) (a : Act) → e.own ≡ c.own → body e ≡ body c → w.pass.written ≡ v.pass.written → w.pass.flushed ≡ v.pass.flushed → w.pass.since ≡ v.pass.since ++ a ∷ [] → Filled c m n v → Filled e m n w
 filled_kept c e m n v w a eo eb ew ef es f = record {
-  written = λ j x l q. let r = f.written j x l (ap (λ (b : List ℕ). nth b j) (sym eb) ∙ q) in
-      (subst (λ (t : ℕ). Within (record { tag = t; place = j; word = x }) w.pass.written) (sym eo) (subst (Within (record { tag = c.own; place = j; word = x })) (sym ew) r.0),
-       subst (λ (t : ℕ). Within (Store (content_at (home t) j) Current x) w.pass.since) (sym eo) (subst (Within (Store (content_at (home c.own) j) Current x)) (sym es) (within_more (Store (content_at (home c.own) j) Current x) a v.pass.since r.1)));
-  flushed = λ j x l q. let r = f.flushed j x l (ap (λ (b : List ℕ). nth b j) (sym eb) ∙ q) in
-      (subst (λ (t : ℕ). Within (record { tag = t; place = j; word = x }) w.pass.flushed) (sym eo) (subst (Within (record { tag = c.own; place = j; word = x })) (sym ef) r.0),
-       subst (λ (t : ℕ). Within (Store (content_at (home t) j) Flushed x) w.pass.since) (sym eo) (subst (Within (Store (content_at (home c.own) j) Flushed x)) (sym es) (within_more (Store (content_at (home c.own) j) Flushed x) a v.pass.since r.1)));
+  written = λ j x l q. let r = f.written j x l (ap (λ (b : List ℕ). nth b j) (sym eb) ∙ q) in (
+    subst (λ (t : ℕ). Within (record { tag = t; place = j; word = x }) w.pass.written) (sym eo) (subst (Within (record { tag = c.own; place = j; word = x })) (sym ew) r.0),
+    subst (λ (t : ℕ). Within (Store (content_at (home t) j) Current x) w.pass.since) (sym eo) (subst (Within (Store (content_at (home c.own) j) Current x)) (sym es) (within_more (Store (content_at (home c.own) j) Current x) a v.pass.since r.1)),
+  );
+  flushed = λ j x l q. let r = f.flushed j x l (ap (λ (b : List ℕ). nth b j) (sym eb) ∙ q) in (
+    subst (λ (t : ℕ). Within (record { tag = t; place = j; word = x }) w.pass.flushed) (sym eo) (subst (Within (record { tag = c.own; place = j; word = x })) (sym ef) r.0),
+    subst (λ (t : ℕ). Within (Store (content_at (home t) j) Flushed x) w.pass.since) (sym eo) (subst (Within (Store (content_at (home c.own) j) Flushed x)) (sym es) (within_more (Store (content_at (home c.own) j) Flushed x) a v.pass.since r.1)),
+  );
 }
 
 -- one word more is stored
@@ -105,18 +104,20 @@ filled_stored c e j y b v w eo eb first here ew es f = record {
     old : (i x : ℕ) → i < j → nth (body c) i ≡ Some x → i ≢ j → Within (record { tag = c.own; place = i; word = x }) w.pass.written × Within (Store (content_at (home c.own) i) Current x) w.pass.since
     old i x l q d =
         let r = f.written i x l q in
-        let later : b ≡ false = first ∙ ne_eqb j 0 (λ z. omega arith) in
-        (subst (Within (record { tag = c.own; place = i; word = x })) (sym ew) (inr (dropped_else c.own j i x v.pass.written d r.0)),
-         subst (Within (Store (content_at (home c.own) i) Current x)) (sym es) (within_more (Store (content_at (home c.own) i) Current x) (Store (content_at (home c.own) j) Current y) (cond b [] v.pass.since) (older b later (Store (content_at (home c.own) i) Current x) r.1)))
+        let later : b ≡ false = first ∙ ne_eqb j 0 (λ z. omega arith) in (
+          subst (Within (record { tag = c.own; place = i; word = x })) (sym ew) (inr (dropped_else c.own j i x v.pass.written d r.0)),
+          subst (Within (Store (content_at (home c.own) i) Current x)) (sym es) (within_more (Store (content_at (home c.own) i) Current x) (Store (content_at (home c.own) j) Current y) (cond b [] v.pass.since) (older b later (Store (content_at (home c.own) i) Current x) r.1)),
+        )
 
 -- one word more is flushed
 pub filled_flushed : (c e : Putting) (n j y : ℕ) (v w : View) → e.own ≡ c.own → body e ≡ body c → nth (body c) j ≡ Some y
     → w.pass.written ≡ v.pass.written → w.pass.flushed ≡ record { tag = c.own; place = j; word = y } ∷ dropped c.own j v.pass.flushed → w.pass.since ≡ v.pass.since ++ Store (content_at (home c.own) j) Flushed y ∷ []
     → Filled c n j v → Filled e n (suc j) w
 filled_flushed c e n j y v w eo eb here ew ef es f = record {
-  written = λ i x l q. let r = f.written i x l (ap (λ (xs : List ℕ). nth xs i) (sym eb) ∙ q) in
-      (subst (λ (t : ℕ). Within (record { tag = t; place = i; word = x }) w.pass.written) (sym eo) (subst (Within (record { tag = c.own; place = i; word = x })) (sym ew) r.0),
-       subst (λ (t : ℕ). Within (Store (content_at (home t) i) Current x) w.pass.since) (sym eo) (subst (Within (Store (content_at (home c.own) i) Current x)) (sym es) (within_more (Store (content_at (home c.own) i) Current x) (Store (content_at (home c.own) j) Flushed y) v.pass.since r.1)));
+  written = λ i x l q. let r = f.written i x l (ap (λ (xs : List ℕ). nth xs i) (sym eb) ∙ q) in (
+    subst (λ (t : ℕ). Within (record { tag = t; place = i; word = x }) w.pass.written) (sym eo) (subst (Within (record { tag = c.own; place = i; word = x })) (sym ew) r.0),
+    subst (λ (t : ℕ). Within (Store (content_at (home t) i) Current x) w.pass.since) (sym eo) (subst (Within (Store (content_at (home c.own) i) Current x)) (sym es) (within_more (Store (content_at (home c.own) i) Current x) (Store (content_at (home c.own) j) Flushed y) v.pass.since r.1)),
+  );
   flushed = λ i x l q. let z = ap (λ (xs : List ℕ). nth xs i) (sym eb) ∙ q in
       let r = dite (ℕ_discrete i j) (λ d. now i x (some_is y x (sym here ∙ ap (nth (body c)) (sym d) ∙ z)) d) (λ d. old i x (omega arith) z d) in
       (subst (λ (t : ℕ). Within (record { tag = t; place = i; word = x }) w.pass.flushed) (sym eo) r.0, subst (λ (t : ℕ). Within (Store (content_at (home t) i) Flushed x) w.pass.since) (sym eo) r.1);
@@ -129,9 +130,10 @@ filled_flushed c e n j y v w eo eb here ew ef es f = record {
 
     old : (i x : ℕ) → i < j → nth (body c) i ≡ Some x → i ≢ j → Within (record { tag = c.own; place = i; word = x }) w.pass.flushed × Within (Store (content_at (home c.own) i) Flushed x) w.pass.since
     old i x l q d =
-        let r = f.flushed i x l q in
-        (subst (Within (record { tag = c.own; place = i; word = x })) (sym ef) (inr (dropped_else c.own j i x v.pass.flushed d r.0)),
-         subst (Within (Store (content_at (home c.own) i) Flushed x)) (sym es) (within_more (Store (content_at (home c.own) i) Flushed x) (Store (content_at (home c.own) j) Flushed y) v.pass.since r.1))
+        let r = f.flushed i x l q in (
+          subst (Within (record { tag = c.own; place = i; word = x })) (sym ef) (inr (dropped_else c.own j i x v.pass.flushed d r.0)),
+          subst (Within (Store (content_at (home c.own) i) Flushed x)) (sym es) (within_more (Store (content_at (home c.own) i) Flushed x) (Store (content_at (home c.own) j) Flushed y) v.pass.since r.1),
+        )
 
 -- so many accesses in so many turns are within the bound
 times : (a b : ℕ) → 5 * suc a + b ≤ suc a * (b + 5)

@@ -1,18 +1,17 @@
 -- The steps that an access of a put is named as.
 use Prim.Native.Nat.{zero, suc}
-use Rattle.std.proofs.Common.{◌≡◌, ℕ, refl, sym, ap, ◌∙◌, subst}
-use Rattle.std.specs.Prelude.{Option, Some, None}
+use Rattle.std.proofs.Common.{◌≡◌, ℕ, refl, sym, ap, ◌∙◌}
+use Rattle.std.specs.Prelude.{Option, Some}
 use Rattle.clover_words.specs.Tag.{TagParts, IsTag, tag_number}
-use Rattle.clover_words.specs.Next.{NextParts, next_word}
+use Rattle.clover_words.specs.Next.{next_word}
 use Rattle.clover_words.specs.declared.word.Side.TheVariants.{Current, Flushed}
 use Rattle.clover_words.specs.declared.word.Word.{Word}
 use Rattle.clover_words.specs.declared.word.Word.TheVariants.{Next as NextOf}
 use Rattle.clover_map.specs.declared.call.Call.{Call}
-use Rattle.clover_rule.specs.Meant.{store_step, exchange_step, target_of, place_in, IsStore, IsExchange}
+use Rattle.clover_rule.specs.Meant.{store_step, exchange_step, place_in, IsStore, IsExchange}
 use Rattle.clover_rule.specs.Memory.{home}
-use Rattle.clover_rule.specs.Steps.{Step, StoreContent, FlushContent, LinkNext, unlinked, linked, act_of}
+use Rattle.clover_rule.specs.Steps.{Step, StoreContent, FlushContent, LinkNext, unlinked, act_of}
 use Rattle.clover_rule.specs.Words.{buffer_at, content_at}
-use Rattle.clover_rule.specs.declared.access.Act.{Act}
 use Rattle.clover_rule.specs.declared.access.Act.TheVariants.{Store, Exchange}
 use Rattle.clover_rule.specs.declared.step.Kind.{Kind}
 use Rattle.clover_rule.specs.declared.step.Kind.TheVariants.{Fill}

@@ -1,23 +1,19 @@
 -- What a put promises where its walk makes a step, and where its own access found the tail left.
-use Prim.Native.Nat.{zero, suc}
-use Rattle.std.proofs.Common.{◌≡◌, ◌≢◌, ℕ, ◌+◌, ◌*◌, ◌<◌, ◌≤◌, ◌==◌, List, [], ◌∷◌, ◌++◌, length, Bool, true, false, cond, eqb, refl, sym, ap, ◌∙◌, inl, inr, ⊎_elim, arith, subst, ne_eqb}
+use Prim.Native.Nat.{suc}
+use Rattle.std.proofs.Common.{◌≡◌, ◌≢◌, ℕ, ◌+◌, ◌*◌, ◌<◌, ◌≤◌, List, ◌∷◌, length, Bool, true, false, cond, refl, sym, ap, ◌∙◌, ⊎_elim, arith, subst, ne_eqb}
 use Rattle.std.specs.Prelude.{Option, Some, None}
 use Rattle.clover_words.specs.declared.pool.Pool.{Pool}
-use Rattle.clover_words.specs.declared.meta.Kind.{Kind}
 use Rattle.clover_words.specs.declared.meta.Kind.TheVariants.{Value as IsValue, Tombstone}
 use Rattle.clover_words.specs.declared.word.Word.{Word}
 use Rattle.clover_words.specs.declared.word.Word.TheVariants.{Next as NextOf}
-use Rattle.clover_map.specs.declared.call.Call.{Call}
-use Rattle.clover_map.specs.declared.call.Reply.{Reply}
 use Rattle.clover_map.specs.declared.call.Reply.TheVariants.{Absent, Differs}
-use Rattle.clover_port.specs.Told.{Open, Made, Rose}
-use Rattle.clover_rule.specs.Content.{InRange, Fits, value_meta, tombstone}
+use Rattle.clover_port.specs.Told.{Open, Made}
+use Rattle.clover_rule.specs.Content.{InRange}
 use Rattle.clover_rule.specs.Lists.{Within}
 use Rattle.clover_rule.specs.Memory.{home}
 use Rattle.clover_rule.specs.Steps.{Step, LoadNext, LinkNext, DecideNext, act_of, unlinked, word_of}
 use Rattle.clover_rule.specs.Told.{Says, IsMetaWord, IsShown}
-use Rattle.clover_rule.specs.Words.{next_of, root_of, next_code, buffer_at}
-use Rattle.clover_rule.specs.declared.access.Act.{Act}
+use Rattle.clover_rule.specs.Words.{buffer_at}
 use Rattle.clover_rule.specs.declared.view.View.{View}
 use Rattle.clover_rule.proofs.Steps.{each_within}
 use Rattle.clover_words.specs.Tag.{TagParts, tag_number}
@@ -26,14 +22,14 @@ use Rattle.clover_walk.specs.Turning.{OnReached as WalkReached, ExactTurn, Answe
 use Rattle.clover_walk.specs.declared.turn.Turn.{Turn}
 use Rattle.clover_walk.specs.declared.turn.Turn.TheVariants.{More as WalkMore, AtTail, Behind as WalkBehind, Unreached as WalkUnreached}
 use Rattle.clover_walk.proofs.Endings.{Stepped, Keeps, IsPlain, stepped, kept, shows_load, shows_decide, shows_link}
-use Rattle.clover_put.specs.Answering.{IsBefore, OnReached, OnRefused, ExactPut}
-use Rattle.clover_put.specs.Holding.{Filled, Fills, Owns, Looks, PutHolds, most, behind_it, steps_at}
+use Rattle.clover_put.specs.Answering.{IsBefore, OnReached, ExactPut}
+use Rattle.clover_put.specs.Holding.{Filled, PutHolds, behind_it, steps_at}
 use Rattle.clover_put.specs.Putting.{Putting, Stage, Seeking, AtLink, AtDead, AtOther, AtBad, AtRaise, Over, body, call_at, kind_of, walked, unless_left, staged, put_step, put_on}
-use Rattle.clover_put.specs.Stepping.{PutStep, Went, as_put, turn_bound}
+use Rattle.clover_put.specs.Stepping.{PutStep, Went, as_put}
 use Rattle.clover_put.specs.declared.turn.PutTurn.{PutTurn}
 use Rattle.clover_put.proofs.Body.{kind_meta, none_some}
 use Rattle.clover_put.proofs.Done.{at_stage, at_step, at_on, one_more}
-use Rattle.clover_put.proofs.Known.{filled_kept, bounded}
+use Rattle.clover_put.proofs.Known.{filled_kept}
 use Rattle.clover_put.proofs.Walked.{Onward, Turned, Paid, walked_step, left_turns, step_paid}
 
 -- the walk's answer and the call's
@@ -63,6 +59,12 @@ reached_so (AtTail u) A d h = h
 reached_so (WalkBehind n) A d h = h
 reached_so WalkUnreached A d h = absurd (d refl)
 
+pub reached_map : (r : Turn) (A B : Type 0) → (A → B) → WalkReached r A → WalkReached r B
+reached_map WalkMore A B f h = f h
+reached_map (AtTail u) A B f h = f h
+reached_map (WalkBehind n) A B f h = f h
+reached_map WalkUnreached A B f h = tt
+
 module _ (p : Pool) (c : Putting) (v : View) (o : Option Open) (w : View) (o1 : Option Open) (here : p ≡ c.walk.pool) (a : Step) (x : ℕ) (made : Made p a false v o x w o1) (plain : IsPlain a x) where
   k : Keeps v w
   k = kept p a false v o x w o1 made plain
@@ -73,7 +75,9 @@ module _ (p : Pool) (c : Putting) (v : View) (o : Option Open) (w : View) (o1 : 
   pub onward : (n : Walking) → n.pool ≡ c.walk.pool → n.slot ≡ c.walk.slot → n.first ≡ false → (rest : List ℕ) × (v.pass.stock ≡ c.own ∷ rest) → Filled c (length (body c)) (length (body c)) v
       → suc (length v.pass.since) ≤ 2 * length (body c) + 5 * n.turns + steps_at n.stand → Onward p c n w
   onward n ep es ef own fills cost = record {
-    pool = ep; slot = es; first = ef;
+    pool = ep;
+    slot = es;
+    first = ef;
     own = (own.0, k.stock ∙ own.1);
     fills = λ e eo eb. filled_kept c e (length (body c)) (length (body c)) v w (act_of a x) eo eb k.written k.flushed s.since fills;
     range = λ t d. subst (λ (q : Pool). InRange q t) here (each_within (λ (q : ℕ × ℕ). (q.0 < p.slots) × InRange p q.1) (c.walk.slot, t) w.pass.durable made.told.after.durable d).1;
@@ -104,7 +108,7 @@ seek_done p c v o f w o1 f1 h here fit at n r d reached went m t em et =
     subst (λ (z : Putting). PutStep p c v o f z w o1 f1 t) (sym em)
     (subst (PutStep p c v o f (walked c n) w o1 f1) (sym et)
     (walked_step p c n w here on v o f o1 f1 fit x (subst (λ (y : Step). Made p y c.walk.first v o x w o1) (sym (at_step c Seeking v at)) made)
-        (ap (walked c) g.2 ∙ sym (at_on c Seeking x at)) (subst IsBefore (sym at) tt) r went))
+    (ap (walked c) g.2 ∙ sym (at_on c Seeking x at)) (subst IsBefore (sym at) tt) r went))
 
 -- where the call's own access found the tail left
 module _ (p : Pool) (c : Putting) (v : View) (o : Option Open) (f : ℕ) (w : View) (o1 : Option Open) (f1 : ℕ) (h : PutHolds c v) (here : p ≡ c.walk.pool) (fit : length (body c) ≤ suc p.words) (u x : ℕ) (a : Step)
@@ -121,7 +125,7 @@ module _ (p : Pool) (c : Putting) (v : View) (o : Option Open) (f : ℕ) (w : Vi
       subst (λ (z : Putting). PutStep p c v o f z w o1 f1 t) (sym em)
       (subst (PutStep p c v o f (walked c (goes_on c.walk x)) w o1 f1) (sym et)
       (walked_step p c (goes_on c.walk x) w here (onward p c v o w o1 here a x made plain (goes_on c.walk x) turned.pool turned.slot turned.first own fills less) v o f o1 f1 fit x
-          (subst (λ (b : Bool). Made p (put_step c v) b v o x w o1) (sym later) (subst (λ (y : Step). Made p y false v o x w o1) (sym step) made)) (sym goes) before r went))
+      (subst (λ (b : Bool). Made p (put_step c v) b v o x w o1) (sym later) (subst (λ (y : Step). Made p y false v o x w o1) (sym step) made)) (sym goes) before r went))
 
 -- the call goes on with the walk where the tail was left
 left_on : (c : Putting) (u x : ℕ) (at : Stage) → x ≢ unlinked u → unless_left c u at x ≡ walked c (goes_on c.walk x)

@@ -1,43 +1,40 @@
 -- What a put promises at the tail: the meta word, the exchange, the last load and the raise.
-use Prim.Native.Nat.{zero, suc}
-use Rattle.std.proofs.Common.{◌≡◌, ◌≢◌, ℕ, ◌+◌, ◌*◌, ◌<◌, ◌≤◌, ◌==◌, List, [], ◌∷◌, ◌++◌, length, Bool, true, false, cond, eqb, ltb, refl, sym, ap, ◌∙◌, inl, inr, ⊎_elim, arith, subst, eqb-true, ne_eqb, eq-eqb}
-use Rattle.std.specs.Prelude.{Option, Some, None, ◌⊎◌}
+use Prim.Native.Nat.{suc}
+use Rattle.std.proofs.Common.{◌≡◌, ℕ, ◌+◌, ◌<◌, ◌≤◌, ◌==◌, List, [], ◌∷◌, ◌++◌, length, Bool, true, false, cond, eqb, refl, sym, ap, ◌∙◌, inl, inr, arith, subst, eqb-true, eq-eqb}
+use Rattle.std.specs.Prelude.{Option, Some, None}
 use Rattle.clover_words.specs.declared.meta.Kind.{Kind}
 use Rattle.clover_words.specs.declared.meta.Kind.TheVariants.{Value as IsValue, Tombstone}
 use Rattle.clover_words.specs.declared.pool.Pool.{Pool}
-use Rattle.clover_words.specs.declared.word.Side.TheVariants.{Current, Flushed}
 use Rattle.clover_words.specs.declared.word.Word.TheVariants.{Meta}
 use Rattle.clover_words.specs.Meta.{meta_word}
 use Rattle.clover_words.specs.Tag.{TagParts, tag_number}
 use Rattle.clover_map.specs.declared.bytes.Value.{Value}
-use Rattle.clover_map.specs.declared.call.Call.{Call}
 use Rattle.clover_map.specs.declared.call.Reply.{Reply}
 use Rattle.clover_map.specs.declared.call.Reply.TheVariants.{Absent, Differs}
 use Rattle.clover_port.specs.Told.{Open, Made, Rose}
 use Rattle.clover_rule.specs.Accesses.{SawDead, SawLive, SawFor, StoredBoth, Decides, Committed, AtTail}
-use Rattle.clover_rule.specs.Content.{content, tombstone, InRange}
+use Rattle.clover_rule.specs.Content.{content, tombstone}
 use Rattle.clover_rule.specs.History.{named}
 use Rattle.clover_rule.specs.Knowing.{SawTombstone, SawValue, link_view}
 use Rattle.clover_rule.specs.Lists.{nth, Within}
 use Rattle.clover_rule.specs.Memory.{home}
-use Rattle.clover_rule.specs.Steps.{Step, LoadContent, LinkNext, DecideNext, RaiseNext, MayCall, MayReply, unlinked, value_of, reply_of, turn_of, turn_at, counted, act_of, client, rest_of, seen}
-use Rattle.clover_rule.specs.Words.{buffer_at, content_at, next_of}
+use Rattle.clover_rule.specs.Steps.{Step, LoadContent, LinkNext, DecideNext, RaiseNext, MayCall, MayReply, unlinked, value_of, reply_of, turn_at, counted, act_of, client, rest_of, seen}
+use Rattle.clover_rule.specs.Words.{buffer_at, next_of}
 use Rattle.clover_rule.specs.declared.access.Act.{Act}
-use Rattle.clover_rule.specs.declared.access.Act.TheVariants.{Load, Store}
+use Rattle.clover_rule.specs.declared.access.Act.TheVariants.{Load}
 use Rattle.clover_rule.specs.declared.view.View.{View}
-use Rattle.clover_walk.specs.Ending.{Ended, Commits}
-use Rattle.clover_walk.specs.Walking.{Walking, Stand, OnTail, Holds, IsOnWay, begun, budget, key_at, goes_on}
+use Rattle.clover_walk.specs.Ending.{Ended}
+use Rattle.clover_walk.specs.Walking.{Walking, Holds, begun, budget, key_at, goes_on}
 use Rattle.clover_walk.proofs.Endings.{Stepped, stepped, at_tail, commits as committed_by}
 use Rattle.clover_put.specs.Answering.{IsBefore, IsRaising, Stores, Deletes}
-use Rattle.clover_put.specs.Holding.{Filled, Fills, Owns, Looks, IsAt, Reads, PutHolds, most, behind_it, steps_at}
-use Rattle.clover_put.specs.Putting.{Putting, Stage, Storing, Flushing, Seeking, AtMeta, AtLink, AtDead, AtOther, AtBad, AtRaise, Over, body, body_word, call_of, call_at, commits, kind_of, on_meta, on_value, staged, unless_left, walked, put_step, put_on}
+use Rattle.clover_put.specs.Holding.{Filled, Fills, Owns, Looks, Reads, PutHolds, behind_it}
+use Rattle.clover_put.specs.Putting.{Putting, Stage, AtMeta, AtLink, AtDead, AtOther, AtBad, AtRaise, Over, body, call_of, call_at, commits, kind_of, on_meta, on_value, staged, unless_left, walked, put_step, put_on}
 use Rattle.clover_put.specs.Stepping.{PutStep, turn_bound, done_with}
 use Rattle.clover_put.specs.declared.job.Job.{Job}
 use Rattle.clover_put.specs.declared.job.Job.TheVariants.{Put, Delete, Swap}
-use Rattle.clover_put.specs.declared.turn.PutTurn.{PutTurn}
 use Rattle.clover_put.specs.declared.turn.PutTurn.TheVariants.{More, Decided, Stored, Deleted, Absent as AbsentTurn, Differs as DiffersTurn, Linked}
 use Rattle.clover_put.proofs.Body.{kind_value, kind_dead, nth_less}
-use Rattle.clover_put.proofs.Known.{walk_kept, filled_kept, within_more, within_last, bounded}
+use Rattle.clover_put.proofs.Known.{walk_kept, filled_kept, within_last, bounded}
 use Rattle.clover_put.proofs.Done.{at_stage, at_step, at_on, one_more}
 
 -- a walk of which the call has made an access already
@@ -95,22 +92,47 @@ module _ (p : Pool) (c : Putting) (v : View) (o : Option Open) (f : ℕ) (w : Vi
     -- a tail that has a value
     live : kind_of y ≡ Some IsValue → (j : Job) → c.job ≡ j → PutHolds (staged c (on_value j u)) w
     live e Put ej = absurd (subst Reads ej k.2.1)
-    live e Delete ej = record { walk = held; owns = own; fills = (fills (staged c (AtLink u)) refl refl, k.1.1); spent = small;
-        looks = (k.2.0, subst (λ (j : Job). MayCall w c.walk.slot u (call_of j (key_at w.pass.names c.walk.slot) c.value)) (sym ej) (saw_value c.walk.slot u y v w [] e copied), subst (λ (j : Job). SawFor u (call_of j (key_at w.pass.names c.walk.slot) c.value) w.pass.since) (sym ej) (saw_live u y v.pass.since w.pass.since e since)) }
+    live e Delete ej = record {
+      walk = held;
+      owns = own;
+      fills = (fills (staged c (AtLink u)) refl refl, k.1.1);
+      spent = small;
+      looks = (k.2.0, subst (λ (j : Job). MayCall w c.walk.slot u (call_of j (key_at w.pass.names c.walk.slot) c.value)) (sym ej) (saw_value c.walk.slot u y v w [] e copied), subst (λ (j : Job). SawFor u (call_of j (key_at w.pass.names c.walk.slot) c.value) w.pass.since) (sym ej) (saw_live u y v.pass.since w.pass.since e since));
+    }
     live e (Swap t) ej = swap (eqb (tag_number t) u) refl
       where
         swap : (b : Bool) → eqb (tag_number t) u ≡ b → PutHolds (staged c (cond b (AtLink u) (AtOther u))) w
-        swap true q = record { walk = held; owns = own; fills = (fills (staged c (AtLink u)) refl refl, k.1.1); spent = small;
-            looks = (k.2.0, subst (λ (j : Job). MayCall w c.walk.slot u (call_of j (key_at w.pass.names c.walk.slot) c.value)) (sym ej) (eqb-true (tag_number t) u q, saw_value c.walk.slot u y v w [] e copied), subst (λ (j : Job). SawFor u (call_of j (key_at w.pass.names c.walk.slot) c.value) w.pass.since) (sym ej) (eqb-true (tag_number t) u q, saw_live u y v.pass.since w.pass.since e since)) }
-        swap false q = record { walk = held; owns = own; fills = (fills (staged c (AtOther u)) refl refl, k.1.1); spent = small;
-            looks = (k.2.0, subst (λ (j : Job). MayReply w c.walk.slot u (call_of j (key_at w.pass.names c.walk.slot) c.value) (Differs u)) (sym ej) (refl, (λ z. absurd (let y1 = eq-eqb (tag_number t) u (sym z) in cc)), saw_value c.walk.slot u y v w [] e copied), saw_live u y v.pass.since w.pass.since e since) }
+        swap true q = record {
+          walk = held;
+          owns = own;
+          fills = (fills (staged c (AtLink u)) refl refl, k.1.1);
+          spent = small;
+          looks = (k.2.0, subst (λ (j : Job). MayCall w c.walk.slot u (call_of j (key_at w.pass.names c.walk.slot) c.value)) (sym ej) (eqb-true (tag_number t) u q, saw_value c.walk.slot u y v w [] e copied), subst (λ (j : Job). SawFor u (call_of j (key_at w.pass.names c.walk.slot) c.value) w.pass.since) (sym ej) (eqb-true (tag_number t) u q, saw_live u y v.pass.since w.pass.since e since));
+        }
+        swap false q = record {
+          walk = held;
+          owns = own;
+          fills = (fills (staged c (AtOther u)) refl refl, k.1.1);
+          spent = small;
+          looks = (k.2.0, subst (λ (j : Job). MayReply w c.walk.slot u (call_of j (key_at w.pass.names c.walk.slot) c.value) (Differs u)) (sym ej) (refl, (λ z. absurd (let y1 = eq-eqb (tag_number t) u (sym z) in cc)), saw_value c.walk.slot u y v w [] e copied), saw_live u y v.pass.since w.pass.since e since);
+        }
 
     stands : (b : Option Kind) → kind_of y ≡ b → PutHolds (staged c (on_meta c.job u b)) w
     stands (Some IsValue) e = live e c.job refl
-    stands (Some Tombstone) e = record { walk = held; owns = own; fills = (fills (staged c (AtDead u)) refl refl, k.1.1); spent = small;
-        looks = (k.2.0, may_miss c.job (key_at w.pass.names c.walk.slot) c.value w c.walk.slot u k.2.1 (subst (Within (c.walk.slot, record { tag = u; place = 0; word = tombstone })) (sym copied) (inl (ap (λ (n : ℕ). (c.walk.slot, record { tag = u; place = 0; word = n })) (kind_dead y e)))), subst (λ (n : ℕ). Within (Load (Meta (buffer_at (home u))) n) w.pass.since) (kind_dead y e) (subst (Within (Load (Meta (buffer_at (home u))) y)) (sym since) (within_last (Load (Meta (buffer_at (home u))) y) v.pass.since))) }
-    stands None e = record { walk = held; owns = own; fills = (fills (staged c (AtBad u)) refl refl, k.1.1); spent = small;
-        looks = (k.2.0, (y, subst (Within (c.walk.slot, record { tag = u; place = 0; word = y })) (sym copied) (inl refl), e)) }
+    stands (Some Tombstone) e = record {
+      walk = held;
+      owns = own;
+      fills = (fills (staged c (AtDead u)) refl refl, k.1.1);
+      spent = small;
+      looks = (k.2.0, may_miss c.job (key_at w.pass.names c.walk.slot) c.value w c.walk.slot u k.2.1 (subst (Within (c.walk.slot, record { tag = u; place = 0; word = tombstone })) (sym copied) (inl (ap (λ (n : ℕ). (c.walk.slot, record { tag = u; place = 0; word = n })) (kind_dead y e)))), subst (λ (n : ℕ). Within (Load (Meta (buffer_at (home u))) n) w.pass.since) (kind_dead y e) (subst (Within (Load (Meta (buffer_at (home u))) y)) (sym since) (within_last (Load (Meta (buffer_at (home u))) y) v.pass.since)));
+    }
+    stands None e = record {
+      walk = held;
+      owns = own;
+      fills = (fills (staged c (AtBad u)) refl refl, k.1.1);
+      spent = small;
+      looks = (k.2.0, (y, subst (Within (c.walk.slot, record { tag = u; place = 0; word = y })) (sym copied) (inl refl), e));
+    }
 
     before_value : (j : Job) → IsBefore (on_value j u)
     before_value Put = tt
@@ -131,7 +153,11 @@ module _ (p : Pool) (c : Putting) (v : View) (o : Option Open) (f : ℕ) (w : Vi
         let t : w.pass.turns ≡ c.walk.turns = subst (λ (b : Bool). cond b 0 w.pass.turns ≡ c.walk.turns) k.1.1 held.turns in record {
           made = (y, subst (λ (a : Step). Made p a c.walk.first v o y w o1) (sym (at_step c (AtMeta u) v at)) later, sym (at_on c (AtMeta u) y at));
           answer = (subst IsBefore (sym at) tt, before (kind_of y));
-          decided = tt; done = tt; absent = tt; differs = tt; behind = tt;
+          decided = tt;
+          done = tt;
+          absent = tt;
+          differs = tt;
+          behind = tt;
           ahead = subst (λ (n : ℕ). n < budget p) (sym t) (subst (λ (q : Pool). c.walk.turns < budget q) (sym here) held.below);
           refused = tt;
           stands = stands (kind_of y) refl;
@@ -208,11 +234,17 @@ module _ (p : Pool) (c : Putting) (v : View) (o : Option Open) (f : ℕ) (w : Vi
     pub link_hit : PutStep p c v o f (staged c (AtRaise u)) w o1 f1 (Decided t)
     link_hit =
         let turns : w.pass.turns ≡ c.walk.turns = subst (λ (b : Bool). cond b 0 w.pass.turns ≡ c.walk.turns) kl.1.1 heldl.turns in record {
-          made = (unlinked u, subst (λ (a : Step). Made p a c.walk.first v o (unlinked u) w o1) (sym (at_step c (AtLink u) v at)) laterl,
-              sym (at_on c (AtLink u) (unlinked u) at ∙ ap (λ (b : Bool). cond b (staged c (AtRaise u)) (walked c (goes_on c.walk (unlinked u)))) same));
+          made = (
+            unlinked u,
+            subst (λ (a : Step). Made p a c.walk.first v o (unlinked u) w o1) (sym (at_step c (AtLink u) v at)) laterl,
+            sym (at_on c (AtLink u) (unlinked u) at ∙ ap (λ (b : Bool). cond b (staged c (AtRaise u)) (walked c (goes_on c.walk (unlinked u)))) same),
+          );
           answer = (u, at, refl, own);
           decided = record { slot = c.walk.slot; tail = u; made = made; decides = decides_link p made.now.words v.pass.names w.pass.since c.job key c.value c.own (committed_by p c.walk.slot u c.own (call_at c v) v o w o1 made (stored_both c v key kl.1.0) kl.2.2) };
-          done = tt; absent = tt; differs = tt; behind = tt;
+          done = tt;
+          absent = tt;
+          differs = tt;
+          behind = tt;
           ahead = subst (λ (n : ℕ). n < budget p) (sym turns) (subst (λ (q : Pool). c.walk.turns < budget q) (sym here) heldl.below);
           refused = tt;
           stands = record { walk = heldl; owns = tt; fills = kl.1.1; looks = (kl.2.0, subst (Within (record { slot = c.walk.slot; from = u; to = c.own })) (sym (ap (λ (z : View). z.pass.links) next)) (inl refl)); spent = subst (λ (b : Bool). cond b 0 (length w.pass.since) ≤ behind_it c + 4) (sym kl.1.1) (omega (arith, spentl)) };
@@ -253,11 +285,14 @@ module _ (p : Pool) (c : Putting) (v : View) (o : Option Open) (f : ℕ) (w : Vi
       let step = at_step c (AtDead u) v at in let goes = at_on c (AtDead u) (unlinked u) at in record {
         made = maded Absent AtDead at k.1.1 own k.3 made step goes;
         answer = (at ∙ ap AtDead (sym own), refl);
-        decided = tt; done = tt;
+        decided = tt;
+        done = tt;
         absent = record { slot = c.walk.slot; tag = u; made = made; decides = decides_dead p made.now.words v.pass.names w.pass.since c.job key c.value v c.walk.slot u k.2.1 (at_tail p c.walk.slot u (call_at c v) Absent (SawDead u) v o w o1 made k.2.2) };
-        differs = tt; behind = tt;
+        differs = tt;
+        behind = tt;
         ahead = aheadd Absent AtDead at k.1.1 own k.3 made step goes;
-        refused = tt; stands = tt;
+        refused = tt;
+        stands = tt;
         bound = boundd Absent AtDead at k.1.1 own k.3 made step goes;
       }
 
@@ -267,11 +302,14 @@ module _ (p : Pool) (c : Putting) (v : View) (o : Option Open) (f : ℕ) (w : Vi
       let step = at_step c (AtOther u) v at in let goes = at_on c (AtOther u) (unlinked u) at in record {
         made = maded (Differs u) AtOther at k.1.1 own k.3 made step goes;
         answer = (at ∙ ap AtOther (sym own), refl);
-        decided = tt; done = tt; absent = tt;
+        decided = tt;
+        done = tt;
+        absent = tt;
         differs = subst (λ (n : ℕ). Ended p (call_at c v) (Differs n) v o w o1) (sym own) (record { slot = c.walk.slot; tag = u; made = made; decides = decides_other p made.now.words v.pass.names w.pass.since c.job key c.value v c.walk.slot u k.2.1 (at_tail p c.walk.slot u (call_at c v) (Differs u) (SawLive u) v o w o1 made k.2.2) });
         behind = tt;
         ahead = aheadd (Differs u) AtOther at k.1.1 own k.3 made step goes;
-        refused = tt; stands = tt;
+        refused = tt;
+        stands = tt;
         bound = boundd (Differs u) AtOther at k.1.1 own k.3 made step goes;
       }
 

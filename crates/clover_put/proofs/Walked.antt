@@ -1,33 +1,29 @@
 -- What a put promises where its walk has gone on.
-use Prim.Native.Nat.{zero, suc}
-use Rattle.std.proofs.Common.{◌≡◌, ◌≢◌, ℕ, ◌+◌, ◌*◌, ◌<◌, ◌≤◌, ◌==◌, List, [], ◌∷◌, ◌++◌, length, Bool, true, false, cond, eqb, ltb, refl, sym, ap, ◌∙◌, inl, inr, arith, subst, eqb-true, ne_eqb, eq-eqb}
+use Prim.Native.Nat.{suc}
+use Rattle.std.proofs.Common.{◌≡◌, ◌≢◌, ℕ, ◌+◌, ◌*◌, ◌≤◌, List, ◌∷◌, length, Bool, true, false, cond, eqb, ltb, refl, sym, ap, ◌∙◌, arith, subst, eqb-true}
 use Rattle.std.specs.Prelude.{Option, Some, None}
 use Rattle.clover_words.specs.declared.pool.Pool.{Pool}
-use Rattle.clover_words.specs.declared.word.Word.TheVariants.{Next as NextOf}
-use Rattle.clover_words.specs.Tag.{TagParts, tag_number}
-use Rattle.clover_port.specs.Told.{Open, Made, Rose}
+use Rattle.clover_words.specs.Tag.{tag_number}
+use Rattle.clover_port.specs.Told.{Open, Made}
 use Rattle.clover_rule.specs.Accesses.{SawFor}
 use Rattle.clover_rule.specs.Content.{InRange}
 use Rattle.clover_rule.specs.Lists.{Within}
-use Rattle.clover_rule.specs.Memory.{Next, word, home, age}
-use Rattle.clover_rule.specs.Steps.{Step, MayCall, unlinked, turn_at}
-use Rattle.clover_rule.specs.Told.{IsShown}
-use Rattle.clover_rule.specs.Words.{next_of, next_code, root_of, buffer_at}
+use Rattle.clover_rule.specs.Memory.{Next, word, age}
+use Rattle.clover_rule.specs.Steps.{MayCall, unlinked}
+use Rattle.clover_rule.specs.Words.{next_of, next_code, root_of}
 use Rattle.clover_rule.specs.declared.view.View.{View}
-use Rattle.clover_rule.proofs.Steps.{each_within}
-use Rattle.clover_walk.specs.Walking.{Walking, Stand, AtRoot, AtTag, AtLink as OnLink, OnTail, Ended, Holds, IsOnWay, budget, key_at, goes_on, goes_from, followed, hops, turned, placed, rooted, next_start, begins}
+use Rattle.clover_walk.specs.Walking.{Walking, Stand, AtRoot, AtTag, AtLink as OnLink, OnTail, Ended, Holds, IsOnWay, budget, key_at, goes_on, goes_from, followed, hops, turned, rooted, next_start, begins}
 use Rattle.clover_walk.specs.declared.start.Start.{Start}
 use Rattle.clover_walk.specs.declared.start.Start.TheVariants.{FromCursor, FromRoot}
 use Rattle.clover_walk.specs.declared.turn.Turn.{Turn}
 use Rattle.clover_walk.specs.declared.turn.Turn.TheVariants.{More as WalkMore, AtTail, Behind as WalkBehind, Unreached as WalkUnreached}
 use Rattle.clover_walk.proofs.Codes.{no_turn}
-use Rattle.clover_put.specs.Answering.{Answers, IsBefore, OnGoing}
-use Rattle.clover_put.specs.Holding.{Filled, Fills, Owns, Looks, IsAt, Reads, PutHolds, most, behind_it, steps_at}
-use Rattle.clover_put.specs.Putting.{Putting, Stage, Seeking, AtMeta, AtLink, Over, at_tail, reached, body, call_of, walked, put_step, put_on}
+use Rattle.clover_put.specs.Answering.{IsBefore}
+use Rattle.clover_put.specs.Holding.{Filled, IsAt, Reads, PutHolds, steps_at}
+use Rattle.clover_put.specs.Putting.{Putting, Stage, Seeking, AtMeta, AtLink, at_tail, reached, body, call_of, walked, put_step, put_on}
 use Rattle.clover_put.specs.Stepping.{PutStep, Went, as_put, turn_bound}
 use Rattle.clover_put.specs.declared.job.Job.{Job}
 use Rattle.clover_put.specs.declared.job.Job.TheVariants.{Put, Delete, Swap}
-use Rattle.clover_put.specs.declared.turn.PutTurn.TheVariants.{More, Behind}
 use Rattle.clover_put.proofs.Known.{bounded}
 
 -- what is known of the call where its walk has gone on to n
@@ -55,9 +51,13 @@ module _ (p : Pool) (c : Putting) (n : Walking) (w : View) (here : p ≡ c.walk.
   is_at t e d s = (e, subst (λ (q : Pool). InRange q t) (sym k.pool) (k.range t d))
 
   on_tail : (j : Job) → c.job ≡ j → (t : ℕ) → n.stand ≡ OnTail t → Within (c.walk.slot, t) w.pass.durable → Holds n w → PutHolds (record c { walk = n; stage = at_tail j t }) w
-  on_tail Put ej t e d on = record { walk = on; owns = k.own; fills = (k.fills (record c { walk = n; stage = AtLink t }) refl refl, k.first);
-      looks = (is_at t e d (AtLink t), subst (λ (j : Job). MayCall w n.slot t (call_of j (key_at w.pass.names n.slot) c.value)) (sym ej) tt, subst (λ (j : Job). SawFor t (call_of j (key_at w.pass.names n.slot) c.value) w.pass.since) (sym ej) tt);
-      spent = count _ (let q = ap steps_at e in omega arith) }
+  on_tail Put ej t e d on = record {
+    walk = on;
+    owns = k.own;
+    fills = (k.fills (record c { walk = n; stage = AtLink t }) refl refl, k.first);
+    looks = (is_at t e d (AtLink t), subst (λ (j : Job). MayCall w n.slot t (call_of j (key_at w.pass.names n.slot) c.value)) (sym ej) tt, subst (λ (j : Job). SawFor t (call_of j (key_at w.pass.names n.slot) c.value) w.pass.since) (sym ej) tt);
+    spent = count _ (let q = ap steps_at e in omega arith);
+  }
   on_tail Delete ej t e d on = record { walk = on; owns = k.own; fills = (k.fills (record c { walk = n; stage = AtMeta t }) refl refl, k.first); looks = (is_at t e d (AtMeta t), subst Reads (sym ej) tt); spent = count _ (let q = ap steps_at e in omega arith) }
   on_tail (Swap x) ej t e d on = record { walk = on; owns = k.own; fills = (k.fills (record c { walk = n; stage = AtMeta t }) refl refl, k.first); looks = (is_at t e d (AtMeta t), subst Reads (sym ej) tt); spent = count _ (let q = ap steps_at e in omega arith) }
 
@@ -92,24 +92,40 @@ module _ (p : Pool) (c : Putting) (n : Walking) (w : View) (here : p ≡ c.walk.
     walked_step WalkMore went = record {
       made = (x, made, on);
       answer = (before, before_way n.stand went.answer);
-      decided = tt; done = tt; absent = tt; differs = tt; behind = tt;
-      ahead = went.ahead; refused = tt;
+      decided = tt;
+      done = tt;
+      absent = tt;
+      differs = tt;
+      behind = tt;
+      ahead = went.ahead;
+      refused = tt;
       stands = on_way n.stand refl went.answer went.stands;
       bound = bound (turns_are went.stands);
     }
     walked_step (AtTail t) went = record {
       made = (x, made, on);
       answer = (before, subst (λ (s : Stand). IsBefore (reached c.job s)) (sym went.answer) (before_tail c.job (tag_number t)));
-      decided = tt; done = tt; absent = tt; differs = tt; behind = tt;
-      ahead = went.ahead; refused = tt;
+      decided = tt;
+      done = tt;
+      absent = tt;
+      differs = tt;
+      behind = tt;
+      ahead = went.ahead;
+      refused = tt;
       stands = subst (λ (s : Stand). PutHolds (record c { walk = n; stage = reached c.job s }) w) (sym went.answer) (on_tail c.job refl (tag_number t) went.answer went.tail went.stands);
       bound = bound (turns_are went.stands);
     }
     walked_step (WalkBehind m) went = record {
       made = (x, made, on);
       answer = (before, ap (reached c.job) went.answer.0, went.answer.0, went.answer.1);
-      decided = tt; done = tt; absent = tt; differs = tt;
-      behind = went.behind; ahead = tt; refused = tt; stands = tt;
+      decided = tt;
+      done = tt;
+      absent = tt;
+      differs = tt;
+      behind = went.behind;
+      ahead = tt;
+      refused = tt;
+      stands = tt;
       bound = bound (went.behind.1 ∙ sym went.behind.0 ∙ went.answer.1);
     }
     walked_step WalkUnreached went = absurd went.answer

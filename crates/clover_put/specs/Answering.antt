@@ -6,7 +6,7 @@ use Rattle.clover_put.specs.declared.job.Job.{Job}
 use Rattle.clover_put.specs.declared.job.Job.TheVariants.{Put, Delete, Swap}
 use Rattle.clover_put.specs.declared.turn.PutTurn.{PutTurn}
 use Rattle.clover_put.specs.declared.turn.PutTurn.TheVariants.{More, Decided, Stored, Deleted, Absent, Differs, Behind, Unreached, Linked}
-use Rattle.clover_put.specs.Putting.{Putting, Stage, Storing, Flushing, Seeking, AtMeta, AtLink, AtDead, AtOther, AtBad, AtRaise, Over, staged}
+use Rattle.clover_put.specs.Putting.{Putting, Stage, AtLink, AtDead, AtOther, AtRaise, Over, staged}
 
 -- it has committed nothing yet and is not over
 abbrev pub IsBefore : Stage → Type 0

@@ -1,5 +1,5 @@
 -- What the client must know where a put stands, and how many accesses the call has made at most.
-use Rattle.std.specs.Prelude.{◌≡◌, ℕ, ◌+◌, ◌*◌, ◌<◌, ◌≤◌, List, ◌∷◌, length, Bool, false, cond, eqb, Option, Some, None}
+use Rattle.std.specs.Prelude.{◌≡◌, ℕ, ◌+◌, ◌*◌, ◌<◌, ◌≤◌, List, ◌∷◌, length, false, cond, eqb, Some, None}
 use Rattle.clover_map.specs.declared.call.Reply.TheVariants.{Absent, Differs}
 use Rattle.clover_words.specs.declared.word.Side.TheVariants.{Current, Flushed}
 use Rattle.clover_rule.specs.Accesses.{SawDead, SawFor, SawLive}
@@ -10,7 +10,7 @@ use Rattle.clover_rule.specs.Steps.{MayCall, MayReply}
 use Rattle.clover_rule.specs.Words.{content_at}
 use Rattle.clover_rule.specs.declared.access.Act.TheVariants.{Store}
 use Rattle.clover_rule.specs.declared.view.View.{View}
-use Rattle.clover_walk.specs.Walking.{Walking, Stand, AtRoot, AtTag, AtLink as OnLink, OnTail, Ended, IsOnWay, Holds}
+use Rattle.clover_walk.specs.Walking.{Stand, AtRoot, AtTag, AtLink as OnLink, OnTail, Ended, IsOnWay, Holds}
 use Rattle.clover_put.specs.declared.job.Job.{Job}
 use Rattle.clover_put.specs.declared.job.Job.TheVariants.{Put, Delete, Swap}
 use Rattle.clover_put.specs.Putting.{Putting, Stage, Storing, Flushing, Seeking, AtMeta, AtLink, AtDead, AtOther, AtBad, AtRaise, Over, body, call_at, kind_of}

@@ -1,6 +1,6 @@
 -- A put, delete or swap of one slot's key: which step its next access is, and how it goes on by what that access found.
 use Prim.Native.Nat.{zero, suc}
-use Rattle.std.specs.Prelude.{◌≡◌, ℕ, ◌/◌, ◌%◌, ◌^◌, ◌==◌, List, length, Bool, cond, eqb, leb, ltb, ◌&&◌, Option, Some, None}
+use Rattle.std.specs.Prelude.{ℕ, ◌/◌, ◌%◌, ◌^◌, ◌==◌, List, length, cond, eqb, leb, ltb, ◌&&◌, Option, Some, None}
 use Rattle.clover_words.specs.declared.meta.Kind.{Kind}
 use Rattle.clover_words.specs.declared.meta.Kind.TheVariants.{Value as IsValue, Tombstone}
 use Rattle.clover_words.specs.Pack.{packed}

@@ -1,6 +1,5 @@
 -- The value of a put from its fields.
-use Rattle.std.specs.Prelude.{ℕ}
-use Rattle.clover_words.specs.Tag.{TagParts, tag_number}
+use Rattle.clover_words.specs.Tag.{tag_number}
 use Rattle.clover_put.specs.Putting.{Stage as Place, Storing as ToStore, Flushing as ToFlush, Seeking as ToSeek, AtMeta as ToMeta, AtLink as ToLink, AtDead as ToDead, AtOther as ToOther, AtBad as ToBad, AtRaise as ToRaise, Over as ToEnd}
 use Rattle.clover_put.specs.declared.stage.Stage.{Stage}
 use Rattle.clover_put.specs.declared.stage.Stage.TheVariants.{Storing, Flushing, Seeking, AtMeta, AtLink, AtDead, AtOther, AtBad, AtRaise, Over}

@@ -129,7 +129,12 @@ pub fn link_own<P: Port, M: StepName>(
 {
     let _ = (slot, job, flags);
     let _ = bytes.len();
-    exchange_as::<P, M>(port, Word::Next(buffer_of(tail)), unlinked_word(tail), linked_word(tail, own))
+    exchange_as::<P, M>(
+        port,
+        Word::Next(buffer_of(tail)),
+        unlinked_word(tail),
+        linked_word(tail, own),
+    )
 }
 
 /// Loads a tombstone's next word again: where it shows the tag unlinked, the call is answered absent.

@@ -18,9 +18,7 @@ ghost use Rattle.clover_put.specs.Holding.{PutHolds};
 ghost use Rattle.clover_put.specs.Standing.{standing};
 ghost use Rattle.clover_put.specs.Stepping.{PutStep, Went, as_put, done_with, turn_bound};
 
-use crate::access::{
-    flush_content, link_own, load_dead, load_other, store_content, unlinked_word,
-};
+use crate::access::{flush_content, link_own, load_dead, load_other, store_content, unlinked_word};
 use crate::job::{Job, TooLong};
 use crate::stage::Stage;
 use crate::turn::PutTurn;

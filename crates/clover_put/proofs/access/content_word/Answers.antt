@@ -1,9 +1,8 @@
-use Rattle.std.proofs.Common.{◌≡◌, ◌<◌, ◌-◌, ap, ◌∙◌, sym, arith}
+use Rattle.std.proofs.Common.{◌<◌, ◌-◌, ap, ◌∙◌, arith}
 use Rattle.clover_words.specs.declared.word.Buffer.{Buffer}
 use Rattle.clover_words.specs.declared.word.Word.TheVariants.{Value as ValueOf}
 use Rattle.clover_words.specs.Tag.{tag_number}
 use Rattle.clover_rule.specs.Memory.{home}
-use Rattle.clover_rule.specs.Words.{content_at}
 use Rattle.clover_walk.proofs.Tailing.{value_is}
 use Rattle.clover_put.proofs.access.content_word.Goals as goal
 

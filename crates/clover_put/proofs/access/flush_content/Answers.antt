@@ -1,4 +1,4 @@
-use Rattle.std.proofs.Common.{◌≡◌, ℕ, Bool, sym, subst, false}
+use Rattle.std.proofs.Common.{Bool, sym, subst}
 use Rattle.std.specs.Prelude.{OnOk}
 use Rattle.clover_words.specs.Tag.{tag_number}
 use Rattle.clover_rule.specs.Steps.{Step, FlushContent, Asks}

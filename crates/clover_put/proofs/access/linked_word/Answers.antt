@@ -1,7 +1,7 @@
-use Rattle.std.proofs.Common.{◌≡◌, sym, ◌∙◌, ap, subst}
+use Rattle.std.proofs.Common.{◌∙◌, ap}
 use Rattle.std.specs.Prelude.{Some}
 use Rattle.clover_words.specs.Next.{next_word}
-use Rattle.clover_words.specs.Tag.{TagParts, IsTag}
+use Rattle.clover_words.specs.Tag.{TagParts}
 use Rattle.clover_put.proofs.access.linked_word.Goals as goal
 
 pub returns-clause-value : goal.returns-clause-value

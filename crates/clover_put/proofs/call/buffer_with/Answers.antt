@@ -1,4 +1,4 @@
-use Rattle.std.proofs.Common.{◌≡◌, ◌≤◌, arith, rules, length}
+use Rattle.std.proofs.Common.{◌≡◌, rules}
 use Rattle.clover_words.specs.Pack.{AreBytes}
 use Rattle.clover_put.proofs.Room.{room_zeros}
 use Rattle.clover_put.proofs.call.buffer_with.Goals as goal

@@ -1,10 +1,10 @@
-use Rattle.std.proofs.Common.{◌≡◌, ◌≢◌, ℕ, List, sym, ap, ◌∙◌, subst, false}
+use Rattle.std.proofs.Common.{◌≡◌, ℕ, sym, ap, ◌∙◌, subst, false}
 use Rattle.clover_words.specs.Tag.{tag_number}
 use Rattle.clover_words.specs.declared.pool.Pool.{Pool}
 use Rattle.clover_rule.specs.Content.{Fits}
 use Rattle.clover_rule.specs.Steps.{LoadNext}
 use Rattle.clover_port.specs.Told.{Made}
-use Rattle.clover_walk.specs.Walking.{Walking, goes_on}
+use Rattle.clover_walk.specs.Walking.{goes_on}
 use Rattle.clover_put.specs.Putting.{Putting, commits}
 use Rattle.clover_put.specs.Stepping.{PutStep, Went}
 use Rattle.clover_put.proofs.Body.{body_fits}
@@ -27,4 +27,4 @@ returns-in-Ok-clause-done g c =
     let went = c.seen.ensures.went in
     subst (λ (z : _). PutStep p n (v old) (o old) (g.P.Port.faults old) c.seen.new.self (v z) (o z) (g.P.Port.faults z) c.seen.result) (sym c.seen.ensures.port)
     (bad_left p n (v old) (o old) (g.P.Port.faults old) (v new) (o new) (g.P.Port.faults new) c.requires.holds c.requires.pool (body_fits p n.job n.value (subst (λ (q : Pool). Fits q (commits n.job n.value)) (sym c.requires.pool) fits)) (tag_number c.args.tail) c.in-Ok.word c.requires.stage made
-        went.0 (went_in p n.walk.pool n.walk.slot n.walk.slot (goes_on n.walk c.in-Ok.word) (goes_on n.walk c.in-Ok.word) (v new) went.0 (sym c.requires.pool) (λ i. n.walk.slot) (λ i. goes_on n.walk c.in-Ok.word) (subst (λ (z : _). Went n.walk.pool n.walk.slot (goes_on n.walk c.in-Ok.word) (v z) went.0) c.seen.ensures.port went.2)) c.seen.new.self c.seen.result c.seen.ensures.value went.1)
+    went.0 (went_in p n.walk.pool n.walk.slot n.walk.slot (goes_on n.walk c.in-Ok.word) (goes_on n.walk c.in-Ok.word) (v new) went.0 (sym c.requires.pool) (λ i. n.walk.slot) (λ i. goes_on n.walk c.in-Ok.word) (subst (λ (z : _). Went n.walk.pool n.walk.slot (goes_on n.walk c.in-Ok.word) (v z) went.0) c.seen.ensures.port went.2)) c.seen.new.self c.seen.result c.seen.ensures.value went.1)

@@ -1,8 +1,8 @@
-use Rattle.std.proofs.Common.{◌≡◌, ℕ, sym, ap, ◌∙◌, ◌⊎◌, subst, length}
+use Rattle.std.proofs.Common.{◌≡◌, sym, ap, ◌∙◌, ◌⊎◌, subst, length}
 use Rattle.clover_words.specs.Tag.{TagParts}
 use Rattle.clover_put.specs.Putting.{Putting}
 use Rattle.clover_put.specs.declared.job.Job.{Job}
-use Rattle.clover_put.specs.declared.job.Job.TheVariants.{Put, Delete, Swap}
+use Rattle.clover_put.specs.declared.job.Job.TheVariants.{Put, Swap}
 use Rattle.clover_put.proofs.Body.{count_dead, count_value}
 use Rattle.clover_put.proofs.call.PutCall.body_length.Goals as goal
 

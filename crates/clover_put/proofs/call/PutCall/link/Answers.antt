@@ -1,15 +1,14 @@
-use Rattle.std.proofs.Common.{◌≡◌, ◌≢◌, ℕ, List, sym, ap, ◌∙◌, subst, false}
+use Rattle.std.proofs.Common.{◌≡◌, ℕ, List, sym, ap, ◌∙◌, subst, false}
 use Rattle.clover_words.specs.Tag.{tag_number}
 use Rattle.clover_words.specs.declared.pool.Pool.{Pool}
 use Rattle.clover_map.specs.declared.bytes.Value.{Value}
-use Rattle.clover_map.specs.declared.call.Reply.TheVariants.{Absent, Differs}
 use Rattle.clover_rule.specs.Content.{Fits}
 use Rattle.clover_rule.specs.Steps.{Step, Asks, unlinked}
 use Rattle.clover_port.specs.Told.{Made}
-use Rattle.clover_walk.specs.Walking.{Walking, goes_on, key_at}
-use Rattle.clover_put.specs.Putting.{Putting, commits, walked}
+use Rattle.clover_walk.specs.Walking.{goes_on}
+use Rattle.clover_put.specs.Putting.{Putting, commits}
 use Rattle.clover_put.specs.Stepping.{PutStep, Went}
-use Rattle.clover_put.specs.declared.turn.PutTurn.TheVariants.{Decided, Absent as AbsentTurn, Differs as DiffersTurn}
+use Rattle.clover_put.specs.declared.turn.PutTurn.TheVariants.{Decided}
 use Rattle.clover_put.proofs.Asking.{asks_link}
 use Rattle.clover_put.proofs.Body.{body_fits}
 use Rattle.clover_put.proofs.Seeking.{link_shows, link_left, went_in}
@@ -47,7 +46,7 @@ returns-in-Ok-clause-done g c =
     let hit : c.in-Ok.word ≡ unlinked (tag_number c.args.tail) = c.if-word-unlinked_word.true ∙ c.unlinked_word.ensures in
     subst (λ (z : Putting). PutStep p n (v old) (o old) (g.P.Port.faults old) z (v new) (o new) (g.P.Port.faults new) (Decided c.self-in-Ok.inside.own)) (sym c.place.ensures)
     (link_hit p n (v old) (o old) (g.P.Port.faults old) (v new) (o new) (g.P.Port.faults new) c.requires.holds c.requires.pool (body_fits p n.job n.value (subst (λ (q : Pool). Fits q (commits n.job n.value)) (sym c.requires.pool) fits)) (tag_number c.args.tail) c.self-in-Ok.inside.own c.requires.stage (ap (λ (z : Putting). z.own) (c.self-in-Ok.view_is ∙ c.place.ensures))
-        (subst (λ (x : ℕ). Made p (act_link n (v old) (tag_number c.args.tail)) false (v old) (o old) x (v new) (o new)) hit made))
+    (subst (λ (x : ℕ). Made p (act_link n (v old) (tag_number c.args.tail)) false (v old) (o old) x (v new) (o new)) hit made))
 
 pub returns-in-Ok-2-clause-done : goal.returns-in-Ok-2-clause-done
 returns-in-Ok-2-clause-done g c =
@@ -61,4 +60,4 @@ returns-in-Ok-2-clause-done g c =
     let went = c.seen.ensures.went in
     subst (λ (z : _). PutStep p n (v old) (o old) (g.P.Port.faults old) c.seen.new.self (v z) (o z) (g.P.Port.faults z) c.seen.result) (sym c.seen.ensures.port)
     (link_left p n (v old) (o old) (g.P.Port.faults old) (v new) (o new) (g.P.Port.faults new) c.requires.holds c.requires.pool (body_fits p n.job n.value (subst (λ (q : Pool). Fits q (commits n.job n.value)) (sym c.requires.pool) fits)) (tag_number c.args.tail) c.in-Ok.word c.requires.stage made (λ e. c.if-word-unlinked_word.false (e ∙ sym c.unlinked_word.ensures))
-        went.0 (went_in p n.walk.pool n.walk.slot n.walk.slot (goes_on n.walk c.in-Ok.word) (goes_on n.walk c.in-Ok.word) (v new) went.0 (sym c.requires.pool) (λ i. n.walk.slot) (λ i. goes_on n.walk c.in-Ok.word) (subst (λ (z : _). Went n.walk.pool n.walk.slot (goes_on n.walk c.in-Ok.word) (v z) went.0) c.seen.ensures.port went.2)) c.seen.new.self c.seen.result c.seen.ensures.value went.1)
+    went.0 (went_in p n.walk.pool n.walk.slot n.walk.slot (goes_on n.walk c.in-Ok.word) (goes_on n.walk c.in-Ok.word) (v new) went.0 (sym c.requires.pool) (λ i. n.walk.slot) (λ i. goes_on n.walk c.in-Ok.word) (subst (λ (z : _). Went n.walk.pool n.walk.slot (goes_on n.walk c.in-Ok.word) (v z) went.0) c.seen.ensures.port went.2)) c.seen.new.self c.seen.result c.seen.ensures.value went.1)

@@ -1,12 +1,11 @@
-use Rattle.std.proofs.Common.{◌≡◌, ℕ, sym, ap, ◌∙◌, subst, false}
-use Rattle.clover_words.specs.Tag.{TagParts, tag_number}
+use Rattle.std.proofs.Common.{◌≡◌, sym, ap, ◌∙◌, subst, false}
+use Rattle.clover_words.specs.Tag.{tag_number}
 use Rattle.clover_words.specs.declared.pool.Pool.{Pool}
 use Rattle.clover_rule.specs.Content.{Fits}
 use Rattle.clover_rule.specs.Steps.{Step, Asks}
 use Rattle.clover_port.specs.Told.{Made}
 use Rattle.clover_put.specs.Putting.{Putting, commits, staged, Over}
 use Rattle.clover_put.specs.Stepping.{PutStep, done_with}
-use Rattle.clover_put.specs.declared.turn.PutTurn.{PutTurn}
 use Rattle.clover_put.specs.declared.turn.PutTurn.TheVariants.{Linked}
 use Rattle.clover_put.proofs.Asking.{asks_raise}
 use Rattle.clover_put.proofs.Body.{body_fits}
