@@ -1,6 +1,7 @@
 //! An actor's way to the words of a pool: one load, store, exchange or raise at a time, each of them a step that the
 //! rule allows this actor. The layers above are generic over `Port`, so that they run alike over every pool.
 #![tactic(auto)]
+
 ghost use Rattle.std.specs.Prelude.{◌≡◌, ◌≤◌, ℕ, Bool, Option, IfOk, OnOk, OnErr};
 ghost use Rattle.clover_words.specs.declared.pool.Pool.{Pool as Shape};
 ghost use Rattle.clover_rule.specs.declared.view.View.{View};
@@ -102,7 +103,12 @@ pub fn load_as<P: Port, M: StepName>(port: &mut P, word: Word) -> Result<u64, Fa
 }
 
 /// The port's `store`. Here a caller can name the step that it means.
-pub fn store_as<P: Port, M: StepName>(port: &mut P, word: Word, side: Side, value: u64) -> Result<(), Failed>
+pub fn store_as<P: Port, M: StepName>(
+    port: &mut P,
+    word: Word,
+    side: Side,
+    value: u64,
+) -> Result<(), Failed>
     requires step { IsStore (store_step M.kind M.slot M.tag word side value) word side value }
     requires rule { Asks (P.pool port.old) (store_step M.kind M.slot M.tag word side value) (P.view port.old) }
     ensures made { OnOk result (MadeBlind (P.pool port.old) (store_step M.kind M.slot M.tag word side value) M.first (P.view port.old) (P.told port.old) (P.view port.new) (P.told port.new)) }
@@ -116,7 +122,12 @@ pub fn store_as<P: Port, M: StepName>(port: &mut P, word: Word, side: Side, valu
 }
 
 /// The port's `exchange`. Here a caller can name the step that it means.
-pub fn exchange_as<P: Port, M: StepName>(port: &mut P, word: Word, expected: u64, new: u64) -> Result<u64, Failed>
+pub fn exchange_as<P: Port, M: StepName>(
+    port: &mut P,
+    word: Word,
+    expected: u64,
+    new: u64,
+) -> Result<u64, Failed>
     requires step { IsExchange (exchange_step M.slot M.tag M.call new) word expected new }
     requires rule { Asks (P.pool port.old) (exchange_step M.slot M.tag M.call new) (P.view port.old) }
     ensures made { IfOk result (λ x. Made (P.pool port.old) (exchange_step M.slot M.tag M.call new) M.first (P.view port.old) (P.told port.old) x (P.view port.new) (P.told port.new)) }

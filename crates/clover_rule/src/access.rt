@@ -3,6 +3,7 @@
 use clover_words::{Side, Word};
 
 /// Who makes an access.
+#[derive(Clone, Copy, Debug, PartialEq, Eq)]
 pub enum Actor {
     /// The compute node of this client, counted from 1.
     Client(u32),
@@ -13,6 +14,7 @@ pub enum Actor {
 }
 
 /// What an access did to its word, what it was given and what came back.
+#[derive(Clone, Copy, Debug, PartialEq, Eq)]
 pub enum Act {
     /// The current copy was read.
     Load {
@@ -41,6 +43,7 @@ pub enum Act {
 }
 
 /// An access of an actor. A refused one did nothing, and its `got` or `old` is 0.
+#[derive(Clone, Copy, Debug, PartialEq, Eq)]
 pub struct Access {
     pub actor: Actor,
     pub act: Act,

@@ -6,16 +6,16 @@ use Rattle.clover_map.specs.declared.bytes.Value.{Value}
 use Rattle.clover_map.specs.declared.call.Call.{Call}
 use Rattle.clover_map.specs.declared.call.Call.TheVariants.{Get, Put, Delete, Swap}
 use Rattle.clover_script.specs.declared.line.PoolLine.{PoolLine}
-use Rattle.clover_script.specs.declared.line.Form.TheVariants.{Calls}
 use Rattle.clover_script.specs.declared.line.Task.{Task}
 use Rattle.clover_script.specs.declared.line.Task.TheVariants.{Client}
 use Rattle.clover_script.specs.Coded.{AreBytes, coded, is_plain, hex_digit}
 use Rattle.clover_script.specs.Split.{Lacks, EndsNumber}
-use Rattle.clover_script.specs.Line.{IsFormOf, pool_line, IsKey, IsCall, call_line, written, cut_value, cut_call}
-use Rattle.clover_script.specs.Text.{value_text, call_text}
-use Rattle.clover_script.specs.Form.{SpellsValue, SpellsCall, call_in}
+use Rattle.clover_script.specs.Line.{pool_line, IsKey, IsWritten, IsCall, IsClientCall, call_line, written, cut_value, cut_call}
+use Rattle.clover_script.specs.Text.{tag_text, value_text, call_text}
+use Rattle.clover_script.specs.Form.{SpellsPut, SpellsSwap, SpellsCall}
 use Rattle.clover_script.proofs.CodedLemmas.{one_text}
 use Rattle.clover_script.proofs.LineLemmas.{one_split}
+use Rattle.clover_script.proofs.PartLemmas.{tag_split}
 
 pub after_same : (w x y : List ℕ) → w ++ x ≡ w ++ y → x ≡ y
 after_same [] x y e = e
@@ -98,31 +98,77 @@ coded_lacks (b ∷ bs) are = plain_lacks (is_plain b) b (coded bs) refl are.0 (c
 same_value : (v w : Value) → v.flags ≡ w.flags → v.bytes ≡ w.bytes → v ≡ w
 same_value v w p q = λ i. record { flags = p i; bytes = q i }
 
-put_words : (k x : List ℕ) → (k ++ 32 ∷ []) ++ x ≡ k ++ 32 ∷ x
-put_words k x = append_assoc k (32 ∷ []) x
+swap_words : (k t v : List ℕ) → codes "swap " ++ k ++ codes " " ++ t ++ codes " " ++ v ≡ codes "swap " ++ (k ++ 32 ∷ (t ++ 32 ∷ v))
+swap_words k t v = simp (append_assoc)
 
-get_put : (k j : List ℕ) (w : Value) → call_line (Get k) ≡ call_line (Put j w) → ⊥
-get_put k j w e = omega (arith, ap (λ (l : List ℕ). get_or l 7 0) e)
+-- a text is one value's
+pub one_value : (v w : Value) → IsWritten v → IsWritten w → value_text v ≡ value_text w → v ≡ w
+one_value v w f g e = same_value v w (f.0 ∙ sym g.0) (one_text v.bytes w.bytes f.2 g.2 (after_same (61 ∷ []) (coded v.bytes) (coded w.bytes) e))
+
+-- a key and what stands behind the space after it
+pub key_split : (k j x y : List ℕ) → IsKey k → IsKey j → coded k ++ 32 ∷ x ≡ coded j ++ 32 ∷ y → (k ≡ j) × (x ≡ y)
+key_split k j x y p q e =
+    let r = one_split 32 (coded k) (coded j) x y (coded_lacks k p.2) (coded_lacks j q.2) e in
+    (one_text k j p.2 q.2 r.0, r.1)
+
+same_put : (k j : List ℕ) (v w : Value) → IsKey k → IsKey j → IsWritten v → IsWritten w → coded k ++ 32 ∷ value_text v ≡ coded j ++ 32 ∷ value_text w → (k ≡ j) × (v ≡ w)
+same_put k j v w p q f g e =
+    let r = key_split k j (value_text v) (value_text w) p q e in
+    (r.0, one_value v w f g r.1)
+
+-- the words of a call's text
+abbrev pub put_on : List ℕ → Value → List ℕ
+put_on k v = codes "put " ++ (coded k ++ 32 ∷ value_text v)
+
+abbrev pub swap_on : List ℕ → ℕ → Value → List ℕ
+swap_on k e v = codes "swap " ++ (coded k ++ 32 ∷ (tag_text e ++ 32 ∷ value_text v))
+
+pub put_parts : (k : List ℕ) (v : Value) → call_text (Put k v) ≡ put_on k v
+put_parts k v = simp (append_assoc)
+
+pub swap_parts : (k : List ℕ) (e : ℕ) (v : Value) → call_text (Swap k e v) ≡ swap_on k e v
+swap_parts k e v = swap_words (coded k) (tag_text e) (value_text v)
+
+-- two texts with other first bytes
+pub apart : (x y : List ℕ) → x ≡ y → get_or x 0 0 ≡ get_or y 0 0
+apart x y e = ap (λ (l : List ℕ). get_or l 0 0) e
+
+-- a text is one call's
+pub one_client_call : (a b : Call) → IsClientCall a → IsClientCall b → call_text a ≡ call_text b → a ≡ b
+one_client_call (Get k) (Get j) p q e = ap Get (one_text k j p.2 q.2 (after_same (codes "get ") (coded k) (coded j) e))
+one_client_call (Put k v) (Put j w) p q e =
+    let r = same_put k j v w p.0 q.0 p.1 q.1 (after_same (codes "put ") (coded k ++ 32 ∷ value_text v) (coded j ++ 32 ∷ value_text w) (sym (put_parts k v) ∙ e ∙ put_parts j w)) in
+    ap (λ (x : List ℕ). Put x v) r.0 ∙ ap (Put j) r.1
+one_client_call (Delete k) (Delete j) p q e = ap Delete (one_text k j p.2 q.2 (after_same (codes "delete ") (coded k) (coded j) e))
+one_client_call (Swap k t v) (Swap j u w) p q e =
+    let words = after_same (codes "swap ") (coded k ++ 32 ∷ (tag_text t ++ 32 ∷ value_text v)) (coded j ++ 32 ∷ (tag_text u ++ 32 ∷ value_text w)) (sym (swap_parts k t v) ∙ e ∙ swap_parts j u w) in
+    let keys = key_split k j (tag_text t ++ 32 ∷ value_text v) (tag_text u ++ 32 ∷ value_text w) p.0 q.0 words in
+    let tags = tag_split t u (value_text v) (value_text w) p.1 q.1 keys.1 in
+    let values = one_value v w p.2 q.2 tags.1 in
+    ap (λ (x : List ℕ). Swap x t v) keys.0 ∙ ap (λ (x : ℕ). Swap j x v) tags.0 ∙ ap (Swap j u) values
+one_client_call (Get k) (Put j w) p q e = absurd (omega (arith, apart (call_text (Get k)) (call_text (Put j w)) e))
+one_client_call (Get k) (Delete j) p q e = absurd (omega (arith, apart (call_text (Get k)) (call_text (Delete j)) e))
+one_client_call (Get k) (Swap j u w) p q e = absurd (omega (arith, apart (call_text (Get k)) (call_text (Swap j u w)) e))
+one_client_call (Put k v) (Get j) p q e = absurd (omega (arith, apart (call_text (Put k v)) (call_text (Get j)) e))
+one_client_call (Put k v) (Delete j) p q e = absurd (omega (arith, apart (call_text (Put k v)) (call_text (Delete j)) e))
+one_client_call (Put k v) (Swap j u w) p q e = absurd (omega (arith, apart (call_text (Put k v)) (call_text (Swap j u w)) e))
+one_client_call (Delete k) (Get j) p q e = absurd (omega (arith, apart (call_text (Delete k)) (call_text (Get j)) e))
+one_client_call (Delete k) (Put j w) p q e = absurd (omega (arith, apart (call_text (Delete k)) (call_text (Put j w)) e))
+one_client_call (Delete k) (Swap j u w) p q e = absurd (omega (arith, apart (call_text (Delete k)) (call_text (Swap j u w)) e))
+one_client_call (Swap k t v) (Get j) p q e = absurd (omega (arith, apart (call_text (Swap k t v)) (call_text (Get j)) e))
+one_client_call (Swap k t v) (Put j w) p q e = absurd (omega (arith, apart (call_text (Swap k t v)) (call_text (Put j w)) e))
+one_client_call (Swap k t v) (Delete j) p q e = absurd (omega (arith, apart (call_text (Swap k t v)) (call_text (Delete j)) e))
+
+-- a call that is built so far is one that a client may be asked for
+pub client_of : (call : Call) → IsCall call → IsClientCall call
+client_of (Get k) is = is
+client_of (Put k v) is = is
+client_of (Delete k) is = absurd is
+client_of (Swap k e v) is = absurd is
 
 -- two calls with one line are one call
 pub one_call : (a b : Call) → IsCall a → IsCall b → call_line a ≡ call_line b → a ≡ b
-one_call (Get k) (Get j) p q e = ap Get (one_text k j p.2 q.2 (after_same (codes "call 1 get ") (coded k) (coded j) e))
-one_call (Get k) (Put j w) p q e = absurd (get_put k j w e)
-one_call (Put k v) (Get j) p q e = absurd (get_put j k v (sym e))
-one_call (Put k v) (Put j w) p q e =
-    let t = after_same (codes "call 1 put ") ((coded k ++ 32 ∷ []) ++ value_text v) ((coded j ++ 32 ∷ []) ++ value_text w) e in
-    let u = sym (put_words (coded k) (value_text v)) ∙ t ∙ put_words (coded j) (value_text w) in
-    let r = one_split 32 (coded k) (coded j) (value_text v) (value_text w) (coded_lacks k p.0.2) (coded_lacks j q.0.2) u in
-    let keys = one_text k j p.0.2 q.0.2 r.0 in
-    let tails = after_same (61 ∷ []) (coded v.bytes) (coded w.bytes) r.1 in
-    let values = same_value v w (p.1.0 ∙ sym q.1.0) (one_text v.bytes w.bytes p.1.2 q.1.2 tails) in
-    ap (λ (x : List ℕ). Put x v) keys ∙ ap (Put j) values
-one_call (Get k) (Delete j) p q e = absurd q
-one_call (Get k) (Swap j x w) p q e = absurd q
-one_call (Put k v) (Delete j) p q e = absurd q
-one_call (Put k v) (Swap j x w) p q e = absurd q
-one_call (Delete k) b p q e = absurd p
-one_call (Swap k x v) b p q e = absurd p
+one_call a b p q e = one_client_call a b (client_of a p) (client_of b q) (after_same (codes "call 1 ") (call_text a) (call_text b) e)
 
 whole_front : (n : ℕ) (xs : List ℕ) → length xs ≤ n → take n xs ≡ xs
 whole_front zero [] h = refl
@@ -137,11 +183,11 @@ kept_front (suc n) [] = let e : min 0 (suc n) ≡ 0 = omega arith in rw e refl
 kept_front (suc n) (x ∷ xs) = let e : min (suc (length xs)) (suc n) ≡ suc (min (length xs) n) = omega arith in rw e (ap (λ l. x ∷ l) (kept_front n xs))
 
 -- a call whose value is short is kept whole
-pub whole_call : (call : Call) → IsCall call → written call ≤ 1024 → cut_call call ≡ call
-whole_call (Get k) is short = refl
-whole_call (Put k v) is short = ap (Put k) (same_value (cut_value v) v refl (whole_front 1024 v.bytes short))
-whole_call (Delete k) is short = absurd is
-whole_call (Swap k e v) is short = absurd is
+pub whole_call : (call : Call) → written call ≤ 1024 → cut_call call ≡ call
+whole_call (Get k) short = refl
+whole_call (Put k v) short = ap (Put k) (same_value (cut_value v) v refl (whole_front 1024 v.bytes short))
+whole_call (Delete k) short = refl
+whole_call (Swap k e v) short = ap (Swap k e) (same_value (cut_value v) v refl (whole_front 1024 v.bytes short))
 
 pub get_found : {E : Type 0} (text key : List ℕ) (r : Result (Option Task) E) → text ≡ codes "get " ++ key
     → IfOk r (λ o. IfSome o (λ task. (k : List ℕ) × IsKey k × (key ≡ coded k) × (task ≡ Client (Get k) 0))) → IfOk r (λ o. IfSome o (SpellsCall text))
@@ -149,13 +195,17 @@ get_found text key (Ok (Some task)) e h = (Get h.0, h.1, e ∙ ap (λ (l : List 
 get_found text key (Ok None) e h = tt
 get_found text key (Err x) e h = tt
 
-put_spelled : (text words value : List ℕ) (k : List ℕ) (v : Value) → text ≡ codes "put " ++ words → words ≡ coded k ++ 32 ∷ value → value ≡ value_text v → text ≡ call_text (Put k v)
-put_spelled text words value k v e f g =
-    e ∙ ap (λ (l : List ℕ). codes "put " ++ l) (f ∙ ap (λ (l : List ℕ). coded k ++ 32 ∷ l) g ∙ sym (put_words (coded k) (value_text v)))
+pub delete_found : {E : Type 0} (text key : List ℕ) (r : Result (Option Task) E) → text ≡ codes "delete " ++ key
+    → IfOk r (λ o. IfSome o (λ task. (k : List ℕ) × IsKey k × (key ≡ coded k) × (task ≡ Client (Delete k) 0))) → IfOk r (λ o. IfSome o (SpellsCall text))
+delete_found text key (Ok (Some task)) e h = (Delete h.0, h.1, e ∙ ap (λ (l : List ℕ). codes "delete " ++ l) h.2, h.3)
+delete_found text key (Ok None) e h = tt
+delete_found text key (Err x) e h = tt
 
-pub put_found : {E : Type 0} (text words : List ℕ) (r : Result (Option Task) E) → text ≡ codes "put " ++ words
-    → IfOk r (λ o. IfSome o (λ task. (k : List ℕ) × (v : Value) × (n : ℕ) × (value : List ℕ) × IsKey k × (words ≡ coded k ++ 32 ∷ value) × SpellsValue value v n × (task ≡ Client (Put k v) n)))
-    → IfOk r (λ o. IfSome o (SpellsCall text))
+put_spelled : (text words value k : List ℕ) (v : Value) → text ≡ codes "put " ++ words → words ≡ coded k ++ 32 ∷ value → value ≡ value_text v → text ≡ call_text (Put k v)
+put_spelled text words value k v e f g =
+    e ∙ ap (λ (l : List ℕ). codes "put " ++ l) (f ∙ ap (λ (l : List ℕ). coded k ++ 32 ∷ l) g) ∙ sym (put_parts k v)
+
+pub put_found : {E : Type 0} (text words : List ℕ) (r : Result (Option Task) E) → text ≡ codes "put " ++ words → IfOk r (λ o. IfSome o (SpellsPut words)) → IfOk r (λ o. IfSome o (SpellsCall text))
 put_found text words (Ok (Some task)) e (k, v, n, value, is, spelled, (whole, fits, text_is, v_is, n_is), task_is) = (
   Put k whole,
   (is, fits),
@@ -165,17 +215,23 @@ put_found text words (Ok (Some task)) e (k, v, n, value, is, spelled, (whole, fi
 put_found text words (Ok None) e h = tt
 put_found text words (Err x) e h = tt
 
+swap_spelled : (text words value k : List ℕ) (t : ℕ) (v : Value) → text ≡ codes "swap " ++ words → words ≡ coded k ++ 32 ∷ (tag_text t ++ 32 ∷ value) → value ≡ value_text v → text ≡ call_text (Swap k t v)
+swap_spelled text words value k t v e f g =
+    e ∙ ap (λ (l : List ℕ). codes "swap " ++ l) (f ∙ ap (λ (l : List ℕ). coded k ++ 32 ∷ (tag_text t ++ 32 ∷ l)) g) ∙ sym (swap_parts k t v)
+
+pub swap_found : {E : Type 0} (text words : List ℕ) (r : Result (Option Task) E) → text ≡ codes "swap " ++ words → IfOk r (λ o. IfSome o (SpellsSwap words)) → IfOk r (λ o. IfSome o (SpellsCall text))
+swap_found text words (Ok (Some task)) e (k, t, v, n, value, is, small, spelled, (whole, fits, text_is, v_is, n_is), task_is) = (
+  Swap k t whole,
+  (is, small, fits),
+  swap_spelled text words value k t whole e spelled text_is,
+  task_is ∙ ap (λ (x : Value). Client (Swap k t x) n) v_is ∙ ap (λ (m : ℕ). Client (Swap k t (cut_value whole)) m) n_is,
+)
+swap_found text words (Ok None) e h = tt
+swap_found text words (Err x) e h = tt
+
 -- a fact of what there is, and of there being nothing
 pub some_is : {A : Type 0} (P : A → Type 0) (o : Option A) (x : A) → o ≡ Some x → IfSome o P → P x
 some_is {A} P o x is h = subst (λ (r : Option A). IfSome r P) is h
 
 pub none_is : {A P : Type 0} (o : Option A) → o ≡ None → IfNone o P → P
 none_is {A} {P} o is h = subst (λ (r : Option A). IfNone r P) is h
-
--- a task of a line that is one short call's has that call
-pub called : (line : List ℕ) (task : Task) (call : Call) → IsCall call → written call ≤ 1024 → line ≡ call_line call → IsFormOf line (Calls task)
-    → IsCall (call_in task) × (line ≡ call_line (call_in task))
-called line task call is short spelled (d, is_d, spelled_d, task_is) =
-    let same = one_call d call is_d is (sym spelled_d ∙ spelled) in
-    let own : call_in task ≡ call = ap call_in task_is ∙ ap cut_call same ∙ whole_call call is short in
-    (subst IsCall (sym own) is, spelled ∙ ap call_line (sym own))

@@ -1,7 +1,7 @@
 -- numbers at the front of a text
 use Rattle.std.proofs.Common.{zero, suc, ◌≡◌, ◌<◌, ◌+◌, ◌%◌, ◌^◌, ℕ, List, [], ◌∷◌, ◌++◌, length, get_or, take, drop, refl, arith}
 use Rattle.std.specs.Fmt.{decimal}
-use Rattle.std.proofs.lemmas.Fmt.{decimal_by_steps}
+use Rattle.std.proofs.lemmas.Fmt.{decimal_by_steps, decimal_injective}
 use Rattle.clover_script.specs.Split.{IsDigit, AreDigits, EndsNumber}
 
 digits_push : (ds : List ℕ) (b : ℕ) → AreDigits ds → IsDigit b → AreDigits (ds ++ b ∷ [])
@@ -40,3 +40,9 @@ one_cut (b ∷ bs) (c ∷ cs) x y dd ee ex ey is =
     let r = one_cut bs cs x y dd.1 ee.1 ex ey t in
     let q : bs ≡ cs = r.0 in
     (cc, r.1)
+
+-- and so a number
+pub one_number : (a b : ℕ) (x y : List ℕ) → a < 2 ^ 64 → b < 2 ^ 64 → EndsNumber x → EndsNumber y → decimal a ++ x ≡ decimal b ++ y → (a ≡ b) × (x ≡ y)
+one_number a b x y p q ex ey e =
+    let r = one_cut (decimal a) (decimal b) x y (decimal_digits a p) (decimal_digits b q) ex ey e in
+    (decimal_injective a b p q r.0, r.1)

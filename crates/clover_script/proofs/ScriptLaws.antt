@@ -1,7 +1,6 @@
 -- texts are read in one way
-use Rattle.std.proofs.Common.{suc, ◌≡◌, ◌<◌, ◌≤◌, ◌+◌, ◌-◌, ◌*◌, ◌^◌, ℕ, true, None, List, [], ◌∷◌, ◌++◌, length, map, get_or, refl, sym, ap, subst, ◌∙◌, inl, inr, arith, append-nil}
+use Rattle.std.proofs.Common.{suc, ◌≡◌, ◌<◌, ◌≤◌, ◌+◌, ◌-◌, ◌*◌, ℕ, true, None, List, [], ◌∷◌, ◌++◌, length, map, get_or, refl, sym, ap, subst, ◌∙◌, inl, inr, arith, append-nil}
 use Rattle.std.proofs.lemmas.List.{length-map, length-append}
-use Rattle.std.proofs.lemmas.Fmt.{decimal_injective}
 use Rattle.std.proofs.lemmas.Bool.Decides.{nat_tests, leb_tells}
 use Rattle.std.specs.Prelude.{All, Contains, decimal, codes, IsSome, nat_le}
 use Rattle.std.proofs.lemmas.Nat.{mul-le}
@@ -12,21 +11,15 @@ use Rattle.clover_words.specs.Range.{first_fault, first_setup_fault, from_one}
 use Rattle.clover_map.specs.declared.call.Call.{Call}
 use Rattle.clover_map.specs.declared.call.Call.TheVariants.{Get, Put, Delete, Swap}
 use Rattle.clover_script.specs.declared.line.PoolLine.{PoolLine}
-use Rattle.clover_script.specs.Split.{EndsNumber}
 use Rattle.clover_script.specs.Line.{lines_of, pool_line, numbers_of, AreNumbers, call_line, IsCall, written}
 use Rattle.clover_map.specs.History.{key_of}
 use Rattle.clover_script.specs.Naming.{Names, puts}
 use Rattle.clover_script.specs.Script.{Serves, Start, start_lines, nothing, opened, IsStart, IsScript, IsRefused, IsFirstUnbuilt, IsUnbuilt, HasBadNumbers, room, formless, early, second, numbers, key, value, stock}
-use Rattle.clover_script.proofs.NumberLemmas.{decimal_digits, one_cut}
+use Rattle.clover_script.proofs.NumberLemmas.{one_number}
 use Rattle.clover_script.proofs.FormLemmas.{after_same, pool_parts, one_call, buffers_on, slots_on, words_on, wear_on, clients_on, batch_on, buffers_ends, slots_ends, words_ends, wear_ends, clients_ends, batch_ends}
 
-one_number : (a b : ℕ) (x y : List ℕ) → a < 2 ^ 64 → b < 2 ^ 64 → EndsNumber x → EndsNumber y → decimal a ++ x ≡ decimal b ++ y → (a ≡ b) × (x ≡ y)
-one_number a b x y p q ex ey e =
-    let r = one_cut (decimal a) (decimal b) x y (decimal_digits a p) (decimal_digits b q) ex ey e in
-    (decimal_injective a b p q r.0, r.1)
-
 -- a pool line has one list of numbers
-one_pool : (n m : PoolLine) → AreNumbers n → AreNumbers m → pool_line n ≡ pool_line m → n ≡ m
+pub one_pool : (n m : PoolLine) → AreNumbers n → AreNumbers m → pool_line n ≡ pool_line m → n ≡ m
 one_pool n m p q e =
     let nodes = one_number n.nodes m.nodes (buffers_on n) (buffers_on m) p.nodes q.nodes (buffers_ends n) (buffers_ends m) (after_same (codes "pool nodes=") (decimal n.nodes ++ buffers_on n) (decimal m.nodes ++ buffers_on m) (sym (pool_parts n) ∙ e ∙ pool_parts m)) in
     let buffers = one_number n.buffers m.buffers (slots_on n) (slots_on m) p.buffers q.buffers (slots_ends n) (slots_ends m) (after_same (codes " buffers=") (decimal n.buffers ++ slots_on n) (decimal m.buffers ++ slots_on m) (nodes.1)) in
@@ -41,7 +34,7 @@ least_product : (n b : ℕ) → 1 ≤ n → b ≤ n * b
 least_product n b h = omega (arith, mul-le 1 b n b h (omega arith))
 
 -- the numbers of a setup can be written
-are_numbers : (s : Setup) → AreNumbers (numbers_of s)
+pub are_numbers : (s : Setup) → AreNumbers (numbers_of s)
 are_numbers s =
     let buffers = least_product s.pool.nodes s.pool.buffers s.pool.some_node in
     record {
@@ -81,21 +74,21 @@ no_setup_fault s bad =
     absurd (false≢true (subst IsSome none bad))
 
 -- and none of them is bad
-none_bad : (s : Setup) → s.pool.slots ≤ buffers_total s.pool → HasBadNumbers (numbers_of s) → ⊥
+pub none_bad : (s : Setup) → s.pool.slots ≤ buffers_total s.pool → HasBadNumbers (numbers_of s) → ⊥
 none_bad s enough (inl bad) = no_pool_fault s bad
 none_bad s enough (inr (inl bad)) = no_setup_fault s bad
 none_bad s enough (inr (inr bad)) = omega arith
 
-same_parts : {A : Type 0} (x y : A) (xs ys : List A) → x ∷ xs ≡ y ∷ ys → (x ≡ y) × (xs ≡ ys)
+pub same_parts : {A : Type 0} (x y : A) (xs ys : List A) → x ∷ xs ≡ y ∷ ys → (x ≡ y) × (xs ≡ ys)
 same_parts x y xs ys e = let a : x ≡ y = cc in let b : xs ≡ ys = cc in (a, b)
 
-all_tail : {A : Type 0} (P : A → Type 0) (x : A) (xs : List A) → All P (x ∷ xs) → All P xs
+pub all_tail : {A : Type 0} (P : A → Type 0) (x : A) (xs : List A) → All P (x ∷ xs) → All P xs
 all_tail P x xs h k d lt = h (suc k) d (omega arith)
 
-all_head : {A : Type 0} (P : A → Type 0) (x : A) (xs : List A) → All P (x ∷ xs) → P x
+pub all_head : {A : Type 0} (P : A → Type 0) (x : A) (xs : List A) → All P (x ∷ xs) → P x
 all_head P x xs h = h 0 x (omega arith)
 
-all_at : {A : Type 0} (P : A → Type 0) (xs : List A) (x : A) (ys : List A) → All P (xs ++ x ∷ ys) → P x
+pub all_at : {A : Type 0} (P : A → Type 0) (xs : List A) (x : A) (ys : List A) → All P (xs ++ x ∷ ys) → P x
 all_at P [] x ys h = all_head P x ys h
 all_at P (z ∷ zs) x ys h = all_at P zs x ys (all_tail P z (zs ++ x ∷ ys) h)
 
@@ -119,14 +112,14 @@ next_call (c ∷ cs) (d ∷ ds) line xs more p q e lt =
     let next = next_call cs ds line xs more (all_tail IsCall c cs p) (all_tail IsCall d ds q) parts.1 (omega arith) in
     record { call = next.call; rest = next.rest; more = ap (λ (x : Call). x ∷ cs) same ∙ ap (λ l. d ∷ l) next.more; is = next.is; spelled = next.spelled }
 
-one_names : (before : List (List ℕ)) (calls : List Call) (a b : List (List ℕ)) → Names before calls a → Names before calls b → a ≡ b
+pub one_names : (before : List (List ℕ)) (calls : List Call) (a b : List (List ℕ)) → Names before calls a → Names before calls b → a ≡ b
 one_names before [] a b p q = p ∙ sym q
 one_names before (c ∷ cs) a b (inl p) (inl q) = one_names before cs a b p.1 q.1
 one_names before (c ∷ cs) a b (inl p) (inr q) = absurd (q.0 p.0)
 one_names before (c ∷ cs) a b (inr p) (inl q) = absurd (p.0 q.0)
 one_names before (c ∷ cs) a b (inr p) (inr q) = one_names (before ++ key_of c ∷ []) cs a b p.1 q.1
 
-names_split : (before : List (List ℕ)) (xs ys : List Call) (after : List (List ℕ)) → Names before (xs ++ ys) after → (between : List (List ℕ)) × Names before xs between × Names between ys after
+pub names_split : (before : List (List ℕ)) (xs ys : List Call) (after : List (List ℕ)) → Names before (xs ++ ys) after → (between : List (List ℕ)) × Names before xs between × Names between ys after
 names_split before [] ys after h = (before, refl, h)
 names_split before (c ∷ cs) ys after (inl h) = let r = names_split before cs ys after h.1 in (r.0, inl (h.0, r.1), r.2)
 names_split before (c ∷ cs) ys after (inr h) = let r = names_split (before ++ key_of c ∷ []) cs ys after h.1 in (r.0, inr (h.0, r.1), r.2)
@@ -143,10 +136,10 @@ puts_append (Put k v ∷ xs) ys = let r = puts_append xs ys in omega arith
 puts_append (Delete k ∷ xs) ys = puts_append xs ys
 puts_append (Swap k e v ∷ xs) ys = puts_append xs ys
 
-puts_first : (c : Call) (cs : List Call) → puts (c ∷ cs) ≡ puts (c ∷ []) + puts cs
+pub puts_first : (c : Call) (cs : List Call) → puts (c ∷ cs) ≡ puts (c ∷ []) + puts cs
 puts_first c cs = puts_append (c ∷ []) cs
 
-key_next : (keys : List (List ℕ)) (call : Call) (rest : List Call) (named : List (List ℕ)) (slots : ℕ) → Names keys (call ∷ rest) named → (Contains keys (key_of call) → ⊥)
+pub key_next : (keys : List (List ℕ)) (call : Call) (rest : List Call) (named : List (List ℕ)) (slots : ℕ) → Names keys (call ∷ rest) named → (Contains keys (key_of call) → ⊥)
     → length named ≤ slots → slots ≤ length keys → ⊥
 key_next keys call rest named slots (inl h) fresh fits full = fresh h.0
 key_next keys call rest named slots (inr h) fresh fits full =
@@ -158,12 +151,12 @@ no_front [] x ys e = cc
 no_front (z ∷ zs) x ys e = cc
 
 -- a client's stock is one of the numbers alone
-abbrev DealtBy : PoolLine → ℕ → Type 0
-DealtBy n put = (1 ≤ n.clients) × (put * n.clients + (1 - 1) + n.slots < n.nodes * n.buffers)
+abbrev DealtBy : ℕ → ℕ → PoolLine → Type 0
+DealtBy c put n = (c ≤ n.clients) × (put * n.clients + (c - 1) + n.slots < n.nodes * n.buffers)
 
-dealt_also : (s t : Setup) (put : ℕ) → numbers_of s ≡ numbers_of t → HasDealt s 1 put → HasDealt t 1 put
-dealt_also s t put same h =
-    let d = subst (λ (n : PoolLine). DealtBy n put) same (h.client, h.number) in
+pub dealt_also : (s t : Setup) (c put : ℕ) → numbers_of s ≡ numbers_of t → HasDealt s c put → HasDealt t c put
+dealt_also s t c put same h =
+    let d = subst (DealtBy c put) same (h.client, h.number) in
     record { client = d.0; number = d.1 }
 
 -- no line of a longer start is unbuilt behind a shorter one
@@ -191,7 +184,7 @@ built_next s t longer calls named keys line same p q next (stock h) =
     let put : puts (next.call ∷ []) ≡ 1 = subst (λ (c : Call). puts (c ∷ []) ≡ 1) own h.3 in
     let all : puts longer ≡ puts calls + puts (next.call ∷ next.rest) = ap puts next.more ∙ puts_append calls (next.call ∷ next.rest) in
     let first = puts_first next.call next.rest in
-    h.4 (dealt_also s t (puts calls) same (p.stock (puts calls) (omega arith)))
+    h.4 (dealt_also s t 1 (puts calls) same (p.stock (puts calls) (omega arith)))
 
 built_first : (s : Setup) (line : List ℕ) → s.pool.slots ≤ buffers_total s.pool → line ≡ pool_line (numbers_of s) → IsUnbuilt nothing line → ⊥
 built_first s line enough spelled (formless h) = h.0 (numbers_of s, are_numbers s, spelled)

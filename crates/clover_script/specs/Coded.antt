@@ -9,9 +9,13 @@ hex_digit d = if nat_lt d 10 then 48 + d else 97 + (d - 10)
 abbrev pub is_plain : ℕ → Bool
 is_plain b = (nat_le 33 b && nat_le b 126) && not (b == 37)
 
+-- a byte as two digits of four bits
+abbrev pub hex_byte : ℕ → List ℕ
+hex_byte b = hex_digit (b / 16) ∷ hex_digit (b % 16) ∷ []
+
 -- the one spelling of a byte
 abbrev pub coded_byte : ℕ → List ℕ
-coded_byte b = if is_plain b then b ∷ [] else 37 ∷ hex_digit (b / 16) ∷ hex_digit (b % 16) ∷ []
+coded_byte b = if is_plain b then b ∷ [] else 37 ∷ hex_byte b
 
 -- the coded text of some bytes
 abbrev pub coded : List ℕ → List ℕ

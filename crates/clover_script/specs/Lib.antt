@@ -2,6 +2,7 @@ pub mod Coded
 pub mod Form
 pub mod Laws
 pub mod Line
+pub mod Lines
 pub mod Naming
 pub mod Progress
 pub mod Script

@@ -1,5 +1,5 @@
--- the lines of a script: the pool line, and the calls of client 1
-use Rattle.std.specs.Prelude.{◌≡◌, ℕ, ◌^◌, ◌<◌, ◌≤◌, ◌==◌, if◌then◌else◌, List, [], ◌∷◌, ◌++◌, length, take, decimal, codes}
+-- the lines of a script: the pool line, the lines of clients, and the calls of client 1
+use Rattle.std.specs.Prelude.{◌≡◌, ℕ, ◌^◌, ◌<◌, ◌≤◌, ◌==◌, ◌⊎◌, if◌then◌else◌, List, [], ◌∷◌, ◌++◌, length, take, decimal, codes}
 use Rattle.clover_words.specs.declared.setup.Setup.{Setup}
 use Rattle.clover_map.specs.declared.bytes.Value.{Value}
 use Rattle.clover_map.specs.declared.call.Call.{Call}
@@ -7,6 +7,8 @@ use Rattle.clover_map.specs.declared.call.Call.TheVariants.{Get, Put, Delete, Sw
 use Rattle.clover_script.specs.declared.line.PoolLine.{PoolLine}
 use Rattle.clover_script.specs.declared.line.Task.{Task}
 use Rattle.clover_script.specs.declared.line.Task.TheVariants.{Client}
+use Rattle.clover_script.specs.declared.line.Line.{Line}
+use Rattle.clover_script.specs.declared.line.Line.TheVariants as kept
 use Rattle.clover_script.specs.declared.line.Form.{Form}
 use Rattle.clover_script.specs.declared.line.Form.TheVariants.{Pool, Calls}
 use Rattle.clover_script.specs.Coded.{AreBytes}
@@ -57,13 +59,21 @@ IsKey k = (1 ≤ length k) × (length k ≤ 250) × AreBytes k
 abbrev pub IsWritten : Value → Type 0
 IsWritten v = (v.flags ≡ 0) × (length v.bytes ≤ 65535) × AreBytes v.bytes
 
--- a call that a script may have, with its value as it is written
+-- a call that a client may be asked for, with its value as it is written
+abbrev pub IsClientCall : Call → Type 0
+IsClientCall (Get k) = IsKey k
+IsClientCall (Put k v) = IsKey k × IsWritten v
+IsClientCall (Delete k) = IsKey k
+IsClientCall (Swap k e v) = IsKey k × (e < 2 ^ 42) × IsWritten v
+
+-- a call that is built so far: a get or a put
 abbrev pub IsCall : Call → Type 0
 IsCall (Get k) = IsKey k
 IsCall (Put k v) = IsKey k × IsWritten v
 IsCall (Delete k) = ⊥
 IsCall (Swap k e v) = ⊥
 
+-- the line of a call that is built so far, which client 1 makes
 abbrev pub call_line : Call → List ℕ
 call_line call = codes "call 1 " ++ call_text call
 
@@ -88,7 +98,74 @@ cut_call (Swap k e v) = Swap k e (cut_value v)
 abbrev pub task_of : Call → Task
 task_of call = Client (cut_call call) (written call)
 
--- what a line says
+-- an actor as a line may name it: a client's number
+abbrev pub IsActor : ℕ → Type 0
+IsActor a = (1 ≤ a) × (a ≤ 16)
+
+-- how many steps a line may ask for
+abbrev pub AreTimes : ℕ → Type 0
+AreTimes n = (1 ≤ n) × (n ≤ 1000000)
+
+-- a task as it is written, with its value whole
+pub data Asked : Type 0 where
+  client : Call → Asked
+
+-- the actor may be asked for the task
+abbrev pub IsAsked : ℕ → Asked → Type 0
+IsAsked a (client call) = IsActor a × IsClientCall call
+
+abbrev pub asked_text : Asked → List ℕ
+asked_text (client call) = call_text call
+
+-- a task as the reader keeps it
+abbrev pub kept_task : Asked → Task
+kept_task (client call) = task_of call
+
+-- a line behind the pool line as it is written: its actor, and what it asks of it
+pub data Spoken : Type 0 where
+  says_begin : ℕ → Asked → Spoken
+  says_step : ℕ → ℕ → Spoken
+  says_finish : ℕ → Spoken
+  says_call : ℕ → Asked → Spoken
+  says_refuse : ℕ → Spoken
+
+-- each part is in its range
+abbrev pub IsSpoken : Spoken → Type 0
+IsSpoken (says_begin a asked) = IsAsked a asked
+IsSpoken (says_step a n) = IsActor a × AreTimes n
+IsSpoken (says_finish a) = IsActor a
+IsSpoken (says_call a asked) = IsAsked a asked
+IsSpoken (says_refuse a) = IsActor a
+
+-- the text of a line, without the LF that ends it
+abbrev pub line_text : Spoken → List ℕ
+line_text (says_begin a asked) = codes "begin " ++ (decimal a ++ (codes " " ++ asked_text asked))
+line_text (says_step a n) = codes "step " ++ (decimal a ++ (codes " " ++ decimal n))
+line_text (says_finish a) = codes "finish " ++ decimal a
+line_text (says_call a asked) = codes "call " ++ (decimal a ++ (codes " " ++ asked_text asked))
+line_text (says_refuse a) = codes "refuse " ++ decimal a
+
+-- a line as the reader keeps it
+abbrev pub kept_line : Spoken → Line
+kept_line (says_begin a asked) = kept.Begin a (kept_task asked)
+kept_line (says_step a n) = kept.Step a n
+kept_line (says_finish a) = kept.Finish a
+kept_line (says_call a asked) = kept.Call a (kept_task asked)
+kept_line (says_refuse a) = kept.Refuse a
+
+-- the text is a line of a client, which is kept so
+abbrev pub IsLineOf : List ℕ → Line → Type 0
+IsLineOf text line = (spoken : Spoken) × IsSpoken spoken × (text ≡ line_text spoken) × (line ≡ kept_line spoken)
+
+-- the text is no line of a client
+abbrev pub IsNoLine : List ℕ → Type 0
+IsNoLine text = (spoken : Spoken) → IsSpoken spoken → text ≡ line_text spoken → ⊥
+
+-- a line that is passed over: it is empty, or begins with the byte of a hash
+abbrev pub IsIgnored : List ℕ → Type 0
+IsIgnored line = (line ≡ []) ⊎ ((rest : List ℕ) × (line ≡ 35 ∷ rest))
+
+-- what a line says that is built so far
 abbrev pub IsFormOf : List ℕ → Form → Type 0
 IsFormOf line (Pool n) = AreNumbers n × (line ≡ pool_line n)
 IsFormOf line (Calls task) = (call : Call) × IsCall call × (line ≡ call_line call) × (task ≡ task_of call)

@@ -1,16 +1,49 @@
--- the printed texts of tags, calls, replies and entries
-use Rattle.std.specs.Prelude.{ℕ, ◌/◌, ◌%◌, ◌^◌, List, ◌++◌, decimal, codes}
+-- the printed texts of numbers, tags, words, calls, replies, entries and what else a client is told
+use Rattle.std.specs.Prelude.{ℕ, ◌/◌, ◌%◌, ◌^◌, List, [], ◌++◌, decimal, codes, flat_map}
+use Rattle.std.specs.Int.{w64, to_be_bytes}
+use Rattle.clover_words.specs.declared.word.Buffer.{Buffer}
+use Rattle.clover_words.specs.declared.word.Word.{Word}
+use Rattle.clover_words.specs.declared.word.Word.TheVariants as word
+use Rattle.clover_words.specs.declared.word.Side.{Side}
+use Rattle.clover_words.specs.declared.word.Side.TheVariants.{Current, Flushed}
 use Rattle.clover_map.specs.declared.bytes.Value.{Value}
 use Rattle.clover_map.specs.declared.call.Call.{Call}
 use Rattle.clover_map.specs.declared.call.Call.TheVariants.{Get, Put, Delete, Swap}
 use Rattle.clover_map.specs.declared.call.Reply.{Reply}
 use Rattle.clover_map.specs.declared.call.Reply.TheVariants.{Stored, Found, Absent, Deleted, Differs}
 use Rattle.clover_map.specs.declared.call.Entry.{Entry}
-use Rattle.clover_script.specs.Coded.{coded}
+use Rattle.clover_script.specs.Coded.{coded, hex_byte}
 
 -- node, index and generation of a tag's number
 abbrev pub tag_text : ℕ → List ℕ
 tag_text t = decimal (t / 2 ^ 36) ++ codes "." ++ decimal (t / 2 ^ 20 % 2 ^ 16) ++ codes "." ++ decimal (t % 2 ^ 20)
+
+-- a word's number as sixteen digits of four bits, the highest first
+abbrev pub hex_text : ℕ → List ℕ
+hex_text n = flat_map hex_byte (to_be_bytes w64 n)
+
+-- node and index of a buffer
+abbrev pub buffer_text : Buffer → List ℕ
+buffer_text b = decimal b.node ++ (codes "." ++ decimal b.index)
+
+-- the name of a word's current copy
+abbrev pub word_text : Word → List ℕ
+word_text (word.Next b) = codes "N" ++ buffer_text b
+word_text (word.Meta b) = codes "M" ++ buffer_text b
+word_text (word.Value b k) = codes "V" ++ (buffer_text b ++ (codes "." ++ decimal k))
+word_text (word.Root s) = codes "R" ++ decimal s
+word_text (word.Key s k) = codes "K" ++ (decimal s ++ (codes "." ++ decimal k))
+word_text (word.Short s) = codes "S" ++ decimal s
+word_text word.Count = codes "C"
+
+-- what stands before the name of a copy
+abbrev pub side_text : Side → List ℕ
+side_text Current = []
+side_text Flushed = codes "f"
+
+-- the name of a copy of a word
+abbrev pub copy_text : Word → Side → List ℕ
+copy_text w side = side_text side ++ word_text w
 
 abbrev pub value_text : Value → List ℕ
 value_text v = codes "=" ++ coded v.bytes
@@ -35,3 +68,31 @@ answer_line e = decimal e.client ++ codes " " ++ reply_text e.reply ++ codes "\n
 -- the line of an entry of the first run, which stands
 abbrev pub entry_line : Entry → List ℕ
 entry_line e = codes "h 1 " ++ decimal e.client ++ codes " " ++ decimal e.number ++ codes " " ++ call_text e.call ++ codes " " ++ reply_text e.reply ++ codes "\n"
+
+-- the line of what an actor is told in place of an answer
+abbrev pub told_line : ℕ → List ℕ → List ℕ
+told_line actor text = decimal actor ++ (codes " " ++ (text ++ codes "\n"))
+
+-- an access was refused
+abbrev pub unreached_text : List ℕ
+unreached_text = codes "unreached"
+
+-- an access was refused after the write was made, under this tag
+abbrev pub linked_text : ℕ → List ℕ
+linked_text t = codes "linked " ++ tag_text t
+
+-- after so many turns the call was still behind
+abbrev pub behind_text : ℕ → List ℕ
+behind_text turns = codes "behind " ++ decimal turns
+
+-- the value has so many bytes, and a buffer has room for so many
+abbrev pub too_long_text : ℕ → ℕ → List ℕ
+too_long_text length room = codes "toolong " ++ (decimal length ++ (codes " " ++ decimal room))
+
+-- the actor has a task
+abbrev pub busy_text : List ℕ
+busy_text = codes "busy"
+
+-- there is no such actor
+abbrev pub none_text : List ℕ
+none_text = codes "none"

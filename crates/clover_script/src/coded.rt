@@ -1,7 +1,7 @@
 // Coded texts, read and written: printable bytes stand for themselves, every other byte is a percent
 // sign and two digits. Works on bytes alone.
-ghost use Rattle.std.specs.Prelude.{◌≡◌, ◌+◌, ◌*◌, ◌<◌, ℕ, List, ◌++◌, length, IfOk, IfSome, IfNone, OnOk};
-ghost use Rattle.clover_script.specs.Coded.{AreBytes, coded, coded_byte, hex_digit, is_plain};
+ghost use Rattle.std.specs.Prelude.{◌≡◌, ◌+◌, ◌*◌, ◌<◌, ℕ, List, ◌++◌, length, IfOk, IfSome, IfNone, OnOk, flat_map};
+ghost use Rattle.clover_script.specs.Coded.{AreBytes, coded, coded_byte, hex_byte, hex_digit, is_plain};
 
 use std::alloc::{AllocError, Global};
 
@@ -93,7 +93,26 @@ fn push_coded_byte(out: &mut Vec<u8>, byte: u8) -> Result<(), AllocError>
     if is_plain(byte) {
         out.push(byte)?;
     } else {
-        out.extend_from_slice(&[b'%', hex(byte / 16), hex(byte % 16)])?;
+        out.push(b'%')?;
+        push_hex_byte(out, byte)?;
     }
     Ok(())
+}
+
+/// Puts the two digits of each byte at the end. An error for want of memory alone; then a front of them
+/// may stand there.
+pub fn push_hex_bytes(out: &mut Vec<u8>, bytes: &[u8]) -> Result<(), AllocError>
+    ensures ok { OnOk result (out.new.items ≡ out.old.items ++ flat_map hex_byte bytes.now) }
+{
+    for byte in bytes {
+        push_hex_byte(out, *byte)?;
+    }
+    Ok(())
+}
+
+/// Puts the two digits of a byte at the end.
+fn push_hex_byte(out: &mut Vec<u8>, byte: u8) -> Result<(), AllocError>
+    ensures ok { OnOk result (out.new.items ≡ out.old.items ++ hex_byte byte) }
+{
+    out.extend_from_slice(&[hex(byte / 16), hex(byte % 16)])
 }

@@ -21,6 +21,21 @@ pub enum Task {
     Client { call: Call, written: u32 },
 }
 
+/// A line behind the pool line, as the reader keeps it. An actor is a client's number, 1 to 16.
+#[derive(Drop)]
+pub enum Line {
+    /// The actor begins a task.
+    Begin { actor: u32, task: Task },
+    /// The actor makes this many steps, 1 to 1,000,000.
+    Step { actor: u32, times: u64 },
+    /// The actor makes steps until it has no task.
+    Finish { actor: u32 },
+    /// The actor begins a task and finishes it.
+    Call { actor: u32, task: Task },
+    /// The actor's next access is refused.
+    Refuse { actor: u32 },
+}
+
 /// What one line says: the numbers of a pool, or a call of client 1.
 #[derive(Drop)]
 pub enum Form {

@@ -2,6 +2,7 @@
 ghost use Rattle.std.specs.Prelude.{◌≡◌, ◌^◌, ◌<◌, ◌≤◌, ℕ, List, ◌++◌, length, decimal, slice_index, IfSome, IfNone, IsSomeAnd, Some};
 ghost use Rattle.clover_script.specs.Split.{IsDigit, AreDigits, EndsNumber};
 
+use crate::split::after_word;
 use itoa::Buffer;
 
 /// The number that a text spells. None exactly where it is not the one spelling of a number below
@@ -58,4 +59,13 @@ fn place_of_other(text: &[u8]) -> Option<usize>
     ensures none { IfNone result ((k : ℕ) → k < length text.now → IsDigit (slice_index text.now k)) }
 {
     text.iter().position(|b| !b.is_ascii_digit())
+}
+
+/// The number behind a name at a text's front, and the text after it.
+pub fn field<'a>(text: &'a [u8], name: &[u8]) -> Option<(u64, &'a [u8])>
+    ensures found { IfSome result (λ p. text.now ≡ name.now ++ (decimal p.0 ++ p.1.now)) }
+    ensures only { (n : ℕ) (rest : List ℕ) → n < 2 ^ 64 → EndsNumber rest → text.now ≡ name.now ++ (decimal n ++ rest) → IsSomeAnd result (λ p. (p.0 ≡ n) × (p.1.now ≡ rest)) }
+{
+    let rest = after_word(text, name)?;
+    number_front(rest)
 }

@@ -3,10 +3,12 @@
 
 use crate::number::number_of;
 use crate::{
-    Form, LineFault, ScriptFault, Task, call_on, check_script, first_line, form_of, push_answer,
-    push_entry,
+    Form, Line, LineFault, ScriptFault, Task, call_on, check_script, first_line, form_of, line_of,
+    push_answer, push_behind, push_busy, push_call, push_entry, push_hex, push_linked, push_none,
+    push_number, push_tag, push_too_long, push_unreached, push_word,
 };
 use clover_map::{Bytes, Call, Entry, Key, Reply, Value};
+use clover_words::{Buffer, Side, Word};
 use std::alloc::Global;
 use std::process::Abort;
 use std::test::Fail;
@@ -385,5 +387,256 @@ fn prints_deletes(rt: HostRuntime) -> Result<(), Fail> {
         };
         assert_prints(&rt, alloc, &entry, answer, line)?;
     }
+    Ok(())
+}
+
+/// Puts the parts of a line as it was read, each behind a name.
+fn show(out: &mut Vec<u8>, line: &Line) -> Result<(), Fail> {
+    match line {
+        Line::Begin { actor, task } => show_task(out, b"begin", *actor, task)?,
+        Line::Step { actor, times } => {
+            show_number(out, b"step ", u64::from(*actor))?;
+            show_number(out, b" times ", *times)?;
+        }
+        Line::Finish { actor } => show_number(out, b"finish ", u64::from(*actor))?,
+        Line::Call { actor, task } => show_task(out, b"call", *actor, task)?,
+        Line::Refuse { actor } => show_number(out, b"refuse ", u64::from(*actor))?,
+    }
+    Ok(())
+}
+
+fn show_task(out: &mut Vec<u8>, name: &[u8], actor: u32, task: &Task) -> Result<(), Fail> {
+    let Task::Client { call, written } = task;
+    out.extend_from_slice(name)?;
+    show_number(out, b" ", u64::from(actor))?;
+    out.push(b' ')?;
+    push_call(out, call)?;
+    show_number(out, b" written ", u64::from(*written))?;
+    Ok(())
+}
+
+fn show_number(out: &mut Vec<u8>, name: &[u8], number: u64) -> Result<(), Fail> {
+    out.extend_from_slice(name)?;
+    push_number(out, number)?;
+    Ok(())
+}
+
+#[test]
+fn reads_each_line_of_a_client(rt: HostRuntime) -> Result<(), Fail> {
+    let alloc = rt.alloc();
+    let cases: [(&[u8], &[u8]); 16] = [
+        (b"begin 1 get a", b"begin 1 get a written 0"),
+        (b"begin 16 put %00 =", b"begin 16 put %00 = written 0"),
+        (b"begin 2 put a =x%20y", b"begin 2 put a =x%20y written 3"),
+        (b"call 3 delete key", b"call 3 delete key written 0"),
+        (
+            b"call 9 swap a 63.65535.1048575 ==",
+            b"call 9 swap a 63.65535.1048575 == written 1",
+        ),
+        (b"call 9 swap a 0.0.0 =", b"call 9 swap a 0.0.0 = written 0"),
+        (
+            b"begin 1 swap put 1.2.3 =0.0.0",
+            b"begin 1 swap put 1.2.3 =0.0.0 written 5",
+        ),
+        (b"call 1 get begin", b"call 1 get begin written 0"),
+        (b"call 1 put get =get", b"call 1 put get =get written 3"),
+        (b"step 1 1", b"step 1 times 1"),
+        (b"step 16 1000000", b"step 16 times 1000000"),
+        (b"step 10 10", b"step 10 times 10"),
+        (b"finish 1", b"finish 1"),
+        (b"finish 16", b"finish 16"),
+        (b"refuse 1", b"refuse 1"),
+        (b"refuse 16", b"refuse 16"),
+    ];
+    for (text, want) in cases {
+        let Some(line) = line_of(alloc, text)? else {
+            return Err("a line".into());
+        };
+        let mut out = Vec::new(alloc);
+        show(&mut out, &line)?;
+        assert_eq!(rt; out.as_slice(), want);
+    }
+    Ok(())
+}
+
+#[test]
+fn reads_no_line_where_there_is_none(rt: HostRuntime) -> Result<(), Fail> {
+    let alloc = rt.alloc();
+    let cases: [&[u8]; 56] = [
+        b"",
+        b"#",
+        b"# finish 1",
+        b"pool nodes=1 buffers=4 slots=2 words=2 wear=3 clients=1 batch=2",
+        b"step 1 0",
+        b"step 1 1000001",
+        b"step 1 01",
+        b"step 1 ",
+        b"step 1",
+        b"step 0 1",
+        b"step 17 1",
+        b"step 1 1 ",
+        b"step  1 1",
+        b"step 1  1",
+        b"step 1 18446744073709551617",
+        b" step 1 1",
+        b"Step 1 1",
+        b"finish",
+        b"finish ",
+        b"finish 0",
+        b"finish 17",
+        b"finish 01",
+        b"finish 1 ",
+        b"finish 1 1",
+        b"finish 4294967297",
+        b"refuse 0",
+        b"refuse 17",
+        b"refuse 1 ",
+        b"refuse a",
+        b"begin 0 get a",
+        b"begin 17 get a",
+        b"begin 1",
+        b"begin 1 ",
+        b"begin 1 get",
+        b"begin 1 get ",
+        b"begin 1 get a ",
+        b"begin 1 get  a",
+        b"begin 1  get a",
+        b"begin  1 get a",
+        b"begin 1 get a =x",
+        b"begin 1 get %41",
+        b"begin 1 get %2F",
+        b"begin 1 delete a b",
+        b"begin 1 put a",
+        b"begin 1 put a x",
+        b"begin 1 put a  =x",
+        b"begin 1 put  =x",
+        b"call 1 swap a 64.0.0 =x",
+        b"call 1 swap a 0.65536.0 =x",
+        b"call 1 swap a 0.0.1048576 =x",
+        b"call 1 swap a 0.0 =x",
+        b"call 1 swap a 0.0.0.0 =x",
+        b"call 1 swap a 00.0.0 =x",
+        b"call 1 swap a =x",
+        b"call 0 recycle 1",
+        b"call 0 sweep",
+    ];
+    for text in cases {
+        assert!(rt; line_of(alloc, text)?.is_none());
+    }
+    Ok(())
+}
+
+#[test]
+fn reads_long_keys_and_values(rt: HostRuntime) -> Result<(), Fail> {
+    let alloc = rt.alloc();
+    let cases: [(&[u8], u32, bool); 6] = [
+        (b"begin 2 delete ", 250, true),
+        (b"begin 2 delete ", 251, false),
+        (b"begin 2 put a =", 65_535, true),
+        (b"begin 2 put a =", 65_536, false),
+        (b"call 2 swap a 0.0.0 =", 65_535, true),
+        (b"call 2 swap a 0.0.0 =", 65_536, false),
+    ];
+    for (front, letters, want) in cases {
+        let text = with_letters(alloc, front, letters)?;
+        assert_eq!(rt; line_of(alloc, &text)?.is_some(), want);
+    }
+    let text = with_letters(alloc, b"begin 2 swap a 0.0.0 =", 65_535)?;
+    let Some(Line::Begin { actor: _, task }) = line_of(alloc, &text)? else {
+        return Err("a begin".into());
+    };
+    let Task::Client { call, written } = task;
+    assert_eq!(rt; written, 65_535);
+    let Call::Swap { value, .. } = call else {
+        return Err("a swap".into());
+    };
+    assert_eq!(rt; value.bytes.items().len(), 1_024);
+    Ok(())
+}
+
+#[test]
+fn prints_the_names_of_words(rt: HostRuntime) -> Result<(), Fail> {
+    let alloc = rt.alloc();
+    let buffer = Buffer { node: 0, index: 2 };
+    let far = Buffer {
+        node: 4_294_967_295,
+        index: 65_535,
+    };
+    let cases: [(Word, &[u8], &[u8]); 8] = [
+        (Word::Next(buffer), b"N0.2", b"fN0.2"),
+        (Word::Meta(buffer), b"M0.2", b"fM0.2"),
+        (Word::Value(buffer, 7), b"V0.2.7", b"fV0.2.7"),
+        (Word::Next(far), b"N4294967295.65535", b"fN4294967295.65535"),
+        (Word::Root(0), b"R0", b"fR0"),
+        (Word::Key(16_383, 31), b"K16383.31", b"fK16383.31"),
+        (Word::Short(3), b"S3", b"fS3"),
+        (Word::Count, b"C", b"fC"),
+    ];
+    for (word, current, flushed) in cases {
+        let mut out = Vec::new(alloc);
+        push_word(&mut out, word, Side::Current)?;
+        assert_eq!(rt; out.as_slice(), current);
+        let mut out = Vec::new(alloc);
+        push_word(&mut out, word, Side::Flushed)?;
+        assert_eq!(rt; out.as_slice(), flushed);
+    }
+    Ok(())
+}
+
+#[test]
+fn prints_numbers(rt: HostRuntime) -> Result<(), Fail> {
+    let alloc = rt.alloc();
+    let cases: [(u64, &[u8], &[u8], &[u8]); 4] = [
+        (0, b"0000000000000000", b"0", b"0.0.0"),
+        (
+            0x0000_0400_0020_0000,
+            b"0000040000200000",
+            b"4398048608256",
+            b"64.2.0",
+        ),
+        (
+            0x6865_6c6c_6f00_0000,
+            b"68656c6c6f000000",
+            b"7522537965566820352",
+            b"109467334.50928.0",
+        ),
+        (
+            0xffff_ffff_ffff_ffff,
+            b"ffffffffffffffff",
+            b"18446744073709551615",
+            b"268435455.65535.1048575",
+        ),
+    ];
+    for (number, hex, decimal, tag) in cases {
+        let mut out = Vec::new(alloc);
+        push_hex(&mut out, number)?;
+        assert_eq!(rt; out.as_slice(), hex);
+        let mut out = Vec::new(alloc);
+        push_number(&mut out, number)?;
+        assert_eq!(rt; out.as_slice(), decimal);
+        let mut out = Vec::new(alloc);
+        push_tag(&mut out, number)?;
+        assert_eq!(rt; out.as_slice(), tag);
+    }
+    Ok(())
+}
+
+#[test]
+fn prints_what_an_actor_is_told(rt: HostRuntime) -> Result<(), Fail> {
+    let mut out = Vec::new(rt.alloc());
+    push_unreached(&mut out, 1)?;
+    push_linked(&mut out, 16, 2_097_155)?;
+    push_behind(&mut out, 2, 6)?;
+    push_too_long(&mut out, 1, 65_535, 16)?;
+    push_busy(&mut out, 0)?;
+    push_none(&mut out, 9)?;
+    let want = b"1 unreached
+16 linked 0.2.3
+2 behind 6
+1 toolong 65535 16
+0 busy
+9 none
+";
+    assert_eq!(rt; out.as_slice(), want.as_slice());
     Ok(())
 }

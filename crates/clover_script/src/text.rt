@@ -9,14 +9,16 @@ use clover_map::{Call, Entry, Key, Reply, Value};
 use itoa::Buffer;
 use std::alloc::AllocError;
 
-fn push_number(out: &mut Vec<u8>, number: u64) -> Result<(), AllocError>
+/// Puts a number at the end, in decimal.
+pub fn push_number(out: &mut Vec<u8>, number: u64) -> Result<(), AllocError>
     ensures ok { OnOk result (out.new.items ≡ out.old.items ++ decimal number) }
 {
     let mut buffer = Buffer::new();
     out.extend_from_slice(buffer.format(number).as_bytes())
 }
 
-fn push_tag(out: &mut Vec<u8>, tag: u64) -> Result<(), AllocError>
+/// Puts the tag of this number at the end: its node, index and generation.
+pub fn push_tag(out: &mut Vec<u8>, tag: u64) -> Result<(), AllocError>
     ensures ok { OnOk result (out.new.items ≡ out.old.items ++ tag_text tag) }
 {
     push_number(out, tag / (1 << 36))?;

@@ -3,7 +3,8 @@ use Rattle.clover_map.specs.declared.call.Call.{Call}
 use Rattle.clover_script.specs.Line.{IsCall, IsFormOf, call_line}
 use Rattle.clover_script.specs.declared.line.Task.{Task}
 use Rattle.clover_script.specs.declared.line.Form.TheVariants.{Calls}
-use Rattle.clover_script.proofs.FormLemmas.{some_is, called}
+use Rattle.clover_script.proofs.FormLemmas.{some_is}
+use Rattle.clover_script.proofs.SpokenLemmas.{called}
 use Rattle.clover_script.proofs.form.call_on.Goals as goal
 
 pub returns : goal.returns

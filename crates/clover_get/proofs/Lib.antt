@@ -1,0 +1,6 @@
+pub mod Begins
+pub mod Copies
+pub mod Counting
+pub mod Ends
+pub mod Versions
+pub mod Walks

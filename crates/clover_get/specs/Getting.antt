@@ -1,0 +1,94 @@
+-- A get of a slot's key: where it stands, which step its next access is, and how it goes on by what that access found.
+use Prim.Native.Nat.{suc}
+use Rattle.std.specs.Prelude.{◌≡◌, ℕ, ◌*◌, ◌==◌, List, cond, ltb, take, Option, Some, None, IfSome}
+use Rattle.clover_words.specs.declared.bytes.ValueBuf.{ValueBuf}
+use Rattle.clover_words.specs.declared.meta.Kind.{Kind}
+use Rattle.clover_words.specs.declared.meta.Kind.TheVariants.{Value as IsValue, Tombstone}
+use Rattle.clover_words.specs.declared.pool.Pool.{Pool}
+use Rattle.clover_words.specs.Meta.{MetaParts, IsMeta, meta_word}
+use Rattle.clover_words.specs.Pack.{words_of}
+use Rattle.clover_map.specs.declared.bytes.Value.{Value}
+use Rattle.clover_map.specs.declared.call.Call.TheVariants.{Get}
+use Rattle.clover_map.specs.declared.call.Reply.TheVariants.{Found, Absent}
+use Rattle.clover_rule.specs.Steps.{Step, LoadNext, DecideNext, LoadContent, unlinked}
+use Rattle.clover_walk.specs.Walking.{Walking, Stand as Standing, OnTail, Ended, walk_step, goes_on}
+
+-- where a get stands: on its walk, at the tail's meta word, at a value word of the tail, at the last load for a value or for a tombstone, at a tag whose meta word was no version's, or at its end
+pub data Stage : Type 0 where
+  Seeking : Stage
+  AtMeta : ℕ → Stage
+  AtValue : ℕ → ℕ → ℕ → Stage
+  AtFound : ℕ → ℕ → Stage
+  AtDead : ℕ → Stage
+  AtBad : ℕ → Stage
+  Over : Stage
+
+-- a get: its walk, and where it stands
+pub record Getting : Type 0 where
+  pub walk : Walking
+  pub stage : Stage
+
+abbrev pub getting : Walking → Stage → Getting
+getting w s = record { walk = w; stage = s }
+
+-- it has more accesses to make
+abbrev pub IsOpen : Stage → Type 0
+IsOpen Over = ⊥
+IsOpen s = Unit {0}
+
+-- the value in the room, with these flags
+abbrev pub value_in : ℕ → ValueBuf → Value
+value_in f into = record { flags = f; bytes = take into.length into.bytes }
+
+-- the step that the next access is, for a key and a room; a get that has ended makes none
+abbrev pub step_from : Stage → Walking → List ℕ → ValueBuf → Step
+step_from Seeking w k into = walk_step w
+step_from (AtMeta t) w k into = LoadContent w.slot t 0
+step_from (AtValue t f j) w k into = LoadContent w.slot t (suc j)
+step_from (AtFound t f) w k into = DecideNext w.slot t (Get k) (Found t (value_in f into))
+step_from (AtDead t) w k into = DecideNext w.slot t (Get k) Absent
+step_from (AtBad t) w k into = LoadNext w.slot t
+step_from Over w k into = walk_step w
+
+abbrev pub get_step : Getting → List ℕ → ValueBuf → Step
+get_step g k into = step_from g.stage g.walk k into
+
+-- the stage of a get whose walk stands there
+abbrev pub stage_at : Standing → Stage
+stage_at (OnTail t) = AtMeta t
+stage_at Ended = Over
+stage_at s = Seeking
+
+abbrev pub sought : Walking → Getting
+sought w = getting w (stage_at w.stand)
+
+-- the next value word of a value of so many bytes, or the last load
+abbrev pub valued : ℕ → ℕ → ℕ → ℕ → Stage
+valued t f size j = cond (ltb j (words_of size)) (AtValue t f j) (AtFound t f)
+
+-- what a meta word leads to: a value that the buffers have room for, a tombstone, or neither
+abbrev pub read_kind : Pool → ℕ → Kind → ℕ → ℕ → Stage
+read_kind p t IsValue f size = cond (ltb (8 * p.words) size) (AtBad t) (valued t f size 0)
+read_kind p t Tombstone f size = AtDead t
+
+abbrev pub read_stage : Pool → ℕ → Option MetaParts → Stage
+read_stage p t None = AtBad t
+read_stage p t (Some m) = read_kind p t m.kind m.flags m.length
+
+-- the number says this as a meta word, or is none
+pub record Reads (x : ℕ) (o : Option MetaParts) : Type 0 where
+  pub found : IfSome o (λ m. IsMeta m × (meta_word m ≡ x))
+  pub only : (m : MetaParts) → IsMeta m → meta_word m ≡ x → o ≡ Some m
+
+-- how the get goes on where its access found this number, with a room of so many bytes afterwards
+abbrev pub GoesFrom : Stage → Walking → ℕ → ℕ → Getting → Type 0
+GoesFrom Seeking w size x g = g ≡ sought (goes_on w x)
+GoesFrom (AtMeta t) w size x g = (o : Option MetaParts) × Reads x o × (g ≡ getting w (read_stage w.pool t o))
+GoesFrom (AtValue t f j) w size x g = g ≡ getting w (valued t f size (suc j))
+GoesFrom (AtFound t f) w size x g = g ≡ cond (x == unlinked t) (getting w Over) (sought (goes_on w x))
+GoesFrom (AtDead t) w size x g = g ≡ cond (x == unlinked t) (getting w Over) (sought (goes_on w x))
+GoesFrom (AtBad t) w size x g = g ≡ sought (goes_on w x)
+GoesFrom Over w size x g = ⊥
+
+abbrev pub GoesOn : Getting → ℕ → ℕ → Getting → Type 0
+GoesOn g size x g1 = GoesFrom g.stage g.walk size x g1

@@ -1,0 +1,63 @@
+-- One step of a get: what its answer says of the call, the room, and what the actor knows.
+use Rattle.std.specs.Prelude.{◌≡◌, ℕ, ◌+◌, ◌*◌, ◌<◌, ◌≤◌, length, List, Option}
+use Rattle.clover_words.specs.declared.bytes.ValueBuf.{ValueBuf}
+use Rattle.clover_words.specs.declared.pool.Pool.{Pool}
+use Rattle.clover_words.specs.Tag.{tag_number}
+use Rattle.clover_map.specs.declared.call.Call.TheVariants.{Get}
+use Rattle.clover_map.specs.declared.call.Reply.TheVariants.{Absent}
+use Rattle.clover_port.specs.Told.{Open, Made, Rose}
+use Rattle.clover_rule.specs.declared.view.View.{View}
+use Rattle.clover_walk.specs.Ending.{Ended}
+use Rattle.clover_walk.specs.Turning.{Answers, OnGoing as OnWalking, IfBehind as IfWalkBehind, OnAhead as OnWalkAhead}
+use Rattle.clover_walk.specs.Walking.{Walking, Holds, key_at, budget}
+use Rattle.clover_walk.specs.declared.turn.Turn.{Turn}
+use Rattle.clover_walk.specs.declared.turn.Turn.TheVariants.{More as WalksOn, AtTail, Behind as WalkBehind, Unreached as WalkUnreached}
+use Rattle.clover_get.specs.declared.turn.GetTurn.TheVariants.{More, Behind, Unreached}
+use Rattle.clover_get.specs.declared.turn.GetTurn.{GetTurn}
+use Rattle.clover_get.specs.Answering.{OnReached, OnUnreached, OnGoing, OnOver, OnAhead, IfFound, IfAbsent, IfBehind}
+use Rattle.clover_get.specs.Copying.{FoundAt}
+use Rattle.clover_get.specs.Getting.{Getting, Over, get_step, value_in, GoesOn}
+use Rattle.clover_get.specs.Holding.{GetHolds}
+
+-- the key of the get, as its actor's copy of the bindings has it
+abbrev pub key_of : Getting → View → List ℕ
+key_of g v = key_at v.pass.names g.walk.slot
+
+-- exactly one access was made, the one that the get's stage says, and the get went on by what it found
+abbrev pub OneAccess : Pool → Getting → Getting → ValueBuf → ValueBuf → View → Option Open → View → Option Open → Type 0
+OneAccess p g g1 into into1 v o v1 o1 = (x : ℕ) × Made p (get_step g (key_of g v) into) g.walk.first v o x v1 o1 × GoesOn g into1.length x g1
+
+-- the last load showed the tombstone's tag unlinked, and the accesses of the call decide that the key is absent
+abbrev pub AbsentAt : Pool → Getting → ℕ → View → Option Open → View → Option Open → Type 0
+AbsentAt p g t v o v1 o1 = (e : Ended p (Get (key_of g v)) Absent v o v1 o1) × (e.slot ≡ g.walk.slot) × (e.tag ≡ t)
+
+-- the most accesses of a call with so many turns
+abbrev pub most_accesses : Pool → ℕ → ℕ
+most_accesses p turns = (turns + 1) * (p.words + 5) + 2 * p.words + 4
+
+pub record Went (p : Pool) (faults faults1 : ℕ) (g g1 : Getting) (into into1 : ValueBuf) (v : View) (o : Option Open) (v1 : View) (o1 : Option Open) (r : GetTurn) : Type 0 where
+  pub made : OnReached r (OneAccess p g g1 into into1 v o v1 o1)
+  pub found : IfFound r (λ t f. FoundAt p g.walk.slot (key_of g v) (tag_number t) (value_in f into1) v o v1 o1)
+  pub absent : IfAbsent r (λ t. AbsentAt p g (tag_number t) v o v1 o1)
+  pub behind : IfBehind r (λ n. (n ≡ budget p) × (v1.pass.turns ≡ budget p))
+  pub ahead : OnAhead r (v1.pass.turns < budget p)
+  pub unreached : OnUnreached r (Rose faults faults1 × (v1 ≡ v) × (o1 ≡ o) × (g1 ≡ g) × (into1 ≡ into))
+  pub stands : OnGoing r (GetHolds g1 v1 into1)
+  pub ends : OnOver r (g1.stage ≡ Over)
+  pub bound : OnReached r (length v1.pass.since ≤ most_accesses p v1.pass.turns)
+
+-- the answer of a get whose walk came to this
+abbrev pub answer_of : Turn → GetTurn
+answer_of WalksOn = More
+answer_of (AtTail t) = More
+answer_of (WalkBehind n) = Behind n
+answer_of WalkUnreached = Unreached
+
+-- the walk came to this answer, and stands or has ended so
+pub record Follows (p : Pool) (w : Walking) (v : View) (r : GetTurn) : Type 0 where
+  pub turn : Turn
+  pub answers : Answers w turn
+  pub is : r ≡ answer_of turn
+  pub stands : OnWalking turn (Holds w v)
+  pub behind : IfWalkBehind turn (λ n. (n ≡ budget p) × (v.pass.turns ≡ budget p))
+  pub ahead : OnWalkAhead turn (v.pass.turns < budget p)

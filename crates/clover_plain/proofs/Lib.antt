@@ -1,0 +1,10 @@
+pub mod Seating
+pub mod Trails
+pub mod Learned
+pub mod Acting
+pub mod Stepping
+pub mod Standing
+pub mod Quiet
+pub mod Keys
+pub mod Dealing
+pub mod PresetRule

@@ -1,0 +1,37 @@
+use Rattle.std.proofs.Common.{◌≡◌, ℕ, suc, ◌+◌, Bool, true, refl, sym, ap, ◌∙◌, subst, add-one}
+use Rattle.clover_rule.specs.declared.access.Actor.TheVariants.{Client}
+use Rattle.clover_plain.specs.Kept.{meaning}
+use Rattle.clover_plain.specs.Plain.{Plain, Running, Stands, Refused, grown}
+use Rattle.clover_plain.proofs.Stepping.{refused_running}
+use Rattle.clover_plain.proofs.pool.PlainPool.refuse.Goals as goal
+use Rattle.clover_plain.proofs.pool.PlainPool.refuse.Goals.{After-note}
+
+-- the pool before the access and after it
+abbrev before : After-note → Plain
+before c = meaning c.self.inside
+
+abbrev then : After-note → Plain
+then c = meaning record { setup = c.self.inside.setup; words = c.self.inside.words; seats = c.self.inside.seats; knowing = c.self.inside.knowing; begun = c.self.inside.begun; beginning = c.self.inside.beginning; entries = c.self.inside.entries; traced = c.self.inside.traced; trace = c.note.new.trace; made = c.self.inside.made; opened = c.self.inside.opened; whole = c.self.inside.whole }
+
+opened_before : (c : After-note) → c.self.inside.opened ≡ true
+opened_before c = ap (λ (p : Plain). p.opened) c.self.view_is ∙ c.requires.opened
+
+refused : (c : After-note) → Refused c.args.act c.args.seat (before c) (then c)
+refused c = record {
+  words = refl;
+  views = refl;
+  accesses = c.note.ensures.list ∙ ap (λ (n : ℕ). grown c.self.inside.traced c.self.inside.trace.list.items (record { actor = Client n; act = c.args.act; refused = true })) (add-one c.args.seat);
+  made = refl;
+  whole = refl;
+  same = record { setup = refl; start = refl; entries = refl; traced = refl; opened = refl; entry_room = refl };
+}
+
+pub invariant_of-self : goal.invariant_of-self
+invariant_of-self c = record {
+  stands = subst (λ (b : Bool). Stands b (then c)) (sym (opened_before c)) (refused_running c.args.act c.args.seat (before c) (then c) (subst (λ (b : Bool). Stands b (before c)) (opened_before c) c.self.invariant.stands) (refused c));
+  sized = c.self.invariant.sized;
+  seated = c.self.invariant.seated;
+  seats = c.self.invariant.seats;
+  one = c.self.invariant.one;
+  beginning = c.self.invariant.beginning;
+}

@@ -1,0 +1,7 @@
+use Rattle.std.proofs.Common.{sym, subst}
+use Rattle.clover_rule.specs.declared.access.Act.{Act}
+use Rattle.clover_plain.specs.Plain.{Refused}
+use Rattle.clover_plain.proofs.port.PlainPortPort.load.Goals as goal
+
+pub returns-then-self-clause-refused : goal.returns-then-self-clause-refused
+returns-then-self-clause-refused g c = subst (λ (a : Act). Refused a c.args.self.now.seat c.args.self.now.pool.now c.fail.new.self.pool.now) (sym (c.requires.step 0)) c.fail.ensures.refused

@@ -1,0 +1,98 @@
+// A small preset pool, its words worked out by hand, and the accesses of a client to it.
+ghost use Rattle.std.specs.Prelude.{◌≡◌, ◌≤◌, ◌<◌, true, OnOk, IfOk};
+ghost use Rattle.clover_plain.specs.Plain.{history};
+
+use crate::pool::PlainPool;
+use crate::{Access, Act, Actor};
+use clover_map::{Key, OutOfMemory};
+use clover_port::Port;
+use clover_words::{Pool, Setup, Word};
+use std::alloc::Global;
+use std::marker::Brand;
+use std::process::Abort;
+use std::test::Fail;
+
+// One node of two buffers with one value word, one slot bound to `a`, and one client.
+fn small_pool(alloc: Global, trace: bool) -> Result<PlainPool, Fail>
+    ensures { IfOk result (λ pool. (pool.opened ≡ true) × (pool.entries ≡ history pool) × (pool.setup.clients ≡ 1) × (0 < pool.setup.pool.slots)) }
+{
+    let shape = Pool::check(1, 2, 1, 1, 9)?;
+    let setup = Setup::check(shape, 1, 1)?;
+    let mut pool = PlainPool::make(alloc, setup, trace)?;
+    let keys = [Key::of(b"a")?];
+    pool.preset(&keys);
+    Ok(pool)
+}
+
+// A port of client 1 reads the root of slot 0, or is refused.
+fn read_root(pool: &mut PlainPool, refuse: bool) -> Result<Option<u64>, OutOfMemory>
+    requires ready { (pool.old.opened ≡ true) × (pool.old.entries ≡ history pool.old) }
+    requires small { (pool.old.setup.clients ≡ 1) × (0 < pool.old.setup.pool.slots) }
+    ensures ready { OnOk result ((pool.new.opened ≡ true) × (pool.new.entries ≡ history pool.new)) }
+    ensures small { OnOk result ((pool.new.setup.clients ≡ 1) × (0 < pool.new.setup.pool.slots)) }
+{
+    pool.reserve()?;
+    let mut port = pool.port(Actor::Client(1), refuse);
+    match port.load::<Brand>(Word::Root(0)) {
+        Ok(number) => Ok(Some(number)),
+        Err(_) => Ok(None),
+    }
+}
+
+// Whether an access is a load of the root of slot 0 by client 1.
+fn is_load(access: &Access, number: u64, refused: bool) -> bool {
+    let loaded = match access.act {
+        Act::Load {
+            word: Word::Root(0),
+            got,
+        } => got == number,
+        _ => false,
+    };
+    loaded && access.refused == refused && matches!(access.actor, Actor::Client(1))
+}
+
+// The words' numbers: the meta word of the tombstone, the root and the key, each twice, and the count.
+const TOMBSTONE: u64 = 2 << 48;
+
+const ROOT: u64 = (1 << 42) + (1 << 20);
+
+const KEY: u64 = (1 << 56) + (0x61 << 48);
+
+#[test]
+fn words_of_a_small_preset_pool(rt: HostRuntime) -> Result<(), Fail> {
+    let pool = small_pool(rt.alloc(), false)?;
+    let mut words = vec![in rt.alloc(); 0u64; 80]?;
+    words[4] = TOMBSTONE;
+    words[6] = ROOT;
+    words[7] = KEY;
+    words[43] = TOMBSTONE;
+    words[45] = ROOT;
+    words[46] = KEY;
+    words[79] = 1;
+    assert_eq!(rt; pool.words.as_slice(), words.as_slice());
+    Ok(())
+}
+
+#[test]
+fn accesses_refused_and_made(rt: HostRuntime) -> Result<(), Fail> {
+    let mut pool = small_pool(rt.alloc(), true)?;
+    assert_eq!(rt; read_root(&mut pool, true)?, None);
+    assert_eq!(rt; read_root(&mut pool, false)?, Some(ROOT));
+    assert_eq!(rt; pool.made(), 1);
+    assert_eq!(rt; pool.entries().len(), 0);
+    let [refused, made] = pool.accesses() else {
+        panic!(rt; "not two accesses");
+    };
+    assert!(rt; is_load(refused, 0, true));
+    assert!(rt; is_load(made, ROOT, false));
+    Ok(())
+}
+
+#[test]
+fn nothing_is_listed_without_a_trace(rt: HostRuntime) -> Result<(), Fail> {
+    let mut pool = small_pool(rt.alloc(), false)?;
+    assert_eq!(rt; read_root(&mut pool, false)?, Some(ROOT));
+    assert_eq!(rt; pool.made(), 1);
+    assert_eq!(rt; pool.accesses().len(), 0);
+    Ok(())
+}

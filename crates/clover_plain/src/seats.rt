@@ -1,0 +1,144 @@
+// The seats of a pool's actors. What an actor knows is the meaning of its seat alone: a load of the one word of the
+// table by a seat gives it its next view, and nothing of a view stands at run time.
+ghost use Rattle.std.specs.Prelude.{◌≡◌, ◌<◌, ℕ, length, slice_set, IfOk, List, Some};
+ghost use Rattle.clover_rule.specs.Lists.{nth};
+ghost use Rattle.clover_rule.specs.declared.view.View.{View};
+ghost use Rattle.clover_plain.specs.Kept.{AllFit, views_of};
+
+use atomic_table::{Play, Seat, Table, TableRule};
+use clover_map::Key;
+use clover_rule::View;
+use clover_words::{Setup, Side, Word};
+use std::alloc::Global;
+use std::collections::LinkedList;
+use std::marker::{Brand, PhantomData};
+
+/// A rule that allows every step.
+pub struct AnyStep;
+
+impl TableRule<(), View, Setup> for AnyStep {
+    ghost use Rattle.clover_plain.specs.Plain.{outset};
+
+    ghost holds = { λ _ s. Unit {0} };
+
+    ghost first = { outset };
+}
+
+/// The seats' table: no slot, and one word that is always 0.
+pub type Knowing = Table<(), View, Setup, AnyStep, Global>;
+
+/// Names the next view of a seat, from the one before.
+pub trait ViewName {
+    ghost use Rattle.clover_rule.specs.declared.view.View.{View};
+
+    ghost becomes: { View → View };
+}
+
+impl ViewName for Brand {
+    ghost becomes = { λ v. v };
+}
+
+/// The seat gets the named view.
+pub struct Becomes<J> {
+    of: PhantomData<J>,
+}
+
+impl<J: ViewName> Play<(), View> for Becomes<J> {
+    ghost use Rattle.std.specs.Prelude.{◌≡◌};
+
+    ghost then = { λ _ before _ after. after.0 ≡ J.becomes before.0 };
+}
+
+/// The words with which a pool began.
+pub struct Beginning {
+    pub words: LinkedList<u64>,
+}
+
+/// A rule that allows every step.
+pub struct AnyBeginning;
+
+impl TableRule<(), Beginning, ()> for AnyBeginning {
+    ghost use Rattle.std.specs.Prelude.{[]};
+
+    ghost holds = { λ _ s. Unit {0} };
+
+    ghost first = { λ _. record { words = [] } };
+}
+
+/// A table whose one seat keeps the words with which the pool began.
+pub type Begun = Table<(), Beginning, (), AnyBeginning, Global>;
+
+/// The seat at a place gets the named view. The other arguments are for that name alone.
+pub fn set_view<J: ViewName>(
+    knowing: &Knowing,
+    seats: &mut Vec<Seat<(), View>>,
+    at: usize,
+    word: Word,
+    side: Side,
+    value: u64,
+    found: u64,
+)
+    requires at { at < length seats.old.items }
+    requires fits { AllFit knowing.now.shared.table_id seats.old.items × (0 < knowing.now.shared.table_id.words) }
+    ensures views { (v : View) → nth (views_of seats.old.items) at ≡ Some v → views_of seats.new.items ≡ slice_set (views_of seats.old.items) at (J.becomes v) }
+    ensures fits { AllFit knowing.now.shared.table_id seats.new.items }
+    ensures length { length seats.new.items ≡ length seats.old.items }
+{
+    let _ = (word, side, value, found);
+    let seat = &mut seats[at];
+    knowing.shared.load::<Becomes<J>>(seat, 0);
+}
+
+/// The seat of a client gets what the client knows in the preset pool.
+pub fn deal_view<J: ViewName>(
+    setup: &Setup,
+    knowing: &Knowing,
+    seats: &mut Vec<Seat<(), View>>,
+    at: usize,
+    keys: &[Key],
+)
+    requires at { at < length seats.old.items }
+    requires fits { AllFit knowing.now.shared.table_id seats.old.items × (0 < knowing.now.shared.table_id.words) }
+    ensures views { (v : View) → nth (views_of seats.old.items) at ≡ Some v → views_of seats.new.items ≡ slice_set (views_of seats.old.items) at (J.becomes v) }
+    ensures fits { AllFit knowing.now.shared.table_id seats.new.items }
+    ensures length { length seats.new.items ≡ length seats.old.items }
+{
+    let _ = setup.clients;
+    let _ = keys.len();
+    let seat = &mut seats[at];
+    knowing.shared.load::<Becomes<J>>(seat, 0);
+}
+
+/// Names the words with which a pool begins.
+pub trait WordsName {
+    ghost use Rattle.std.specs.Prelude.{List, ℕ};
+
+    ghost words: { List ℕ };
+}
+
+impl WordsName for Brand {
+    ghost use Rattle.std.specs.Prelude.{[]};
+
+    ghost words = { [] };
+}
+
+/// The seat keeps the named words.
+pub struct Keeps<J> {
+    of: PhantomData<J>,
+}
+
+impl<J: WordsName> Play<(), Beginning> for Keeps<J> {
+    ghost use Rattle.std.specs.Prelude.{◌≡◌};
+
+    ghost then = { λ _ _ _ after. after.0.words ≡ J.words };
+}
+
+/// The seat keeps the named words. The words that are passed are for that name alone.
+pub fn begin<J: WordsName>(beginning: &Begun, begun: &mut Seat<(), Beginning>, words: &Vec<u64>)
+    requires fits { (begun.old.table_id ≡ beginning.now.shared.table_id) × (0 < beginning.now.shared.table_id.words) }
+    ensures words { begun.new.me.0.words ≡ J.words }
+    ensures fits { begun.new.table_id ≡ beginning.now.shared.table_id }
+{
+    let _ = words.len();
+    beginning.shared.load::<Keeps<J>>(begun, 0);
+}

@@ -1,0 +1,138 @@
+-- What a run is: a list of records of which each follows those before it.
+use Prim.Native.Nat.{suc}
+use Rattle.std.specs.Prelude.{◌≡◌, ℕ, ◌+◌, ◌*◌, ltb, List, [], ◌∷◌, ◌++◌, length, Bool, true, false, if◌then◌else◌, Option, Some, None, IfSome, IsSome}
+use Rattle.clover_words.specs.declared.pool.Pool.{Pool}
+use Rattle.clover_words.specs.declared.setup.Setup.{Setup}
+use Rattle.clover_words.specs.declared.word.Word.TheVariants.{Next as NextOf}
+use Rattle.clover_map.specs.History.{own}
+use Rattle.clover_map.specs.declared.call.Entry.{Entry}
+use Rattle.clover_map.specs.declared.call.Reply.{Reply}
+use Rattle.clover_map.specs.declared.call.Reply.TheVariants.{Stored, Deleted}
+use Rattle.clover_script.specs.declared.line.Task.{Task}
+use Rattle.clover_script.specs.declared.line.Task.TheVariants.{Client as ClientTask}
+use Rattle.clover_rule.specs.Accesses.{CameBack, Decides, wrote_link}
+use Rattle.clover_rule.specs.Lists.{Within}
+use Rattle.clover_rule.specs.Memory.{home}
+use Rattle.clover_rule.specs.Steps.{linked}
+use Rattle.clover_rule.specs.Words.{buffer_at}
+use Rattle.clover_rule.specs.declared.access.Access.{Access}
+use Rattle.clover_rule.specs.declared.access.Act.{Act}
+use Rattle.clover_rule.specs.declared.access.Act.TheVariants.{Load, Store, Exchange, Raise}
+use Rattle.clover_rule.specs.declared.access.Actor.TheVariants.{Client}
+use Rattle.clover_sched.specs.declared.event.CallRefusal.{CallRefusal}
+use Rattle.clover_sched.specs.declared.event.CallRefusal.TheVariants.{Unreached, Linked, Behind, TooLong}
+use Rattle.clover_sched.specs.declared.event.Event.{Event}
+use Rattle.clover_sched.specs.declared.event.Event.TheVariants.{Begin, Step, Refuse}
+use Rattle.clover_sched.specs.declared.event.Note.{Note}
+use Rattle.clover_sched.specs.declared.event.Note.TheVariants.{Quiet, Answered, Refused, Busy, Missing}
+use Rattle.clover_sched.specs.Folds.{Doing, entries_in, words_after, doing}
+use Rattle.clover_sched.specs.Record.{Record}
+
+-- where a run begins: the setup, the words of its pool, and the bindings, each a slot and its key
+pub record Opening : Type 0 where
+  pub setup : Setup
+  pub words : List ℕ
+  pub names : List (ℕ × List ℕ)
+
+-- how many bytes of a value a buffer has room for
+abbrev pub room : Setup → ℕ
+room s = 8 * s.pool.words
+
+-- what an actor's begin comes to
+abbrev pub begin_note : Setup → Doing → ℕ → Task → Note
+begin_note s d a (ClientTask c written) = if ltb s.clients a then Missing a else free d.task
+  where
+    free : Option Task → Note
+    free None = if ltb (room s) written then Refused a (TooLong written (room s)) else Quiet
+    free (Some t) = Busy a
+
+-- no access and no entry, and this note
+abbrev pub Still : Record → Note → Type 0
+Still r note = (r.access ≡ None) × (r.entry ≡ None) × (r.note ≡ note)
+
+-- nothing came back
+abbrev pub IsBlank : Act → Type 0
+IsBlank (Load w got) = got ≡ 0
+IsBlank (Store w side value) = Unit {0}
+IsBlank (Exchange w expected new old) = old ≡ 0
+IsBlank (Raise w value old) = old ≡ 0
+
+-- the access is the actor's own; it is refused exactly where that was asked for; one that was made came back with what the words give
+pub record IsAccess (p : Pool) (a : ℕ) (d : Doing) (ws : List ℕ) (x : Access) : Type 0 where
+  pub actor : x.actor ≡ Client a
+  pub refused : x.refused ≡ d.refusing
+  pub blank : x.refused ≡ true → IsBlank x.act
+  pub replays : x.refused ≡ false → CameBack p ws x.act
+
+-- a reply to a call that committed
+abbrev pub IsCommit : Reply → Bool
+IsCommit (Stored t) = true
+IsCommit (Deleted t) = true
+IsCommit r = false
+
+-- The entry stands at the access that decides it: it is of the call under way, which had none, of this client with its next number, and the call's acts decide its reply.
+pub record IsEntry (o : Opening) (a : ℕ) (d : Doing) (ws : List ℕ) (n : ℕ) (r : Record) (e : Entry) : Type 0 where
+  pub access : Access
+  pub last : r.access ≡ Some access
+  pub made : access.refused ≡ false
+  pub written : ℕ
+  pub task : d.task ≡ Some (ClientTask e.call written)
+  pub first : d.decided ≡ None
+  pub client : e.client ≡ a
+  pub number : e.number ≡ suc n
+  pub decided : Decides o.setup.pool ws o.names (d.since ++ access.act ∷ []) e.call e.reply
+
+-- an exchange that wrote
+abbrev pub Wrote : Act → Type 0
+Wrote (Exchange w expected new old) = old ≡ expected
+Wrote act = ⊥
+
+-- a raise of the flushed copy of the link to t, which the call wrote
+abbrev pub Flushes : ℕ → List Act → Act → Type 0
+Flushes t since act = (u old : ℕ) × (act ≡ Raise (NextOf (buffer_at (home u))) (linked u t) old) × Within (wrote_link u t) since
+
+-- what a call whose access was refused is answered: it had changed nothing, or its link stands
+abbrev pub lost : Option Reply → CallRefusal
+lost (Some (Stored t)) = Linked t
+lost (Some (Deleted t)) = Linked t
+lost o = Unreached
+
+-- a commit's answer comes as its link is flushed; any other answer at the access that decides it
+abbrev pub IsAnswer : Doing → Option Entry → Act → Reply → Type 0
+IsAnswer d None act (Stored t) = (d.decided ≡ Some (Stored t)) × Flushes t d.since act
+IsAnswer d None act (Deleted t) = (d.decided ≡ Some (Deleted t)) × Flushes t d.since act
+IsAnswer d None act r = ⊥
+IsAnswer d (Some e) act r = (IsCommit r ≡ false) × (e.reply ≡ r)
+
+-- the cause of a note of a step whose access was made
+abbrev pub IsCause : Pool → ℕ → Doing → Option Entry → Act → Note → Type 0
+IsCause p a d e act Quiet = IfSome e (λ (x : Entry). IsCommit x.reply ≡ true)
+IsCause p a d e act (Answered c r) = (c ≡ a) × IsAnswer d e act r
+IsCause p a d e act (Refused c (Behind n)) = (c ≡ a) × (n ≡ p.nodes * p.buffers + 2) × (e ≡ None)
+IsCause p a d e act note = ⊥
+
+-- A step: an actor without a task does nothing; one with a task makes one access, and no exchange writes but a commit's.
+pub record IsStep (o : Opening) (a : ℕ) (d : Doing) (ws : List ℕ) (n : ℕ) (r : Record) : Type 0 where
+  pub idle : d.task ≡ None → Still r Quiet
+  pub one : (t : Task) → d.task ≡ Some t → IsSome r.access
+  pub access : IfSome r.access (IsAccess o.setup.pool a d ws)
+  pub entry : IfSome r.entry (IsEntry o a d ws n r)
+  pub commits : (x : Access) → r.access ≡ Some x → x.refused ≡ false → Wrote x.act → IsSome r.entry
+  pub unreached : (x : Access) → r.access ≡ Some x → x.refused ≡ true → (r.entry ≡ None) × (r.note ≡ Refused a (lost d.decided))
+  pub cause : (x : Access) → r.access ≡ Some x → x.refused ≡ false → IsCause o.setup.pool a d r.entry x.act r.note
+
+-- the record fits behind those before it
+abbrev pub Fits : Opening → List Record → Record → Event → Type 0
+Fits o before r (Begin a t) = Still r (begin_note o.setup (doing a before) a t)
+Fits o before r (Step a) = IsStep o a (doing a before) (words_after o.setup.pool o.words before) (length (own (entries_in before) a)) r
+Fits o before r (Refuse a) = Still r Quiet
+
+abbrev pub Follows : Opening → List Record → Record → Type 0
+Follows o before r = Fits o before r r.event
+
+abbrev pub Goes : Opening → List Record → List Record → Type 0
+Goes o before [] = Unit {0}
+Goes o before (r ∷ rs) = Follows o before r × Goes o (before ++ r ∷ []) rs
+
+abbrev pub IsRun : Opening → List Record → Type 0
+IsRun o rs = Goes o [] rs

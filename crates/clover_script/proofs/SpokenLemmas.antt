@@ -1,0 +1,181 @@
+-- the lines of clients, as they are written and as they are kept
+use Rattle.std.proofs.Common.{◌≡◌, ◌<◌, ◌≤◌, ◌^◌, ℕ, Option, Some, None, List, ◌∷◌, ◌++◌, length, sym, ap, subst, ◌∙◌, inl, inr, arith}
+use Rattle.std.specs.Prelude.{decimal, codes, IfSome, IfNone}
+use Rattle.std.proofs.lemmas.Fmt.{decimal_digit, decimal_injective}
+use Rattle.clover_map.specs.declared.call.Call.{Call}
+use Rattle.clover_map.specs.declared.call.Call.TheVariants.{Get, Put, Delete, Swap}
+use Rattle.clover_script.specs.declared.line.PoolLine.{PoolLine}
+use Rattle.clover_script.specs.declared.line.Line.{Line}
+use Rattle.clover_script.specs.declared.line.Line.TheVariants as kept
+use Rattle.clover_script.specs.declared.line.Form.TheVariants.{Calls}
+use Rattle.clover_script.specs.declared.line.Task.{Task}
+use Rattle.clover_script.specs.Line.{IsActor, AreTimes, IsFormOf, pool_line, IsCall, IsClientCall, call_line, written, cut_call, task_of, Asked, client, IsAsked, asked_text, Spoken, says_begin, says_step, says_finish, says_call, says_refuse, IsSpoken, line_text, kept_line, IsLineOf, IsNoLine, IsIgnored}
+use Rattle.clover_script.specs.Text.{call_text}
+use Rattle.clover_script.specs.Form.{SpellsCall, SpellsNoCall, SpellsAsked, SpellsNothingAsked, IsBuilt, IsBuiltTask, call_in}
+use Rattle.clover_script.specs.Script.{IsPoolLine, IsCallLine}
+use Rattle.clover_script.proofs.PartLemmas.{number_split}
+use Rattle.clover_script.proofs.FormLemmas.{after_same, apart, pool_parts, nodes_on, one_client_call, one_call, client_of, whole_call}
+
+one_asked : (s t : Asked) (a b : ℕ) → IsAsked a s → IsAsked b t → asked_text s ≡ asked_text t → s ≡ t
+one_asked (client c) (client d) a b p q e = ap client (one_client_call c d p.1 q.1 e)
+
+small_actor : (a : ℕ) (s : Asked) → IsAsked a s → a < 2 ^ 64
+small_actor a (client c) is = omega (arith, is.0)
+
+asked_split : (a b : ℕ) (s t : Asked) → IsAsked a s → IsAsked b t → decimal a ++ 32 ∷ asked_text s ≡ decimal b ++ 32 ∷ asked_text t → (a ≡ b) × (s ≡ t)
+asked_split a b s t p q e =
+    let r = number_split a b (asked_text s) (asked_text t) (small_actor a s p) (small_actor b t q) e in
+    (r.0, one_asked s t a b p q r.1)
+
+-- a text is one line
+pub one_spoken : (s t : Spoken) → IsSpoken s → IsSpoken t → line_text s ≡ line_text t → s ≡ t
+one_spoken (says_begin a x) (says_begin b y) p q e =
+    let r = asked_split a b x y p q (after_same (codes "begin ") (decimal a ++ 32 ∷ asked_text x) (decimal b ++ 32 ∷ asked_text y) e) in
+    ap (λ (n : ℕ). says_begin n x) r.0 ∙ ap (says_begin b) r.1
+one_spoken (says_step a n) (says_step b m) p q e =
+    let r = number_split a b (decimal n) (decimal m) (omega (arith, p.0)) (omega (arith, q.0)) (after_same (codes "step ") (decimal a ++ 32 ∷ decimal n) (decimal b ++ 32 ∷ decimal m) e) in
+    let times = decimal_injective n m (omega (arith, p.1)) (omega (arith, q.1)) r.1 in
+    ap (λ (k : ℕ). says_step k n) r.0 ∙ ap (says_step b) times
+one_spoken (says_finish a) (says_finish b) p q e =
+    ap says_finish (decimal_injective a b (omega (arith, p)) (omega (arith, q)) (after_same (codes "finish ") (decimal a) (decimal b) e))
+one_spoken (says_call a x) (says_call b y) p q e =
+    let r = asked_split a b x y p q (after_same (codes "call ") (decimal a ++ 32 ∷ asked_text x) (decimal b ++ 32 ∷ asked_text y) e) in
+    ap (λ (n : ℕ). says_call n x) r.0 ∙ ap (says_call b) r.1
+one_spoken (says_refuse a) (says_refuse b) p q e =
+    ap says_refuse (decimal_injective a b (omega (arith, p)) (omega (arith, q)) (after_same (codes "refuse ") (decimal a) (decimal b) e))
+one_spoken (says_begin a x) (says_step b m) p q e = absurd (omega (arith, apart (line_text (says_begin a x)) (line_text (says_step b m)) e))
+one_spoken (says_begin a x) (says_finish b) p q e = absurd (omega (arith, apart (line_text (says_begin a x)) (line_text (says_finish b)) e))
+one_spoken (says_begin a x) (says_call b y) p q e = absurd (omega (arith, apart (line_text (says_begin a x)) (line_text (says_call b y)) e))
+one_spoken (says_begin a x) (says_refuse b) p q e = absurd (omega (arith, apart (line_text (says_begin a x)) (line_text (says_refuse b)) e))
+one_spoken (says_step a n) (says_begin b y) p q e = absurd (omega (arith, apart (line_text (says_step a n)) (line_text (says_begin b y)) e))
+one_spoken (says_step a n) (says_finish b) p q e = absurd (omega (arith, apart (line_text (says_step a n)) (line_text (says_finish b)) e))
+one_spoken (says_step a n) (says_call b y) p q e = absurd (omega (arith, apart (line_text (says_step a n)) (line_text (says_call b y)) e))
+one_spoken (says_step a n) (says_refuse b) p q e = absurd (omega (arith, apart (line_text (says_step a n)) (line_text (says_refuse b)) e))
+one_spoken (says_finish a) (says_begin b y) p q e = absurd (omega (arith, apart (line_text (says_finish a)) (line_text (says_begin b y)) e))
+one_spoken (says_finish a) (says_step b m) p q e = absurd (omega (arith, apart (line_text (says_finish a)) (line_text (says_step b m)) e))
+one_spoken (says_finish a) (says_call b y) p q e = absurd (omega (arith, apart (line_text (says_finish a)) (line_text (says_call b y)) e))
+one_spoken (says_finish a) (says_refuse b) p q e = absurd (omega (arith, apart (line_text (says_finish a)) (line_text (says_refuse b)) e))
+one_spoken (says_call a x) (says_begin b y) p q e = absurd (omega (arith, apart (line_text (says_call a x)) (line_text (says_begin b y)) e))
+one_spoken (says_call a x) (says_step b m) p q e = absurd (omega (arith, apart (line_text (says_call a x)) (line_text (says_step b m)) e))
+one_spoken (says_call a x) (says_finish b) p q e = absurd (omega (arith, apart (line_text (says_call a x)) (line_text (says_finish b)) e))
+one_spoken (says_call a x) (says_refuse b) p q e = absurd (omega (arith, apart (line_text (says_call a x)) (line_text (says_refuse b)) e))
+one_spoken (says_refuse a) (says_begin b y) p q e = absurd (omega (arith, apart (line_text (says_refuse a)) (line_text (says_begin b y)) e))
+one_spoken (says_refuse a) (says_step b m) p q e = absurd (omega (arith, apart (line_text (says_refuse a)) (line_text (says_step b m)) e))
+one_spoken (says_refuse a) (says_finish b) p q e = absurd (omega (arith, apart (line_text (says_refuse a)) (line_text (says_finish b)) e))
+one_spoken (says_refuse a) (says_call b y) p q e = absurd (omega (arith, apart (line_text (says_refuse a)) (line_text (says_call b y)) e))
+
+-- and is kept in one way
+pub one_line : (text : List ℕ) (l m : Line) → IsLineOf text l → IsLineOf text m → l ≡ m
+one_line text l m (s, p, e, l_is) (t, q, f, m_is) = l_is ∙ ap kept_line (one_spoken s t p q (sym e ∙ f)) ∙ sym m_is
+
+-- a line of a client is no pool line
+pub no_pool : (s : Spoken) (n : PoolLine) → line_text s ≡ pool_line n → ⊥
+no_pool (says_begin a x) n e = omega (arith, apart (line_text (says_begin a x)) (pool_line n) e)
+no_pool (says_step a x) n e = omega (arith, apart (line_text (says_step a x)) (pool_line n) e)
+no_pool (says_finish a) n e = omega (arith, apart (line_text (says_finish a)) (pool_line n) e)
+no_pool (says_call a x) n e = omega (arith, apart (line_text (says_call a x)) (pool_line n) e)
+no_pool (says_refuse a) n e = omega (arith, apart (line_text (says_refuse a)) (pool_line n) e)
+
+-- and it is not passed over
+pub not_ignored : (s : Spoken) → IsIgnored (line_text s) → ⊥
+not_ignored (says_begin a x) (inl e) = omega (arith, ap length e)
+not_ignored (says_begin a x) (inr (rest, e)) = omega (arith, apart (line_text (says_begin a x)) (35 ∷ rest) e)
+not_ignored (says_step a x) (inl e) = omega (arith, ap length e)
+not_ignored (says_step a x) (inr (rest, e)) = omega (arith, apart (line_text (says_step a x)) (35 ∷ rest) e)
+not_ignored (says_finish a) (inl e) = omega (arith, ap length e)
+not_ignored (says_finish a) (inr (rest, e)) = omega (arith, apart (line_text (says_finish a)) (35 ∷ rest) e)
+not_ignored (says_call a x) (inl e) = omega (arith, ap length e)
+not_ignored (says_call a x) (inr (rest, e)) = omega (arith, apart (line_text (says_call a x)) (35 ∷ rest) e)
+not_ignored (says_refuse a) (inl e) = omega (arith, ap length e)
+not_ignored (says_refuse a) (inr (rest, e)) = omega (arith, apart (line_text (says_refuse a)) (35 ∷ rest) e)
+
+pub pool_stays : (n : PoolLine) → IsIgnored (pool_line n) → ⊥
+pool_stays n (inl e) = omega (arith, ap length (sym (pool_parts n) ∙ e))
+pool_stays n (inr (rest, e)) = omega (arith, apart (nodes_on n) (35 ∷ rest) (sym (pool_parts n) ∙ e))
+
+pub apart_lines : (text : List ℕ) → ((line : Line) → IsLineOf text line → (IsPoolLine text → ⊥) × (IsIgnored text → ⊥)) × (IsPoolLine text → IsIgnored text → ⊥)
+apart_lines text = (
+  λ line of. (λ pool. no_pool of.0 pool.0 (sym of.2 ∙ pool.2), λ over. not_ignored of.0 (subst IsIgnored of.2 over)),
+  λ pool over. pool_stays pool.0 (subst IsIgnored pool.2 over),
+)
+
+-- the line of a call that is built so far is one of client 1
+pub first_text : (call : Call) → call_line call ≡ line_text (says_call 1 (client call))
+first_text call = ap (λ (l : List ℕ). codes "call " ++ (l ++ 32 ∷ call_text call)) (sym (decimal_digit 1 (omega arith)))
+
+pub first_spoken : (call : Call) → IsCall call → IsSpoken (says_call 1 (client call))
+first_spoken call is = ((omega arith, omega arith), client_of call is)
+
+pub no_call_line : (text : List ℕ) → IsNoLine text → IsCallLine text → ⊥
+no_call_line text none (call, is, e) = none (says_call 1 (client call)) (first_spoken call is) (e ∙ first_text call)
+
+-- so the reader keeps it
+pub first_kept : (text : List ℕ) (l : Line) (call : Call) → IsCall call → text ≡ call_line call → IsLineOf text l → l ≡ kept.Call 1 (task_of call)
+first_kept text l call is e (s, p, f, l_is) =
+    l_is ∙ ap kept_line (one_spoken s (says_call 1 (client call)) p (first_spoken call is) (sym f ∙ e ∙ first_text call))
+
+pub built_call : (call : Call) → IsCall call → IsBuiltTask (task_of call)
+built_call (Get k) is = tt
+built_call (Put k v) is = tt
+built_call (Delete k) is = is
+built_call (Swap k e v) is = is
+
+is_call : (call : Call) → IsClientCall call → IsBuilt (cut_call call) → IsCall call
+is_call (Get k) is built = is
+is_call (Put k v) is built = is
+is_call (Delete k) is built = absurd built
+is_call (Swap k e v) is built = absurd built
+
+same_actor : (a b : ℕ) (s t : Task) → kept.Call a s ≡ kept.Call b t → a ≡ b
+same_actor a b s t e = cc
+
+same_task : (a b : ℕ) (s t : Task) → kept.Call a s ≡ kept.Call b t → s ≡ t
+same_task a b s t e = cc
+
+-- a line that is kept as a task of client 1 that is built so far
+pub built_form : (text : List ℕ) (l : Line) (task : Task) → IsLineOf text l → l ≡ kept.Call 1 task → IsBuiltTask task → IsFormOf text (Calls task)
+built_form text l task (says_call a (client call), is, e, l_is) same built =
+    let both : kept.Call a (task_of call) ≡ kept.Call 1 task = sym l_is ∙ same in
+    let one = same_actor a 1 (task_of call) task both in
+    let own = same_task a 1 (task_of call) task both in
+    let here : text ≡ line_text (says_call 1 (client call)) = e ∙ ap (λ (n : ℕ). line_text (says_call n (client call))) one in
+    (call, is_call call is.1 (subst IsBuiltTask (sym own) built), here ∙ sym (first_text call), sym own)
+built_form text l task (says_begin a x, is, e, l_is) same built = absurd (cc)
+built_form text l task (says_step a n, is, e, l_is) same built = absurd (cc)
+built_form text l task (says_finish a, is, e, l_is) same built = absurd (cc)
+built_form text l task (says_refuse a, is, e, l_is) same built = absurd (cc)
+
+-- a task of a line that is one short call's has that call
+pub called : (line : List ℕ) (task : Task) (call : Call) → IsCall call → written call ≤ 1024 → line ≡ call_line call → IsFormOf line (Calls task)
+    → IsCall (call_in task) × (line ≡ call_line (call_in task))
+called line task call is short spelled (d, is_d, spelled_d, task_is) =
+    let same = one_call d call is_d is (sym spelled_d ∙ spelled) in
+    let own : call_in task ≡ call = ap call_in task_is ∙ ap cut_call same ∙ whole_call call short in
+    (subst IsCall (sym own) is, spelled ∙ ap call_line (sym own))
+
+pub first_found : (text : List ℕ) (l : Line) (o : Option Task) → IsLineOf text l → IfSome o (λ task. (l ≡ kept.Call 1 task) × IsBuiltTask task) → IfSome o (λ task. IsFormOf text (Calls task))
+first_found text l None is h = tt
+first_found text l (Some task) is h = built_form text l task is h.0 h.1
+
+pub first_none : (text : List ℕ) (l : Line) (o : Option Task) → IsLineOf text l → IfNone o ((task : Task) → IsBuiltTask task → l ≡ kept.Call 1 task → ⊥) → IfNone o (IsCallLine text → ⊥)
+first_none text l None is h = λ line. h (task_of line.0) (built_call line.0 line.1) (first_kept text l line.0 line.1 line.2 is)
+first_none text l (Some task) is h = tt
+
+-- the lines that the reader finds
+pub step_line : (line words : List ℕ) (o : Option Line) → line ≡ codes "step " ++ words
+    → IfSome o (λ l. (a : ℕ) × (n : ℕ) × IsActor a × AreTimes n × (words ≡ decimal a ++ 32 ∷ decimal n) × (l ≡ kept.Step a n)) → IfSome o (IsLineOf line)
+step_line line words None e h = tt
+step_line line words (Some l) e (a, n, is, times, f, l_is) = (says_step a n, (is, times), e ∙ ap (λ (w : List ℕ). codes "step " ++ w) f, l_is)
+
+pub asked_found : (text words : List ℕ) (a : ℕ) (task : Task) → IsActor a → text ≡ decimal a ++ 32 ∷ words → SpellsCall words task → SpellsAsked text a task
+asked_found text words a task is e (call, is_call, f, task_is) = (client call, (is, is_call), e ∙ ap (λ (w : List ℕ). decimal a ++ 32 ∷ w) f, task_is)
+
+pub no_asked : (text words : List ℕ) (a : ℕ) → IsActor a → text ≡ decimal a ++ 32 ∷ words → SpellsNoCall words → SpellsNothingAsked text
+no_asked text words a is e none b (client call) p f =
+    none call p.1 (number_split a b words (call_text call) (omega (arith, is)) (omega (arith, p.0)) (sym e ∙ f)).1
+
+pub begin_line : (line words : List ℕ) (a : ℕ) (task : Task) → line ≡ codes "begin " ++ words → SpellsAsked words a task → IsLineOf line (kept.Begin a task)
+begin_line line words a task e (asked, is, f, task_is) = (says_begin a asked, is, e ∙ ap (λ (w : List ℕ). codes "begin " ++ w) f, ap (kept.Begin a) task_is)
+
+pub asked_line : (line words : List ℕ) (a : ℕ) (task : Task) → line ≡ codes "call " ++ words → SpellsAsked words a task → IsLineOf line (kept.Call a task)
+asked_line line words a task e (asked, is, f, task_is) = (says_call a asked, is, e ∙ ap (λ (w : List ℕ). codes "call " ++ w) f, ap (kept.Call a) task_is)
