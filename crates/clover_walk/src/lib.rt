@@ -8,7 +8,7 @@ mod tail;
 mod turn;
 mod walk;
 
-pub use reach::load_next;
+pub use reach::{load_next, raise_next};
 pub use tail::{load_content, load_last};
 pub use turn::Turn;
 pub use walk::Walk;

@@ -1,0 +1,10 @@
+use Rattle.std.specs.Prelude.{Some, false}
+use Rattle.clover_map.specs.declared.call.Reply.TheVariants.{Differs}
+use Rattle.clover_words.specs.Tag.{tag_number}
+use Rattle.clover_rule.specs.declared.step.Kind.TheVariants.{Decide}
+use Rattle.clover_walk.specs.Walking.{key_at}
+use Rattle.clover_put.specs.Putting.{call_of}
+use Rattle.clover_put.proofs.call.PutCall.last_other.Given as goal
+
+abbrev pub ghosts-load_other : goal.ghosts-load_other
+ghosts-load_other g a = record { kind = Decide; first = false; slot = a.slot; tag = tag_number a.tail; call = Some (call_of a.job (key_at (g.P.Port.view a.port.now).pass.names a.slot) (record { flags = a.flags; bytes = a.bytes.now })); reply = Differs (tag_number a.tail) }

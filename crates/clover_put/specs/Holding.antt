@@ -1,0 +1,87 @@
+-- What the client must know where a put stands, and how many accesses the call has made at most.
+use Rattle.std.specs.Prelude.{◌≡◌, ℕ, ◌+◌, ◌*◌, ◌<◌, ◌≤◌, List, ◌∷◌, length, false, cond, eqb, Some, None}
+use Rattle.clover_map.specs.declared.call.Reply.TheVariants.{Absent, Differs}
+use Rattle.clover_words.specs.declared.word.Side.TheVariants.{Current, Flushed}
+use Rattle.clover_rule.specs.Accesses.{SawDead, SawFor, SawLive}
+use Rattle.clover_rule.specs.Content.{InRange}
+use Rattle.clover_rule.specs.Lists.{nth, Within}
+use Rattle.clover_rule.specs.Memory.{home}
+use Rattle.clover_rule.specs.Steps.{MayCall, MayReply}
+use Rattle.clover_rule.specs.Words.{content_at}
+use Rattle.clover_rule.specs.declared.access.Act.TheVariants.{Store}
+use Rattle.clover_rule.specs.declared.view.View.{View}
+use Rattle.clover_walk.specs.Walking.{Stand, AtRoot, AtTag, AtLink as OnLink, OnTail, Ended, IsOnWay, Holds}
+use Rattle.clover_put.specs.declared.job.Job.{Job}
+use Rattle.clover_put.specs.declared.job.Job.TheVariants.{Put, Delete, Swap}
+use Rattle.clover_put.specs.Putting.{Putting, Stage, Storing, Flushing, Seeking, AtMeta, AtLink, AtDead, AtOther, AtBad, AtRaise, Over, body, call_at, kind_of}
+
+-- the first words of the version are stored, and of these the first ones flushed
+pub record Filled (c : Putting) (m n : ℕ) (v : View) : Type 0 where
+  pub written : (j x : ℕ) → j < m → nth (body c) j ≡ Some x → Within (record { tag = c.own; place = j; word = x }) v.pass.written × Within (Store (content_at (home c.own) j) Current x) v.pass.since
+  pub flushed : (j x : ℕ) → j < n → nth (body c) j ≡ Some x → Within (record { tag = c.own; place = j; word = x }) v.pass.flushed × Within (Store (content_at (home c.own) j) Flushed x) v.pass.since
+
+-- how much of the own version is stored and flushed, and that the first store is the first access of the call
+abbrev pub Fills : Stage → Putting → View → Type 0
+Fills (Storing j) c v = Filled c j 0 v × (j < length (body c)) × (c.walk.first ≡ eqb j 0)
+Fills (Flushing j) c v = Filled c (length (body c)) j v × (j < length (body c)) × (c.walk.first ≡ false)
+Fills (AtRaise u) c v = c.walk.first ≡ false
+Fills Over c v = ⊥
+Fills _ c v = Filled c (length (body c)) (length (body c)) v × (c.walk.first ≡ false)
+
+-- the own tag is the next one of the stock, until it is committed
+abbrev pub Owns : Stage → Putting → View → Type 0
+Owns (AtRaise u) c v = Unit {0}
+Owns Over c v = ⊥
+Owns _ c v = (rest : List ℕ) × (v.pass.stock ≡ c.own ∷ rest)
+
+abbrev pub IsAt : Putting → ℕ → Type 0
+IsAt c u = (c.walk.stand ≡ OnTail u) × InRange c.walk.pool u
+
+-- the job looks at the tail's meta word
+abbrev pub Reads : Job → Type 0
+Reads Put = ⊥
+Reads Delete = Unit {0}
+Reads (Swap t) = Unit {0}
+
+-- what the call has seen where it stands
+abbrev pub Looks : Stage → Putting → View → Type 0
+Looks (AtMeta u) c v = IsAt c u × Reads c.job
+Looks (AtLink u) c v = IsAt c u × MayCall v c.walk.slot u (call_at c v) × SawFor u (call_at c v) v.pass.since
+Looks (AtDead u) c v = IsAt c u × MayReply v c.walk.slot u (call_at c v) Absent × SawDead u v.pass.since
+Looks (AtOther u) c v = IsAt c u × MayReply v c.walk.slot u (call_at c v) (Differs u) × SawLive u v.pass.since
+Looks (AtBad u) c v = IsAt c u × ((y : ℕ) × Within (c.walk.slot, record { tag = u; place = 0; word = y }) v.pass.copied × (kind_of y ≡ None))
+Looks (AtRaise u) c v = IsAt c u × Within (record { slot = c.walk.slot; from = u; to = c.own }) v.pass.links
+Looks Over c v = ⊥
+Looks _ c v = IsOnWay c.walk.stand
+
+-- the accesses of a turn so far, by where the walk stands: a root, a tag's next word
+abbrev pub steps_at : Stand → ℕ
+steps_at AtRoot = 0
+steps_at (AtTag t) = 1
+steps_at (OnLink t u) = 0
+steps_at (OnTail t) = 2
+steps_at Ended = 0
+
+-- the accesses of the call at most: the stores and flushes, five for each turn, and those of the present turn
+abbrev pub behind_it : Putting → ℕ
+behind_it c = 2 * length (body c) + 5 * c.walk.turns
+
+abbrev pub most : Stage → Putting → ℕ
+most (Storing j) c = j
+most (Flushing j) c = length (body c) + j
+most Seeking c = behind_it c + steps_at c.walk.stand
+most (AtMeta u) c = behind_it c + 2
+most (AtLink u) c = behind_it c + 3
+most (AtDead u) c = behind_it c + 3
+most (AtOther u) c = behind_it c + 3
+most (AtBad u) c = behind_it c + 3
+most (AtRaise u) c = behind_it c + 4
+most Over c = behind_it c + 5
+
+-- what the client knows where the call stands
+pub record PutHolds (c : Putting) (v : View) : Type 0 where
+  pub walk : Holds c.walk v
+  pub owns : Owns c.stage c v
+  pub fills : Fills c.stage c v
+  pub looks : Looks c.stage c v
+  pub spent : cond c.walk.first 0 (length v.pass.since) ≤ most c.stage c

@@ -1,0 +1,6 @@
+pub mod Putting
+pub mod Answering
+pub mod Holding
+pub mod Stepping
+pub mod Standing
+pub mod Kept

@@ -1,0 +1,13 @@
+//! Put, delete and swap of a key whose slot is known, as machines of single accesses over any port: the own version
+//! is stored and flushed, the walk finds the tail, one exchange commits behind it, and a raise makes that durable.
+#![tactic(auto)]
+
+mod access;
+mod call;
+mod job;
+mod stage;
+mod turn;
+
+pub use call::PutCall;
+pub use job::{Job, TooLong};
+pub use turn::PutTurn;

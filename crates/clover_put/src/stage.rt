@@ -1,0 +1,27 @@
+// Where a call that writes stands.
+use clover_words::Tag;
+
+/// Where a call that writes stands. A tag is that of the tail at which the walk is.
+#[derive(Clone, Copy)]
+pub enum Stage {
+    /// This content word of the own version is to be stored: the meta word at 0, value word `k` at `k + 1`.
+    Storing(u32),
+    /// The flushed copy of this content word is to be stored.
+    Flushing(u32),
+    /// The walk is on its way.
+    Seeking,
+    /// The tail's meta word is to be loaded.
+    AtMeta(Tag),
+    /// The own tag is to be linked behind the tail.
+    AtLink(Tag),
+    /// The tail is a tombstone: its next word is to be loaded again.
+    AtDead(Tag),
+    /// The tail is not the tag that a swap expects: its next word is to be loaded again.
+    AtOther(Tag),
+    /// The tail's meta word was that of no version, so it has been passed: its next word is to be loaded again.
+    AtBad(Tag),
+    /// The own tag is linked behind this one, and the link is to be raised.
+    AtRaise(Tag),
+    /// The call is over.
+    Over,
+}
