@@ -23,7 +23,7 @@ use Rattle.clover_rule.specs.declared.access.Act.{Act}
 use Rattle.clover_rule.specs.declared.access.Act.TheVariants.{Load}
 use Rattle.clover_rule.specs.declared.view.Content.{Content}
 use Rattle.clover_rule.specs.declared.view.View.{View}
-use Rattle.clover_rule.proofs.Spelling.{short_enough}
+use Rattle.clover_rule.proofs.Spelling.{meta_apart, meta_parts, short_enough}
 use Rattle.clover_rule.proofs.Steps.{within_prefix}
 use Rattle.clover_rule.proofs.Ties.{buffer_in, content_in}
 use Rattle.clover_walk.specs.Walking.{Walking, Stand, StandsOn as WalkStandsOn, Holds, key_at}
@@ -165,13 +165,6 @@ module _ (p : Pool) (s t : ℕ) (v v1 : View) (x : ℕ) (copied : v1.pass.copied
 
   pub first_bad : (IsMetaWord p x → ⊥) → CopiedBad p s t v1
   first_bad bad = record { word = x; meta = first_copied; bad = bad }
-
--- these two belong beside those of the same names in clover_rule's proofs/Spelling, which are private
-meta_apart : (flags size : ℕ) → flags < 2 ^ 32 → size ≤ 1024 → meta_word (record { kind = IsValue; flags = flags; length = size }) ≢ tombstone
-meta_apart flags size f n e = omega arith
-
-meta_parts : (a b c d : ℕ) → a < 2 ^ 32 → b ≤ 1024 → c < 2 ^ 32 → d ≤ 1024 → meta_word (record { kind = IsValue; flags = a; length = b }) ≡ meta_word (record { kind = IsValue; flags = c; length = d }) → (a ≡ c) × (b ≡ d)
-meta_parts a b c d ha hb hc hd e = (omega arith, omega arith)
 
 -- a number that is no meta word is no version's, nor is the meta word of a value that the buffers have no room for
 pub undecoded : (p : Pool) (x : ℕ) → Reads x None → IsMetaWord p x → ⊥

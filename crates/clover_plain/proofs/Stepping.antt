@@ -4,7 +4,6 @@ use Rattle.std.specs.Prelude.{Some}
 use Rattle.std.specs.FinMap as finite
 use Rattle.clover_words.specs.declared.pool.Pool.{Pool}
 use Rattle.clover_map.specs.declared.call.Entry.{Entry}
-use Rattle.clover_map.specs.Tagged.{Tagged}
 use Rattle.clover_rule.specs.Accesses.{CameBack, words_after_act}
 use Rattle.clover_rule.specs.Lists.{nth, IsPrefix}
 use Rattle.clover_rule.specs.Rule.{Rule, longest}
@@ -15,29 +14,13 @@ use Rattle.clover_rule.specs.declared.access.Act.{Act}
 use Rattle.clover_rule.specs.declared.view.Role.TheVariants.{Client}
 use Rattle.clover_rule.specs.declared.view.View.{View}
 use Rattle.clover_rule.proofs.Accessing.{step_law, access_law}
-use Rattle.clover_rule.proofs.Keeps.{keeps}
 use Rattle.clover_rule.proofs.Longest.{longest_law}
 use Rattle.clover_rule.proofs.Steps.{nth_set, set_here, prefix_trans}
-use Rattle.clover_rule.proofs.Tails.{says}
-use Rattle.clover_rule.proofs.Telling.{facts, number_shown}
+use Rattle.clover_rule.proofs.Telling.{told_at}
 use Rattle.clover_port.specs.Told.{Made}
 use Rattle.clover_plain.specs.Plain.{Plain, Running, Stepped, Refused, Leads, outset, view_at, history, open_of, grown, access}
 use Rattle.clover_plain.proofs.Learned.{role_kept, history_grows}
 use Rattle.clover_plain.proofs.Trails.{leads_more, leads_refused}
-
--- what a step tells, where the words and the history are these
-told_at : (p : Pool) (first : Tagged) (used ws : List ℕ) (vs : List View) (h : List Entry) (id : ℕ) (v : View) (a : Step) (b : Bool) → Rule p first used ws vs h → nth vs id ≡ Some v → Asks p a v → ToldAt p ws h a b v (found p a ws) (next_view b a h v (found p a ws))
-told_at p first used ws vs h id v a b r at asks =
-    let w : View = next_view b a h v (found p a ws) in
-    let after = keeps p first used ws vs r.story h r.helped id v at a b asks in
-    record {
-      here = refl;
-      before = facts p first used ws vs r.story h r.helped id v at;
-      number = number_shown p first used ws vs r.story h r.helped a asks.0;
-      says = says p first used ws vs r.story h r.helped id v at a asks;
-      next = refl;
-      after = facts p first used (words_after_step p a ws) (set vs id w) after.0 (next_history a h v (found p a ws)) after.1 id w (set_here vs id w v at);
-    }
 
 pub nth_default : (vs : List View) (i : ℕ) (d : View) → i < length vs → nth vs i ≡ Some (get_or vs i d)
 nth_default [] i d h = absurd (omega arith)
@@ -117,7 +100,7 @@ module _ (a : Step) (b list : Bool) (seat x : ℕ) (p q : Plain) (r : Running p)
   pub made : Made p.setup.pool a b v (Some (open_of p)) x (view_at q seat) (Some (open_of q))
   made = record {
     now = open_of p;
-    told = subst (λ (w : View). ToldAt p.setup.pool p.words (history p) a b v x w) (sym view_then) (subst (λ (n : ℕ). ToldAt p.setup.pool p.words (history p) a b v n (next_view b a (history p) v n)) (sym st.found) (told_at p.setup.pool finite.empty [] p.words p.views (history p) seat v a b r.rule at asks));
+    told = subst (λ (w : View). ToldAt p.setup.pool p.words (history p) a b v x w) (sym view_then) (subst (λ (n : ℕ). ToldAt p.setup.pool p.words (history p) a b v n (next_view b a (history p) v n)) (sym st.found) (told_at p.setup.pool finite.empty [] p.words p.views r.rule.story (history p) r.rule.helped seat v at a b asks));
     tells = (refl, λ k. Some (record { words = st.words k; history = longest_then k }));
   }
 

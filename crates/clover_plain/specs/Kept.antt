@@ -26,11 +26,11 @@ meaning p = record {
   views = views_of p.seats.items;
   entries = p.entries.items;
   traced = p.traced;
-  accesses = p.trace.list.items;
+  accesses = p.trace.items;
   made = p.made;
   opened = p.opened;
   whole = p.whole;
-  access_room = vec_capacity p.trace.list - vec_len p.trace.list;
+  access_room = vec_capacity p.trace - vec_len p.trace;
   entry_room = vec_capacity p.entries - vec_len p.entries;
 }
 

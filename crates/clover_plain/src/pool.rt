@@ -13,7 +13,6 @@ mod tests;
 
 use crate::port::PlainPort;
 use crate::seats::{Becomes, Beginning, Begun, Knowing};
-use crate::trace::Trace;
 use atomic_table::{Seat, Table};
 use clover_map::{Entry, OutOfMemory};
 use clover_rule::{Access, Actor, View};
@@ -32,7 +31,7 @@ pub struct PlainPool {
     beginning: Begun,
     entries: Vec<Entry>,
     traced: bool,
-    trace: Trace,
+    trace: Vec<Access>,
     made: u64,
     opened: bool,
     whole: bool,
@@ -108,9 +107,7 @@ impl PlainPool {
             beginning,
             entries: Vec::new(alloc),
             traced: trace,
-            trace: Trace {
-                list: Vec::new(alloc),
-            },
+            trace: Vec::new(alloc),
             made: 0,
             opened: false,
             whole: true,
@@ -126,7 +123,7 @@ impl PlainPool {
     {
         self.entries.reserve(1)?;
         if self.traced {
-            self.trace.list.reserve(1)?;
+            self.trace.reserve(1)?;
         }
         Ok(())
     }
@@ -188,7 +185,7 @@ impl PlainPool {
         ensures replay { self.now.opened ≡ true → self.now.traced ≡ true → self.now.whole ≡ true → Leads self.now.setup.pool self.now.start self.now.words self.now.made self.now.accesses }
         ensures untraced { self.now.traced ≡ false → self.now.accesses ≡ [] }
     {
-        self.trace.list.as_slice()
+        self.trace.as_slice()
     }
 
     /// How many accesses were made and not refused, 2^64 - 1 also where there were more.

@@ -1,6 +1,5 @@
 -- The steps that an access of a put is named as.
-use Prim.Native.Nat.{zero, suc}
-use Rattle.std.proofs.Common.{◌≡◌, ℕ, refl, sym, ap, ◌∙◌}
+use Rattle.std.proofs.Common.{◌≡◌, ℕ, sym, ap, ◌∙◌}
 use Rattle.std.specs.Prelude.{Option, Some}
 use Rattle.clover_words.specs.Tag.{TagParts, IsTag, tag_number}
 use Rattle.clover_words.specs.Next.{next_word}
@@ -8,7 +7,7 @@ use Rattle.clover_words.specs.declared.word.Side.TheVariants.{Current, Flushed}
 use Rattle.clover_words.specs.declared.word.Word.{Word}
 use Rattle.clover_words.specs.declared.word.Word.TheVariants.{Next as NextOf}
 use Rattle.clover_map.specs.declared.call.Call.{Call}
-use Rattle.clover_rule.specs.Meant.{store_step, exchange_step, place_in, IsStore, IsExchange}
+use Rattle.clover_rule.specs.Meant.{store_step, exchange_step, IsStore, IsExchange}
 use Rattle.clover_rule.specs.Memory.{home}
 use Rattle.clover_rule.specs.Steps.{Step, StoreContent, FlushContent, LinkNext, unlinked, act_of}
 use Rattle.clover_rule.specs.Words.{buffer_at, content_at}
@@ -17,10 +16,7 @@ use Rattle.clover_rule.specs.declared.step.Kind.{Kind}
 use Rattle.clover_rule.specs.declared.step.Kind.TheVariants.{Fill}
 use Rattle.clover_rule.proofs.Codecs.{linked_is}
 use Rattle.clover_walk.proofs.Naming.{target_is}
-
-place_again : (b j : ℕ) → place_in (content_at b j) ≡ j
-place_again b zero = refl
-place_again b (suc k) = refl
+use Rattle.clover_walk.proofs.Tailing.{place_again}
 
 -- a store of a content word, and of its flushed copy
 pub store_is : (k : Kind) (s m t j : ℕ) (q : Word) (x : ℕ) → k ≡ Fill → m ≡ t → q ≡ content_at (home t) j → store_step k s m q Current x ≡ StoreContent t j x

@@ -16,31 +16,8 @@ ghost use Rattle.clover_put.specs.Putting.{call_of};
 use crate::job::Job;
 use clover_port::{Failed, Port, exchange_as, store_as};
 use clover_rule::StepName;
-use clover_walk::load_last;
-use clover_words::{Buffer, NextWord, Side, Tag, Word};
-
-// The buffer of a tag.
-fn buffer_of(tag: Tag) -> Buffer
-    ensures value { result ≡ buffer_at (home (tag_number tag)) }
-    ensures tag { IsTag tag }
-{
-    Buffer {
-        node: tag.node,
-        index: tag.index,
-    }
-}
-
-// The content word at this place of the tag's buffer.
-fn content_word(tag: Tag, place: u32) -> Word
-    ensures { result ≡ content_at (home (tag_number tag)) place }
-{
-    let buffer = buffer_of(tag);
-    if place == 0 {
-        Word::Meta(buffer)
-    } else {
-        Word::Value(buffer, place - 1)
-    }
-}
+use clover_walk::{buffer_of, content_word, load_last};
+use clover_words::{NextWord, Side, Tag, Word};
 
 /// The number of a tag's next word where it is unlinked at the tag's generation.
 pub fn unlinked_word(tag: Tag) -> u64

@@ -6,7 +6,7 @@ use std::alloc::Global;
 use std::test::Fail;
 
 /// A list of these bytes.
-pub fn bulk(alloc: Global, bytes: &[u8]) -> Result<Bulk, Fail> {
+pub(crate) fn bulk(alloc: Global, bytes: &[u8]) -> Result<Bulk, Fail> {
     let mut list = Bulk::make(alloc);
     for byte in bytes {
         list.push(*byte)?;
@@ -15,7 +15,7 @@ pub fn bulk(alloc: Global, bytes: &[u8]) -> Result<Bulk, Fail> {
 }
 
 /// A list of these numbers.
-pub fn numbers(alloc: Global, numbers: &[u64]) -> Result<NumberList, Fail> {
+pub(crate) fn numbers(alloc: Global, numbers: &[u64]) -> Result<NumberList, Fail> {
     let mut list = NumberList::make(alloc);
     for number in numbers {
         list.push(*number)?;

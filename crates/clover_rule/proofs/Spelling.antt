@@ -27,10 +27,10 @@ same_bytes a b ha hb e same = ext_get_or 0 a b e (λ i h. one_byte a b i ha hb (
 some_is : (a b : ℕ) → ◌≡◌ {A = Option ℕ} (Some a) (Some b) → a ≡ b
 some_is a b e = cc
 
-meta_apart : (flags size : ℕ) → flags < 2 ^ 32 → size ≤ 1024 → meta_word (record { kind = IsValue; flags = flags; length = size }) ≢ tombstone
+pub meta_apart : (flags size : ℕ) → flags < 2 ^ 32 → size ≤ 1024 → meta_word (record { kind = IsValue; flags = flags; length = size }) ≢ tombstone
 meta_apart flags size f n e = omega arith
 
-meta_parts : (a b c d : ℕ) → a < 2 ^ 32 → b ≤ 1024 → c < 2 ^ 32 → d ≤ 1024 → meta_word (record { kind = IsValue; flags = a; length = b }) ≡ meta_word (record { kind = IsValue; flags = c; length = d }) → (a ≡ c) × (b ≡ d)
+pub meta_parts : (a b c d : ℕ) → a < 2 ^ 32 → b ≤ 1024 → c < 2 ^ 32 → d ≤ 1024 → meta_word (record { kind = IsValue; flags = a; length = b }) ≡ meta_word (record { kind = IsValue; flags = c; length = d }) → (a ≡ c) × (b ≡ d)
 meta_parts a b c d ha hb hc hd e = (omega arith, omega arith)
 
 pub short_enough : (p : Pool) (n : ℕ) → n ≤ 8 * p.words → n ≤ 1024

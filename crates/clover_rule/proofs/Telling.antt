@@ -19,7 +19,7 @@ use Rattle.clover_rule.specs.Memory.{Next, Mem, gen, link, home}
 use Rattle.clover_rule.specs.Server.{Ready}
 use Rattle.clover_rule.specs.Steps.{Step, Asks, LoadNext, DecideNext, RaiseNext, LinkNext, StoreContent, FlushContent, LoadContent, ReadRoot, ReadShort, StoreShort, ReadCount, AbsentCount, word_of, side_of, next_view, next_history, found, words_after_step}
 use Rattle.clover_rule.specs.Story.{Story, Durable, tag_at}
-use Rattle.clover_rule.specs.Told.{Facts, IsShown, Told, TableLaw}
+use Rattle.clover_rule.specs.Told.{Facts, IsShown, ToldAt, Told, TableLaw}
 use Rattle.clover_rule.specs.Words.{buffer_at, content_at, mem_of}
 use Rattle.clover_rule.specs.declared.view.View.{View}
 use Rattle.clover_rule.proofs.Steps.{each_map, within_prefix, set_here}
@@ -126,22 +126,22 @@ module _ (p : Pool) (first : Tagged) (used : List ℕ) (ws : List ℕ) (vs : Lis
   number_shown ReadCount hw = tt
   number_shown (AbsentCount c) hw = tt
 
--- what a step tells
-pub told : (p : Pool) (first : Tagged) (used : List ℕ) (ws : List ℕ) (vs : List View) (h : List Entry) (id : ℕ) (v : View) → IsMet p first used ws vs h → nth vs id ≡ Some v → (a : Step) (b : Bool) → Asks p a v → Told p a b v (found p a ws) (next_view b a h v (found p a ws))
-told p first used ws vs h id v (st, r) at a b asks =
+-- what a step tells, where these are the words and the history
+pub told_at : (p : Pool) (first : Tagged) (used : List ℕ) (ws : List ℕ) (vs : List View) (st : Story) (h : List Entry) → Meets p first used ws vs st h → (id : ℕ) (v : View) → nth vs id ≡ Some v → (a : Step) (b : Bool) → Asks p a v → ToldAt p ws h a b v (found p a ws) (next_view b a h v (found p a ws))
+told_at p first used ws vs st h r id v at a b asks =
     let w : View = next_view b a h v (found p a ws) in
-    let after = keeps p first used ws vs st h r id v at a b asks in (
-      ws,
-      h,
-      record {
-        here = refl;
-        before = facts p first used ws vs st h r id v at;
-        number = number_shown p first used ws vs st h r a asks.0;
-        says = says p first used ws vs st h r id v at a asks;
-        next = refl;
-        after = facts p first used (words_after_step p a ws) (slice_set vs id w) after.0 (next_history a h v (found p a ws)) after.1 id w (set_here vs id w v at);
-      },
-    )
+    let after = keeps p first used ws vs st h r id v at a b asks in
+    record {
+      here = refl;
+      before = facts p first used ws vs st h r id v at;
+      number = number_shown p first used ws vs st h r a asks.0;
+      says = says p first used ws vs st h r id v at a asks;
+      next = refl;
+      after = facts p first used (words_after_step p a ws) (slice_set vs id w) after.0 (next_history a h v (found p a ws)) after.1 id w (set_here vs id w v at);
+    }
+
+pub told : (p : Pool) (first : Tagged) (used : List ℕ) (ws : List ℕ) (vs : List View) (h : List Entry) (id : ℕ) (v : View) → IsMet p first used ws vs h → nth vs id ≡ Some v → (a : Step) (b : Bool) → Asks p a v → Told p a b v (found p a ws) (next_view b a h v (found p a ws))
+told p first used ws vs h id v (st, r) at a b asks = (ws, h, told_at p first used ws vs st h r id v at a b asks)
 
 pub table_law : TableLaw
 table_law S p first used slots id me a b then asks tells s (h, met) len at fits =

@@ -19,7 +19,8 @@ pub value_is : (b j : ℕ) → 0 < j → ValueOf (buffer_at b) (j - 1) ≡ conte
 value_is b zero less = absurd (omega arith)
 value_is b (suc k) less = let e : suc k - 1 ≡ k = omega arith in ap (ValueOf (buffer_at b)) e
 
-place_again : (b j : ℕ) → place_in (content_at b j) ≡ j
+-- the place of a content word is read from its name again
+pub place_again : (b j : ℕ) → place_in (content_at b j) ≡ j
 place_again b zero = refl
 place_again b (suc k) = refl
 

@@ -9,6 +9,6 @@ mod turn;
 mod walk;
 
 pub use reach::{load_next, raise_next};
-pub use tail::{load_content, load_last};
+pub use tail::{buffer_of, content_word, load_content, load_last};
 pub use turn::Turn;
 pub use walk::Walk;

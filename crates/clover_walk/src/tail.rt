@@ -1,6 +1,6 @@
 // The accesses at a slot's tail that the calls share. The caller names the step by M.
 ghost use Rattle.std.specs.Prelude.{◌≡◌, ◌≤◌, ℕ, false, IfOk, OnOk, OnErr};
-ghost use Rattle.clover_words.specs.Tag.{tag_number};
+ghost use Rattle.clover_words.specs.Tag.{IsTag, tag_number};
 ghost use Rattle.clover_rule.specs.Steps.{LoadContent, Asks};
 ghost use Rattle.clover_rule.specs.Words.{content_at, buffer_at};
 ghost use Rattle.clover_rule.specs.Memory.{home};
@@ -12,9 +12,11 @@ use clover_port::{Failed, Port, load_as};
 use clover_rule::StepName;
 use clover_words::{Buffer, Tag, Word};
 
-// The buffer of a tag.
-fn buffer_of(tag: Tag) -> Buffer
-    ensures { result ≡ buffer_at (home (tag_number tag)) }
+/// The buffer of a tag.
+pub fn buffer_of(tag: Tag) -> Buffer
+    ensures value { result ≡ buffer_at (home (tag_number tag)) }
+    // The parts of the tag are in their ranges, as its type says.
+    ensures tag { IsTag tag }
 {
     Buffer {
         node: tag.node,
@@ -22,8 +24,8 @@ fn buffer_of(tag: Tag) -> Buffer
     }
 }
 
-// The content word at this place of the tag's buffer.
-fn content_word(tag: Tag, place: u32) -> Word
+/// The content word at this place of the tag's buffer: the meta word at 0, value word k at k + 1.
+pub fn content_word(tag: Tag, place: u32) -> Word
     ensures { result ≡ content_at (home (tag_number tag)) place }
 {
     let buffer = buffer_of(tag);

@@ -7,6 +7,6 @@ use Rattle.clover_walk.proofs.tail.buffer_of.Goals as goal
 buffer_part : TagParts → Buffer
 buffer_part t = record { node = t.node; index = t.index }
 
-pub returns : goal.returns
+pub returns-clause-value : goal.returns-clause-value
 unfolding buffer_part
-returns c = ap buffer_part c.tag.view_is ∙ sym (buffer_tag c.args.tag (subst IsTag c.tag.view_is c.tag.invariant))
+returns-clause-value c = ap buffer_part c.tag.view_is ∙ sym (buffer_tag c.args.tag (subst IsTag c.tag.view_is c.tag.invariant))

@@ -15,7 +15,7 @@ views_are : (c : After-new-2) → views_of c.in_ok-seats.seats.items ≡ replica
 views_are c = c.in_ok-seats.ensures.seats.1 ∙ ap (replicate c.args.setup.clients) (key_is c)
 
 abbrev made : After-new-2 → Plain
-made c = meaning record { setup = c.args.setup; words = c.in_ok-words.words; seats = c.in_ok-seats.seats; knowing = c.in_ok-knowing.knowing; begun = c.in_ok-beginning.begun; beginning = c.in_ok-beginning.beginning; entries = c.new.result; traced = c.args.trace; trace = record { list = c.new-2.result }; made = 0; opened = false; whole = true }
+made c = meaning record { setup = c.args.setup; words = c.in_ok-words.words; seats = c.in_ok-seats.seats; knowing = c.in_ok-knowing.knowing; begun = c.in_ok-beginning.begun; beginning = c.in_ok-beginning.beginning; entries = c.new.result; traced = c.args.trace; trace = c.new-2.result; made = 0; opened = false; whole = true }
 
 blank : (c : After-new-2) → IsBlank (made c)
 blank c = record {

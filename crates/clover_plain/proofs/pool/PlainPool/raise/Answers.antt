@@ -51,7 +51,7 @@ stepped g c = record {
   found = found_as (inside_pool g c) c.self.inside.words.items (step g c) (act g c) c.requires.step c.place_of-at.result c.raise_at-found.result c.place_of-at.ensures.value c.raise_at-found.ensures.found;
   words = words_are g c;
   views = c.set_view.ensures.views (view_at (before g c) c.args.seat) (nth_default (before g c).views c.args.seat (outset c.self.inside.setup) (below g c));
-  accesses = c.note.ensures.list ∙ ap (λ x. grown (c.self.inside.traced && c.args.list) c.self.inside.trace.list.items x) (access_as (step g c) (act g c) c.requires.step c.args.seat c.raise_at-found.result false);
+  accesses = c.note.ensures.list ∙ ap (λ x. grown (c.self.inside.traced && c.args.list) c.self.inside.trace.items x) (access_as (step g c) (act g c) c.requires.step c.args.seat c.raise_at-found.result false);
   made = c.saturating_add-self-inside.ensures;
   whole = refl;
   same = record { setup = refl; start = refl; entries = refl; traced = refl; opened = refl; entry_room = refl };

@@ -20,7 +20,7 @@ refused : (c : After-note) → Refused c.args.act c.args.seat (before c) (then c
 refused c = record {
   words = refl;
   views = refl;
-  accesses = c.note.ensures.list ∙ ap (λ (n : ℕ). grown c.self.inside.traced c.self.inside.trace.list.items (record { actor = Client n; act = c.args.act; refused = true })) (add-one c.args.seat);
+  accesses = c.note.ensures.list ∙ ap (λ (n : ℕ). grown c.self.inside.traced c.self.inside.trace.items (record { actor = Client n; act = c.args.act; refused = true })) (add-one c.args.seat);
   made = refl;
   whole = refl;
   same = record { setup = refl; start = refl; entries = refl; traced = refl; opened = refl; entry_room = refl };
