@@ -75,6 +75,7 @@ impl GetCall {
         ensures ends { OnOver result (self.new.stage ≡ Over) }
         ensures bound { OnReached result (length (P.view port.new).pass.since ≤ most_accesses (P.pool port.old) (P.view port.new).pass.turns) }
         ensures same { (P.pool port.new ≡ P.pool port.old) × (P.table port.new ≡ P.table port.old) × (P.lender port.new ≡ P.lender port.old) }
+        ensures accessed { P.accessed port.old port.new }
         ensures count { P.faults port.old ≤ P.faults port.new }
         ensures kept { OnReached result (P.faults port.new ≡ P.faults port.old) }
         ensures exact { ExactGet (P.refuses port.old) result }
@@ -89,6 +90,7 @@ impl GetCall {
         requires holds { GetHolds self.old (P.view port.old) into.old }
         ensures went { Went (P.pool port.old) (P.faults port.old) (P.faults port.new) self.old self.new into.old into.new (P.view port.old) (P.told port.old) (P.view port.new) (P.told port.new) result }
         ensures same { (P.pool port.new ≡ P.pool port.old) × (P.table port.new ≡ P.table port.old) × (P.lender port.new ≡ P.lender port.old) }
+        ensures accessed { P.accessed port.old port.new }
         ensures count { P.faults port.old ≤ P.faults port.new }
         ensures kept { OnReached result (P.faults port.new ≡ P.faults port.old) }
         ensures exact { ExactGet (P.refuses port.old) result }
@@ -112,6 +114,7 @@ impl GetCall {
         requires holds { GetHolds self.old (P.view port.old) into.old }
         ensures went { Went (P.pool port.old) (P.faults port.old) (P.faults port.new) self.old self.new into.old into.new (P.view port.old) (P.told port.old) (P.view port.new) (P.told port.new) result }
         ensures same { (P.pool port.new ≡ P.pool port.old) × (P.table port.new ≡ P.table port.old) × (P.lender port.new ≡ P.lender port.old) }
+        ensures accessed { P.accessed port.old port.new }
         ensures count { P.faults port.old ≤ P.faults port.new }
         ensures kept { OnReached result (P.faults port.new ≡ P.faults port.old) }
         ensures exact { ExactGet (P.refuses port.old) result }
@@ -128,6 +131,7 @@ impl GetCall {
         requires holds { GetHolds self.old (P.view port.old) into.old }
         ensures went { Went (P.pool port.old) (P.faults port.old) (P.faults port.new) self.old self.new into.old into.new (P.view port.old) (P.told port.old) (P.view port.new) (P.told port.new) result }
         ensures same { (P.pool port.new ≡ P.pool port.old) × (P.table port.new ≡ P.table port.old) × (P.lender port.new ≡ P.lender port.old) }
+        ensures accessed { P.accessed port.old port.new }
         ensures count { P.faults port.old ≤ P.faults port.new }
         ensures kept { OnReached result (P.faults port.new ≡ P.faults port.old) }
         ensures exact { ExactGet (P.refuses port.old) result }
@@ -155,6 +159,7 @@ impl GetCall {
         requires holds { GetHolds self.old (P.view port.old) into.old }
         ensures went { Went (P.pool port.old) (P.faults port.old) (P.faults port.new) self.old self.new into.old into.new (P.view port.old) (P.told port.old) (P.view port.new) (P.told port.new) result }
         ensures same { (P.pool port.new ≡ P.pool port.old) × (P.table port.new ≡ P.table port.old) × (P.lender port.new ≡ P.lender port.old) }
+        ensures accessed { P.accessed port.old port.new }
         ensures count { P.faults port.old ≤ P.faults port.new }
         ensures kept { OnReached result (P.faults port.new ≡ P.faults port.old) }
         ensures exact { ExactGet (P.refuses port.old) result }
@@ -182,6 +187,7 @@ impl GetCall {
         requires holds { GetHolds self.old (P.view port.old) into.old }
         ensures went { Went (P.pool port.old) (P.faults port.old) (P.faults port.new) self.old self.new into.old into.new (P.view port.old) (P.told port.old) (P.view port.new) (P.told port.new) result }
         ensures same { (P.pool port.new ≡ P.pool port.old) × (P.table port.new ≡ P.table port.old) × (P.lender port.new ≡ P.lender port.old) }
+        ensures accessed { P.accessed port.old port.new }
         ensures count { P.faults port.old ≤ P.faults port.new }
         ensures kept { OnReached result (P.faults port.new ≡ P.faults port.old) }
         ensures exact { ExactGet (P.refuses port.old) result }
@@ -206,6 +212,7 @@ impl GetCall {
         requires holds { GetHolds self.old (P.view port.old) into.old }
         ensures went { Went (P.pool port.old) (P.faults port.old) (P.faults port.new) self.old self.new into.old into.new (P.view port.old) (P.told port.old) (P.view port.new) (P.told port.new) result }
         ensures same { (P.pool port.new ≡ P.pool port.old) × (P.table port.new ≡ P.table port.old) × (P.lender port.new ≡ P.lender port.old) }
+        ensures accessed { P.accessed port.old port.new }
         ensures count { P.faults port.old ≤ P.faults port.new }
         ensures kept { OnReached result (P.faults port.new ≡ P.faults port.old) }
         ensures exact { ExactGet (P.refuses port.old) result }
@@ -231,6 +238,7 @@ impl GetCall {
         requires holds { GetHolds self.old (P.view port.old) into.old }
         ensures went { Went (P.pool port.old) (P.faults port.old) (P.faults port.new) self.old self.new into.old into.new (P.view port.old) (P.told port.old) (P.view port.new) (P.told port.new) result }
         ensures same { (P.pool port.new ≡ P.pool port.old) × (P.table port.new ≡ P.table port.old) × (P.lender port.new ≡ P.lender port.old) }
+        ensures accessed { P.accessed port.old port.new }
         ensures count { P.faults port.old ≤ P.faults port.new }
         ensures kept { OnReached result (P.faults port.new ≡ P.faults port.old) }
         ensures exact { ExactGet (P.refuses port.old) result }

@@ -29,6 +29,7 @@ pub fn load_found<P: Port, M: StepName>(
     ensures made { IfOk result (λ x. Made (P.pool port.old) (DecideNext slot (tag_number tag) (Get (key_at (P.view port.old).pass.names slot)) (Found (tag_number tag) (value_in flags into.now))) false (P.view port.old) (P.told port.old) x (P.view port.new) (P.told port.new)) }
     ensures failed { OnErr result (Rose (P.faults port.old) (P.faults port.new) × (P.view port.new ≡ P.view port.old) × (P.told port.new ≡ P.told port.old)) }
     ensures same { (P.pool port.new ≡ P.pool port.old) × (P.table port.new ≡ P.table port.old) × (P.lender port.new ≡ P.lender port.old) }
+    ensures accessed { P.accessed port.old port.new }
     ensures count { P.faults port.old ≤ P.faults port.new }
     ensures kept { OnOk result (P.faults port.new ≡ P.faults port.old) }
     ensures exact { Exact (P.refuses port.old) result }
@@ -46,6 +47,7 @@ pub fn load_dead<P: Port, M: StepName>(port: &mut P, slot: u32, tag: Tag) -> Res
     ensures made { IfOk result (λ x. Made (P.pool port.old) (DecideNext slot (tag_number tag) (Get (key_at (P.view port.old).pass.names slot)) Absent) false (P.view port.old) (P.told port.old) x (P.view port.new) (P.told port.new)) }
     ensures failed { OnErr result (Rose (P.faults port.old) (P.faults port.new) × (P.view port.new ≡ P.view port.old) × (P.told port.new ≡ P.told port.old)) }
     ensures same { (P.pool port.new ≡ P.pool port.old) × (P.table port.new ≡ P.table port.old) × (P.lender port.new ≡ P.lender port.old) }
+    ensures accessed { P.accessed port.old port.new }
     ensures count { P.faults port.old ≤ P.faults port.new }
     ensures kept { OnOk result (P.faults port.new ≡ P.faults port.old) }
     ensures exact { Exact (P.refuses port.old) result }

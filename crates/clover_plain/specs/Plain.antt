@@ -1,5 +1,5 @@
 -- What contracts see of a plain pool, and how an access changes it.
-use Rattle.std.specs.Prelude.{◌≡◌, ℕ, ◌+◌, ◌-◌, ◌^◌, ◌≤◌, ◌&&◌, min, slice_index_or, slice_set, List, [], ◌∷◌, ◌++◌, length, Bool, true, false}
+use Rattle.std.specs.Prelude.{◌≡◌, ℕ, ◌+◌, ◌-◌, ◌^◌, ◌≤◌, ◌&&◌, ◌⊎◌, min, slice_index_or, slice_set, List, [], ◌∷◌, ◌++◌, length, Bool, true, false}
 use Prim.Native.Nat.{suc}
 use Rattle.std.specs.FinMap as finite
 use Rattle.atomic_table.specs.Seated.{TableId}
@@ -152,6 +152,10 @@ pub record Refused (a : Act) (seat : ℕ) (p q : Plain) : Type 0 where
   pub made : q.made ≡ p.made
   pub whole : q.whole ≡ p.whole
   pub same : Same p q
+
+-- The actor of a seat made one access, some step, or one was refused.
+abbrev pub Accessed : ℕ → Bool → Plain → Plain → Type 0
+Accessed seat list p q = ((a : Step) × (b : Bool) × (x : ℕ) × Stepped a b list seat x p q) ⊎ ((a : Step) × Refused (act_of a 0) seat p q)
 
 -- the same but for the room
 pub record Kept (p q : Plain) : Type 0 where

@@ -3,7 +3,7 @@ ghost use Rattle.std.specs.Prelude.{◌≡◌, ◌≤◌, ◌<◌, ◌&&◌, ◌
 ghost use Rattle.clover_rule.specs.Steps.{Asks, act_of};
 ghost use Rattle.clover_rule.specs.Meant.{load_step, store_step, exchange_step, raise_step, IsLoad, IsStore, IsExchange, IsRaise};
 ghost use Rattle.clover_port.specs.Told.{Made, MadeBlind, Rose, Exact};
-ghost use Rattle.clover_plain.specs.Plain.{Stepped, Refused, view_at, open_of, no_table};
+ghost use Rattle.clover_plain.specs.Plain.{Stepped, Refused, Accessed, view_at, open_of, no_table};
 
 use crate::pool::PlainPool;
 use clover_port::{Failed, Port};
@@ -30,8 +30,8 @@ pub struct PlainPort<'a> {
 }
 
 impl<'a> Port for PlainPort<'a> {
-    ghost use Rattle.std.specs.Prelude.{Some};
-    ghost use Rattle.clover_plain.specs.Plain.{open_of, view_at, no_table};
+    ghost use Rattle.std.specs.Prelude.{◌≡◌, Some};
+    ghost use Rattle.clover_plain.specs.Plain.{open_of, view_at, no_table, Accessed};
 
     ghost view = { λ p. view_at p.pool.now p.seat };
 
@@ -43,6 +43,8 @@ impl<'a> Port for PlainPort<'a> {
 
     ghost lender = { λ p. p.pool.ghost_name };
 
+    ghost accessed = { λ p q. (q.seat ≡ p.seat) × Accessed p.seat p.list p.pool.now q.pool.now };
+
     ghost faults = { λ p. p.faults };
 
     ghost refuses = { λ p. Some p.refuse };
@@ -53,6 +55,7 @@ impl<'a> Port for PlainPort<'a> {
         ensures made { IfOk result (λ x. Made self.old.pool.now.setup.pool (load_step M.kind M.slot M.tag M.call M.reply word) M.first (view_at self.old.pool.now self.old.seat) (Some (open_of self.old.pool.now)) x (view_at self.new.pool.now self.new.seat) (Some (open_of self.new.pool.now))) }
         ensures failed { OnErr result (Rose self.old.faults self.new.faults × (view_at self.new.pool.now self.new.seat ≡ view_at self.old.pool.now self.old.seat) × (Some (open_of self.new.pool.now) ≡ Some (open_of self.old.pool.now))) }
         ensures same { (self.new.pool.now.setup.pool ≡ self.old.pool.now.setup.pool) × (no_table ≡ no_table) × (self.new.pool.ghost_name ≡ self.old.pool.ghost_name) }
+        ensures accessed { (self.new.seat ≡ self.old.seat) × Accessed self.old.seat self.old.list self.old.pool.now self.new.pool.now }
         ensures count { self.old.faults ≤ self.new.faults }
         ensures kept { OnOk result (self.new.faults ≡ self.old.faults) }
         ensures exact { Exact (Some self.old.refuse) result }
@@ -75,6 +78,7 @@ impl<'a> Port for PlainPort<'a> {
         ensures made { OnOk result (MadeBlind self.old.pool.now.setup.pool (store_step M.kind M.slot M.tag word side value) M.first (view_at self.old.pool.now self.old.seat) (Some (open_of self.old.pool.now)) (view_at self.new.pool.now self.new.seat) (Some (open_of self.new.pool.now))) }
         ensures failed { OnErr result (Rose self.old.faults self.new.faults × (view_at self.new.pool.now self.new.seat ≡ view_at self.old.pool.now self.old.seat) × (Some (open_of self.new.pool.now) ≡ Some (open_of self.old.pool.now))) }
         ensures same { (self.new.pool.now.setup.pool ≡ self.old.pool.now.setup.pool) × (no_table ≡ no_table) × (self.new.pool.ghost_name ≡ self.old.pool.ghost_name) }
+        ensures accessed { (self.new.seat ≡ self.old.seat) × Accessed self.old.seat self.old.list self.old.pool.now self.new.pool.now }
         ensures count { self.old.faults ≤ self.new.faults }
         ensures kept { OnOk result (self.new.faults ≡ self.old.faults) }
         ensures exact { Exact (Some self.old.refuse) result }
@@ -98,6 +102,7 @@ impl<'a> Port for PlainPort<'a> {
         ensures made { IfOk result (λ x. Made self.old.pool.now.setup.pool (exchange_step M.slot M.tag M.call new) M.first (view_at self.old.pool.now self.old.seat) (Some (open_of self.old.pool.now)) x (view_at self.new.pool.now self.new.seat) (Some (open_of self.new.pool.now))) }
         ensures failed { OnErr result (Rose self.old.faults self.new.faults × (view_at self.new.pool.now self.new.seat ≡ view_at self.old.pool.now self.old.seat) × (Some (open_of self.new.pool.now) ≡ Some (open_of self.old.pool.now))) }
         ensures same { (self.new.pool.now.setup.pool ≡ self.old.pool.now.setup.pool) × (no_table ≡ no_table) × (self.new.pool.ghost_name ≡ self.old.pool.ghost_name) }
+        ensures accessed { (self.new.seat ≡ self.old.seat) × Accessed self.old.seat self.old.list self.old.pool.now self.new.pool.now }
         ensures count { self.old.faults ≤ self.new.faults }
         ensures kept { OnOk result (self.new.faults ≡ self.old.faults) }
         ensures exact { Exact (Some self.old.refuse) result }
@@ -128,6 +133,7 @@ impl<'a> Port for PlainPort<'a> {
         ensures made { IfOk result (λ x. Made self.old.pool.now.setup.pool (raise_step M.slot M.tag value) M.first (view_at self.old.pool.now self.old.seat) (Some (open_of self.old.pool.now)) x (view_at self.new.pool.now self.new.seat) (Some (open_of self.new.pool.now))) }
         ensures failed { OnErr result (Rose self.old.faults self.new.faults × (view_at self.new.pool.now self.new.seat ≡ view_at self.old.pool.now self.old.seat) × (Some (open_of self.new.pool.now) ≡ Some (open_of self.old.pool.now))) }
         ensures same { (self.new.pool.now.setup.pool ≡ self.old.pool.now.setup.pool) × (no_table ≡ no_table) × (self.new.pool.ghost_name ≡ self.old.pool.ghost_name) }
+        ensures accessed { (self.new.seat ≡ self.old.seat) × Accessed self.old.seat self.old.list self.old.pool.now self.new.pool.now }
         ensures count { self.old.faults ≤ self.new.faults }
         ensures kept { OnOk result (self.new.faults ≡ self.old.faults) }
         ensures exact { Exact (Some self.old.refuse) result }

@@ -35,6 +35,10 @@ pub trait Port {
     /// What the port borrows to change: the name of the `&mut` in it.
     ghost lender: { Self → ℕ };
 
+    /// What one access, made or refused, leaves of the port. It may say more of the pool behind it than the other
+    /// meanings do, for a caller that knows which port it has.
+    ghost accessed: { Self → Self → Type 0 };
+
     /// How often an access was refused. The count stands still at its type's end.
     ghost faults: { Self → ℕ };
 
@@ -48,6 +52,7 @@ pub trait Port {
         ensures made { IfOk result (λ x. Made (pool self.old) (load_step M.kind M.slot M.tag M.call M.reply word) M.first (view self.old) (told self.old) x (view self.new) (told self.new)) }
         ensures failed { OnErr result (Rose (faults self.old) (faults self.new) × (view self.new ≡ view self.old) × (told self.new ≡ told self.old)) }
         ensures same { (pool self.new ≡ pool self.old) × (table self.new ≡ table self.old) × (lender self.new ≡ lender self.old) }
+        ensures accessed { accessed self.old self.new }
         ensures count { faults self.old ≤ faults self.new }
         ensures kept { OnOk result (faults self.new ≡ faults self.old) }
         ensures exact { Exact (refuses self.old) result };
@@ -59,6 +64,7 @@ pub trait Port {
         ensures made { OnOk result (MadeBlind (pool self.old) (store_step M.kind M.slot M.tag word side value) M.first (view self.old) (told self.old) (view self.new) (told self.new)) }
         ensures failed { OnErr result (Rose (faults self.old) (faults self.new) × (view self.new ≡ view self.old) × (told self.new ≡ told self.old)) }
         ensures same { (pool self.new ≡ pool self.old) × (table self.new ≡ table self.old) × (lender self.new ≡ lender self.old) }
+        ensures accessed { accessed self.old self.new }
         ensures count { faults self.old ≤ faults self.new }
         ensures kept { OnOk result (faults self.new ≡ faults self.old) }
         ensures exact { Exact (refuses self.old) result };
@@ -71,6 +77,7 @@ pub trait Port {
         ensures made { IfOk result (λ x. Made (pool self.old) (exchange_step M.slot M.tag M.call new) M.first (view self.old) (told self.old) x (view self.new) (told self.new)) }
         ensures failed { OnErr result (Rose (faults self.old) (faults self.new) × (view self.new ≡ view self.old) × (told self.new ≡ told self.old)) }
         ensures same { (pool self.new ≡ pool self.old) × (table self.new ≡ table self.old) × (lender self.new ≡ lender self.old) }
+        ensures accessed { accessed self.old self.new }
         ensures count { faults self.old ≤ faults self.new }
         ensures kept { OnOk result (faults self.new ≡ faults self.old) }
         ensures exact { Exact (refuses self.old) result };
@@ -83,6 +90,7 @@ pub trait Port {
         ensures made { IfOk result (λ x. Made (pool self.old) (raise_step M.slot M.tag value) M.first (view self.old) (told self.old) x (view self.new) (told self.new)) }
         ensures failed { OnErr result (Rose (faults self.old) (faults self.new) × (view self.new ≡ view self.old) × (told self.new ≡ told self.old)) }
         ensures same { (pool self.new ≡ pool self.old) × (table self.new ≡ table self.old) × (lender self.new ≡ lender self.old) }
+        ensures accessed { accessed self.old self.new }
         ensures count { faults self.old ≤ faults self.new }
         ensures kept { OnOk result (faults self.new ≡ faults self.old) }
         ensures exact { Exact (refuses self.old) result };
@@ -95,6 +103,7 @@ pub fn load_as<P: Port, M: StepName>(port: &mut P, word: Word) -> Result<u64, Fa
     ensures made { IfOk result (λ x. Made (P.pool port.old) (load_step M.kind M.slot M.tag M.call M.reply word) M.first (P.view port.old) (P.told port.old) x (P.view port.new) (P.told port.new)) }
     ensures failed { OnErr result (Rose (P.faults port.old) (P.faults port.new) × (P.view port.new ≡ P.view port.old) × (P.told port.new ≡ P.told port.old)) }
     ensures same { (P.pool port.new ≡ P.pool port.old) × (P.table port.new ≡ P.table port.old) × (P.lender port.new ≡ P.lender port.old) }
+    ensures accessed { P.accessed port.old port.new }
     ensures count { P.faults port.old ≤ P.faults port.new }
     ensures kept { OnOk result (P.faults port.new ≡ P.faults port.old) }
     ensures exact { Exact (P.refuses port.old) result }
@@ -114,6 +123,7 @@ pub fn store_as<P: Port, M: StepName>(
     ensures made { OnOk result (MadeBlind (P.pool port.old) (store_step M.kind M.slot M.tag word side value) M.first (P.view port.old) (P.told port.old) (P.view port.new) (P.told port.new)) }
     ensures failed { OnErr result (Rose (P.faults port.old) (P.faults port.new) × (P.view port.new ≡ P.view port.old) × (P.told port.new ≡ P.told port.old)) }
     ensures same { (P.pool port.new ≡ P.pool port.old) × (P.table port.new ≡ P.table port.old) × (P.lender port.new ≡ P.lender port.old) }
+    ensures accessed { P.accessed port.old port.new }
     ensures count { P.faults port.old ≤ P.faults port.new }
     ensures kept { OnOk result (P.faults port.new ≡ P.faults port.old) }
     ensures exact { Exact (P.refuses port.old) result }
@@ -133,6 +143,7 @@ pub fn exchange_as<P: Port, M: StepName>(
     ensures made { IfOk result (λ x. Made (P.pool port.old) (exchange_step M.slot M.tag M.call new) M.first (P.view port.old) (P.told port.old) x (P.view port.new) (P.told port.new)) }
     ensures failed { OnErr result (Rose (P.faults port.old) (P.faults port.new) × (P.view port.new ≡ P.view port.old) × (P.told port.new ≡ P.told port.old)) }
     ensures same { (P.pool port.new ≡ P.pool port.old) × (P.table port.new ≡ P.table port.old) × (P.lender port.new ≡ P.lender port.old) }
+    ensures accessed { P.accessed port.old port.new }
     ensures count { P.faults port.old ≤ P.faults port.new }
     ensures kept { OnOk result (P.faults port.new ≡ P.faults port.old) }
     ensures exact { Exact (P.refuses port.old) result }
@@ -147,6 +158,7 @@ pub fn raise_as<P: Port, M: StepName>(port: &mut P, word: Word, value: u64) -> R
     ensures made { IfOk result (λ x. Made (P.pool port.old) (raise_step M.slot M.tag value) M.first (P.view port.old) (P.told port.old) x (P.view port.new) (P.told port.new)) }
     ensures failed { OnErr result (Rose (P.faults port.old) (P.faults port.new) × (P.view port.new ≡ P.view port.old) × (P.told port.new ≡ P.told port.old)) }
     ensures same { (P.pool port.new ≡ P.pool port.old) × (P.table port.new ≡ P.table port.old) × (P.lender port.new ≡ P.lender port.old) }
+    ensures accessed { P.accessed port.old port.new }
     ensures count { P.faults port.old ≤ P.faults port.new }
     ensures kept { OnOk result (P.faults port.new ≡ P.faults port.old) }
     ensures exact { Exact (P.refuses port.old) result }

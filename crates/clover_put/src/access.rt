@@ -57,6 +57,7 @@ pub fn store_content<P: Port, M: StepName>(
     ensures made { OnOk result (MadeBlind (P.pool port.old) (StoreContent (tag_number tag) place value) first (P.view port.old) (P.told port.old) (P.view port.new) (P.told port.new)) }
     ensures failed { OnErr result (Rose (P.faults port.old) (P.faults port.new) × (P.view port.new ≡ P.view port.old) × (P.told port.new ≡ P.told port.old)) }
     ensures same { (P.pool port.new ≡ P.pool port.old) × (P.table port.new ≡ P.table port.old) × (P.lender port.new ≡ P.lender port.old) }
+    ensures accessed { P.accessed port.old port.new }
     ensures count { P.faults port.old ≤ P.faults port.new }
     ensures kept { OnOk result (P.faults port.new ≡ P.faults port.old) }
     ensures exact { Exact (P.refuses port.old) result }
@@ -77,6 +78,7 @@ pub fn flush_content<P: Port, M: StepName>(
     ensures made { OnOk result (MadeBlind (P.pool port.old) (FlushContent (tag_number tag) place value) false (P.view port.old) (P.told port.old) (P.view port.new) (P.told port.new)) }
     ensures failed { OnErr result (Rose (P.faults port.old) (P.faults port.new) × (P.view port.new ≡ P.view port.old) × (P.told port.new ≡ P.told port.old)) }
     ensures same { (P.pool port.new ≡ P.pool port.old) × (P.table port.new ≡ P.table port.old) × (P.lender port.new ≡ P.lender port.old) }
+    ensures accessed { P.accessed port.old port.new }
     ensures count { P.faults port.old ≤ P.faults port.new }
     ensures kept { OnOk result (P.faults port.new ≡ P.faults port.old) }
     ensures exact { Exact (P.refuses port.old) result }
@@ -100,6 +102,7 @@ pub fn link_own<P: Port, M: StepName>(
     ensures made { IfOk result (λ x. Made (P.pool port.old) (LinkNext slot (tag_number tail) (tag_number own) (call_of job (key_at (P.view port.old).pass.names slot) (record { flags = flags; bytes = bytes.now }))) false (P.view port.old) (P.told port.old) x (P.view port.new) (P.told port.new)) }
     ensures failed { OnErr result (Rose (P.faults port.old) (P.faults port.new) × (P.view port.new ≡ P.view port.old) × (P.told port.new ≡ P.told port.old)) }
     ensures same { (P.pool port.new ≡ P.pool port.old) × (P.table port.new ≡ P.table port.old) × (P.lender port.new ≡ P.lender port.old) }
+    ensures accessed { P.accessed port.old port.new }
     ensures count { P.faults port.old ≤ P.faults port.new }
     ensures kept { OnOk result (P.faults port.new ≡ P.faults port.old) }
     ensures exact { Exact (P.refuses port.old) result }
@@ -128,6 +131,7 @@ pub fn load_dead<P: Port, M: StepName>(
     ensures made { IfOk result (λ x. Made (P.pool port.old) (DecideNext slot (tag_number tail) (call_of job (key_at (P.view port.old).pass.names slot) (record { flags = flags; bytes = bytes.now })) Absent) false (P.view port.old) (P.told port.old) x (P.view port.new) (P.told port.new)) }
     ensures failed { OnErr result (Rose (P.faults port.old) (P.faults port.new) × (P.view port.new ≡ P.view port.old) × (P.told port.new ≡ P.told port.old)) }
     ensures same { (P.pool port.new ≡ P.pool port.old) × (P.table port.new ≡ P.table port.old) × (P.lender port.new ≡ P.lender port.old) }
+    ensures accessed { P.accessed port.old port.new }
     ensures count { P.faults port.old ≤ P.faults port.new }
     ensures kept { OnOk result (P.faults port.new ≡ P.faults port.old) }
     ensures exact { Exact (P.refuses port.old) result }
@@ -152,6 +156,7 @@ pub fn load_other<P: Port, M: StepName>(
     ensures made { IfOk result (λ x. Made (P.pool port.old) (DecideNext slot (tag_number tail) (call_of job (key_at (P.view port.old).pass.names slot) (record { flags = flags; bytes = bytes.now })) (Differs (tag_number tail))) false (P.view port.old) (P.told port.old) x (P.view port.new) (P.told port.new)) }
     ensures failed { OnErr result (Rose (P.faults port.old) (P.faults port.new) × (P.view port.new ≡ P.view port.old) × (P.told port.new ≡ P.told port.old)) }
     ensures same { (P.pool port.new ≡ P.pool port.old) × (P.table port.new ≡ P.table port.old) × (P.lender port.new ≡ P.lender port.old) }
+    ensures accessed { P.accessed port.old port.new }
     ensures count { P.faults port.old ≤ P.faults port.new }
     ensures kept { OnOk result (P.faults port.new ≡ P.faults port.old) }
     ensures exact { Exact (P.refuses port.old) result }

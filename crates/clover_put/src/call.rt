@@ -145,6 +145,7 @@ impl PutCall {
         ensures stands { OnGoing result (PutHolds self.new (P.view port.new)) }
         ensures bound { OnReached result (length (P.view port.new).pass.since ≤ turn_bound self.old.walk.pool (P.view port.new).pass.turns) }
         ensures same { (P.pool port.new ≡ P.pool port.old) × (P.table port.new ≡ P.table port.old) × (P.lender port.new ≡ P.lender port.old) }
+        ensures accessed { P.accessed port.old port.new }
         ensures count { P.faults port.old ≤ P.faults port.new }
         ensures kept { OnReached result (P.faults port.new ≡ P.faults port.old) }
     {
@@ -284,6 +285,7 @@ impl PutCall {
         requires holds { PutHolds self.old (P.view port.old) }
         ensures done { PutStep (P.pool port.old) self.old (P.view port.old) (P.told port.old) (P.faults port.old) self.new (P.view port.new) (P.told port.new) (P.faults port.new) result }
         ensures same { (P.pool port.new ≡ P.pool port.old) × (P.table port.new ≡ P.table port.old) × (P.lender port.new ≡ P.lender port.old) }
+        ensures accessed { P.accessed port.old port.new }
         ensures count { P.faults port.old ≤ P.faults port.new }
         ensures kept { OnReached result (P.faults port.new ≡ P.faults port.old) }
         ensures exact { ExactPut (P.refuses port.old) result }
@@ -306,6 +308,7 @@ impl PutCall {
         requires holds { PutHolds self.old (P.view port.old) }
         ensures done { PutStep (P.pool port.old) self.old (P.view port.old) (P.told port.old) (P.faults port.old) self.new (P.view port.new) (P.told port.new) (P.faults port.new) result }
         ensures same { (P.pool port.new ≡ P.pool port.old) × (P.table port.new ≡ P.table port.old) × (P.lender port.new ≡ P.lender port.old) }
+        ensures accessed { P.accessed port.old port.new }
         ensures count { P.faults port.old ≤ P.faults port.new }
         ensures kept { OnReached result (P.faults port.new ≡ P.faults port.old) }
         ensures exact { ExactPut (P.refuses port.old) result }
@@ -328,6 +331,7 @@ impl PutCall {
         requires holds { PutHolds self.old (P.view port.old) }
         ensures done { PutStep (P.pool port.old) self.old (P.view port.old) (P.told port.old) (P.faults port.old) self.new (P.view port.new) (P.told port.new) (P.faults port.new) result }
         ensures same { (P.pool port.new ≡ P.pool port.old) × (P.table port.new ≡ P.table port.old) × (P.lender port.new ≡ P.lender port.old) }
+        ensures accessed { P.accessed port.old port.new }
         ensures count { P.faults port.old ≤ P.faults port.new }
         ensures kept { OnReached result (P.faults port.new ≡ P.faults port.old) }
         ensures exact { ExactPut (P.refuses port.old) result }
@@ -345,6 +349,7 @@ impl PutCall {
         requires holds { PutHolds self.old (P.view port.old) }
         ensures done { PutStep (P.pool port.old) self.old (P.view port.old) (P.told port.old) (P.faults port.old) self.new (P.view port.new) (P.told port.new) (P.faults port.new) result }
         ensures same { (P.pool port.new ≡ P.pool port.old) × (P.table port.new ≡ P.table port.old) × (P.lender port.new ≡ P.lender port.old) }
+        ensures accessed { P.accessed port.old port.new }
         ensures count { P.faults port.old ≤ P.faults port.new }
         ensures kept { OnReached result (P.faults port.new ≡ P.faults port.old) }
         ensures exact { ExactPut (P.refuses port.old) result }
@@ -366,6 +371,7 @@ impl PutCall {
         requires holds { PutHolds self.old (P.view port.old) }
         ensures done { PutStep (P.pool port.old) self.old (P.view port.old) (P.told port.old) (P.faults port.old) self.new (P.view port.new) (P.told port.new) (P.faults port.new) result }
         ensures same { (P.pool port.new ≡ P.pool port.old) × (P.table port.new ≡ P.table port.old) × (P.lender port.new ≡ P.lender port.old) }
+        ensures accessed { P.accessed port.old port.new }
         ensures count { P.faults port.old ≤ P.faults port.new }
         ensures kept { OnReached result (P.faults port.new ≡ P.faults port.old) }
         ensures exact { ExactPut (P.refuses port.old) result }
@@ -389,6 +395,7 @@ impl PutCall {
         requires holds { PutHolds self.old (P.view port.old) }
         ensures done { PutStep (P.pool port.old) self.old (P.view port.old) (P.told port.old) (P.faults port.old) self.new (P.view port.new) (P.told port.new) (P.faults port.new) result }
         ensures same { (P.pool port.new ≡ P.pool port.old) × (P.table port.new ≡ P.table port.old) × (P.lender port.new ≡ P.lender port.old) }
+        ensures accessed { P.accessed port.old port.new }
         ensures count { P.faults port.old ≤ P.faults port.new }
         ensures kept { OnReached result (P.faults port.new ≡ P.faults port.old) }
         ensures exact { ExactPut (P.refuses port.old) result }
@@ -412,6 +419,7 @@ impl PutCall {
         requires holds { PutHolds self.old (P.view port.old) }
         ensures done { PutStep (P.pool port.old) self.old (P.view port.old) (P.told port.old) (P.faults port.old) self.new (P.view port.new) (P.told port.new) (P.faults port.new) result }
         ensures same { (P.pool port.new ≡ P.pool port.old) × (P.table port.new ≡ P.table port.old) × (P.lender port.new ≡ P.lender port.old) }
+        ensures accessed { P.accessed port.old port.new }
         ensures count { P.faults port.old ≤ P.faults port.new }
         ensures kept { OnReached result (P.faults port.new ≡ P.faults port.old) }
         ensures exact { ExactPut (P.refuses port.old) result }
@@ -435,6 +443,7 @@ impl PutCall {
         requires holds { PutHolds self.old (P.view port.old) }
         ensures done { PutStep (P.pool port.old) self.old (P.view port.old) (P.told port.old) (P.faults port.old) self.new (P.view port.new) (P.told port.new) (P.faults port.new) result }
         ensures same { (P.pool port.new ≡ P.pool port.old) × (P.table port.new ≡ P.table port.old) × (P.lender port.new ≡ P.lender port.old) }
+        ensures accessed { P.accessed port.old port.new }
         ensures count { P.faults port.old ≤ P.faults port.new }
         ensures kept { OnReached result (P.faults port.new ≡ P.faults port.old) }
         ensures exact { ExactPut (P.refuses port.old) result }
@@ -452,6 +461,7 @@ impl PutCall {
         requires holds { PutHolds self.old (P.view port.old) }
         ensures done { PutStep (P.pool port.old) self.old (P.view port.old) (P.told port.old) (P.faults port.old) self.new (P.view port.new) (P.told port.new) (P.faults port.new) result }
         ensures same { (P.pool port.new ≡ P.pool port.old) × (P.table port.new ≡ P.table port.old) × (P.lender port.new ≡ P.lender port.old) }
+        ensures accessed { P.accessed port.old port.new }
         ensures count { P.faults port.old ≤ P.faults port.new }
         ensures kept { OnReached result (P.faults port.new ≡ P.faults port.old) }
         ensures exact { ExactPut (P.refuses port.old) result }

@@ -29,6 +29,7 @@ pub fn load_root<P: Port, M: StepName>(port: &mut P, first: bool, slot: u32) -> 
     ensures made { IfOk result (λ x. Made (P.pool port.old) (ReadRoot slot) first (P.view port.old) (P.told port.old) x (P.view port.new) (P.told port.new)) }
     ensures failed { OnErr result (Rose (P.faults port.old) (P.faults port.new) × (P.view port.new ≡ P.view port.old) × (P.told port.new ≡ P.told port.old)) }
     ensures same { (P.pool port.new ≡ P.pool port.old) × (P.table port.new ≡ P.table port.old) × (P.lender port.new ≡ P.lender port.old) }
+    ensures accessed { P.accessed port.old port.new }
     ensures count { P.faults port.old ≤ P.faults port.new }
     ensures kept { OnOk result (P.faults port.new ≡ P.faults port.old) }
     ensures exact { Exact (P.refuses port.old) result }
@@ -49,6 +50,7 @@ pub fn load_next<P: Port, M: StepName>(
     ensures made { IfOk result (λ x. Made (P.pool port.old) (LoadNext slot (tag_number tag)) first (P.view port.old) (P.told port.old) x (P.view port.new) (P.told port.new)) }
     ensures failed { OnErr result (Rose (P.faults port.old) (P.faults port.new) × (P.view port.new ≡ P.view port.old) × (P.told port.new ≡ P.told port.old)) }
     ensures same { (P.pool port.new ≡ P.pool port.old) × (P.table port.new ≡ P.table port.old) × (P.lender port.new ≡ P.lender port.old) }
+    ensures accessed { P.accessed port.old port.new }
     ensures count { P.faults port.old ≤ P.faults port.new }
     ensures kept { OnOk result (P.faults port.new ≡ P.faults port.old) }
     ensures exact { Exact (P.refuses port.old) result }
@@ -70,6 +72,7 @@ pub fn raise_next<P: Port, M: StepName>(
     ensures made { IfOk result (λ x. Made (P.pool port.old) (RaiseNext (record { slot = slot; from = tag_number from; to = tag_number to })) first (P.view port.old) (P.told port.old) x (P.view port.new) (P.told port.new)) }
     ensures failed { OnErr result (Rose (P.faults port.old) (P.faults port.new) × (P.view port.new ≡ P.view port.old) × (P.told port.new ≡ P.told port.old)) }
     ensures same { (P.pool port.new ≡ P.pool port.old) × (P.table port.new ≡ P.table port.old) × (P.lender port.new ≡ P.lender port.old) }
+    ensures accessed { P.accessed port.old port.new }
     ensures count { P.faults port.old ≤ P.faults port.new }
     ensures kept { OnOk result (P.faults port.new ≡ P.faults port.old) }
     ensures exact { Exact (P.refuses port.old) result }

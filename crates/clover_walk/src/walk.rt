@@ -118,6 +118,7 @@ impl Walk {
         ensures later { OnReached result (self.new.first ≡ false) }
         ensures stands { OnGoing result (Holds self.new (P.view port.new)) }
         ensures same { (P.pool port.new ≡ P.pool port.old) × (P.table port.new ≡ P.table port.old) × (P.lender port.new ≡ P.lender port.old) }
+        ensures accessed { P.accessed port.old port.new }
         ensures count { P.faults port.old ≤ P.faults port.new }
         ensures kept { OnReached result (P.faults port.new ≡ P.faults port.old) }
     {

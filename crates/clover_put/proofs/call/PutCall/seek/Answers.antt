@@ -26,6 +26,7 @@ returns-in_default g c =
       done = seek_done p n (v old) (o old) (g.P.Port.faults old) (v new) (o new) (g.P.Port.faults new) c.requires.holds c.requires.pool (body_fits p n.job n.value (subst (λ (q : Pool). Fits q (commits n.job n.value)) (sym c.requires.pool) fits)) c.requires.stage
           c.step.new.self r c.in_default.not-Unreached made went c.go.new.self c.go.result (c.go.ensures.value ∙ ap (λ (z : Putting). walked z c.step.new.self) c.self.view_is) turn;
       same = c.step.ensures.same;
+      accessed = c.step.ensures.accessed;
       count = c.step.ensures.count;
       kept = reached_put r c.go.result _ c.in_default.not-Unreached turn c.step.ensures.kept;
       exact = exact_put r c.go.result _ c.in_default.not-Unreached turn c.step.ensures.exact;
