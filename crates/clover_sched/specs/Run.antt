@@ -87,9 +87,14 @@ abbrev pub Wrote : Act → Type 0
 Wrote (Exchange w expected new old) = old ≡ expected
 Wrote act = ⊥
 
--- a raise of the flushed copy of the link to t, which the call wrote
-abbrev pub Flushes : ℕ → List Act → Act → Type 0
-Flushes t since act = (u old : ℕ) × (act ≡ Raise (NextOf (buffer_at (home u))) (linked u t) old) × Within (wrote_link u t) since
+-- among these acts is a raise of the flushed copy of the link to t, behind the exchange by which the call wrote that link
+pub record Flushes (t : ℕ) (acts : List Act) : Type 0 where
+  pub from : ℕ
+  pub old : ℕ
+  pub before : List Act
+  pub after : List Act
+  pub all : acts ≡ before ++ Raise (NextOf (buffer_at (home from))) (linked from t) old ∷ after
+  pub wrote : Within (wrote_link from t) before
 
 -- what a call whose access was refused is answered: it had changed nothing, or its link stands
 abbrev pub lost : Option Reply → CallRefusal
@@ -97,10 +102,10 @@ lost (Some (Stored t)) = Linked t
 lost (Some (Deleted t)) = Linked t
 lost o = Unreached
 
--- a commit's answer comes as its link is flushed; any other answer at the access that decides it
+-- a commit's answer comes where its link is flushed; any other answer at the access that decides it
 abbrev pub IsAnswer : Doing → Option Entry → Act → Reply → Type 0
-IsAnswer d None act (Stored t) = (d.decided ≡ Some (Stored t)) × Flushes t d.since act
-IsAnswer d None act (Deleted t) = (d.decided ≡ Some (Deleted t)) × Flushes t d.since act
+IsAnswer d None act (Stored t) = (d.decided ≡ Some (Stored t)) × Flushes t (d.since ++ act ∷ [])
+IsAnswer d None act (Deleted t) = (d.decided ≡ Some (Deleted t)) × Flushes t (d.since ++ act ∷ [])
 IsAnswer d None act r = ⊥
 IsAnswer d (Some e) act r = (IsCommit r ≡ false) × (e.reply ≡ r)
 

@@ -1,11 +1,15 @@
 //! The machine of a script's events: every client's calls, one access at a time, in any order that a script
-//! names. So far this crate says what a run is; the machine that makes one is still part of the program.
+//! names; what a run of such events is, and its printed text.
 #![tactic(auto)]
 
+mod client;
 mod event;
+mod machine;
 #[cfg(test)]
 mod tests;
 mod text;
 
+pub use client::{ClientState, Underway};
 pub use event::{CallRefusal, Event, Note};
+pub use machine::Machine;
 pub use text::{push_access, push_ending, push_note};

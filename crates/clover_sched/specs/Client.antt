@@ -1,0 +1,145 @@
+-- A client of the machine: what it has under way and what it knows, that this is what the records say of it, and what one step of it does.
+use Prim.Native.Nat.{suc}
+use Rattle.std.specs.Prelude.{◌≡◌, ◌≢◌, ℕ, ◌+◌, ◌-◌, ◌*◌, ◌≤◌, ◌<◌, ◌^◌, min, List, [], ◌∷◌, ◌++◌, length, Bool, true, false, cond, if◌then◌else◌, Option, Some, None}
+use Rattle.clover_words.specs.declared.bytes.ValueBuf.{ValueBuf}
+use Rattle.clover_words.specs.declared.pool.Pool.{Pool}
+use Rattle.clover_words.specs.declared.setup.Setup.{Setup}
+use Rattle.clover_words.specs.Preset.{buffers_total}
+use Rattle.clover_map.specs.History.{own}
+use Rattle.clover_map.specs.declared.call.Call.{Call}
+use Rattle.clover_map.specs.declared.call.Call.TheVariants.{Get as GetCall, Put as PutCall, Delete as DeleteCall, Swap as SwapCall}
+use Rattle.clover_map.specs.declared.call.Entry.{Entry}
+use Rattle.clover_script.specs.Form.{call_in}
+use Rattle.clover_script.specs.Lines.{takes}
+use Rattle.clover_script.specs.declared.line.Task.{Task}
+use Rattle.clover_script.specs.declared.line.Task.TheVariants.{Client as ClientTask}
+use Rattle.clover_rule.specs.Accesses.{wrote_link}
+use Rattle.clover_rule.specs.Lists.{Within}
+use Rattle.clover_rule.specs.Steps.{reply_of}
+use Rattle.clover_rule.specs.declared.access.Access.{Access}
+use Rattle.clover_rule.specs.declared.access.Act.{Act}
+use Rattle.clover_rule.specs.declared.view.Role.TheVariants.{Client as ClientRole}
+use Rattle.clover_rule.specs.declared.view.View.{View}
+use Rattle.clover_plain.specs.Plain.{Plain, view_at, history}
+use Rattle.clover_plain.specs.Preset.{dealt_from}
+use Rattle.clover_walk.specs.Walking.{key_at, budget}
+use Rattle.clover_get.specs.Getting.{IsOpen}
+use Rattle.clover_get.specs.Holding.{GetHolds}
+use Rattle.clover_put.specs.Answering.{IsBefore}
+use Rattle.clover_put.specs.Holding.{PutHolds}
+use Rattle.clover_put.specs.Putting.{Putting, AtRaise, call_at}
+use Rattle.clover_sched.specs.declared.client.ClientState.{ClientState}
+use Rattle.clover_sched.specs.declared.client.Underway.{Underway}
+use Rattle.clover_sched.specs.declared.client.Underway.TheVariants.{Nothing, Get, Write, Raise}
+use Rattle.clover_sched.specs.declared.event.Event.TheVariants.{Step}
+use Rattle.clover_sched.specs.declared.event.Note.{Note}
+use Rattle.clover_sched.specs.Folds.{Doing, listed, words_by, made_by, begun, stepped}
+use Rattle.clover_sched.specs.Record.{Record}
+use Rattle.clover_sched.specs.Run.{Opening, IsStep, begin_note}
+
+-- the stock of a client that has committed so often
+abbrev pub stock_at : Setup → ℕ → ℕ → List ℕ
+stock_at s c n = dealt_from s c n (buffers_total s.pool - n)
+
+-- the acts of the call under way since its start, as the client's view holds them
+abbrev pub since_of : Underway → View → List Act
+since_of Nothing v = []
+since_of (Get g into call) v = cond g.walk.first [] v.pass.since
+since_of (Write c call) v = cond c.walk.first [] v.pass.since
+since_of (Raise c) v = cond c.walk.first [] v.pass.since
+
+-- what the client must know where its call stands; the call asked for is that of the step machine
+abbrev pub IsUnder : Pool → View → Underway → Type 0
+IsUnder p v Nothing = Unit {0}
+IsUnder p v (Get g into call) = IsOpen g.stage × (g.walk.pool ≡ p) × GetHolds g v into × (call ≡ GetCall (key_at v.pass.names g.walk.slot))
+IsUnder p v (Write c call) = IsBefore c.stage × (c.walk.pool ≡ p) × PutHolds c v × (call ≡ call_at c v)
+IsUnder p v (Raise c) = (u : ℕ) × (c.stage ≡ AtRaise u) × (c.walk.pool ≡ p) × PutHolds c v × Within (wrote_link u c.own) v.pass.since
+
+-- The client of seat i stands in the pool: it knows the bindings and what is left of its stock, and what its call needs; each entry was entered.
+pub record Stands (o : Opening) (p : Plain) (i : ℕ) (x : ClientState) : Type 0 where
+  pub setup : p.setup ≡ o.setup
+  pub opened : p.opened ≡ true
+  pub entered : p.entries ≡ history p
+  pub seat : suc i ≤ o.setup.clients
+  pub seats : length p.views ≡ o.setup.clients
+  pub role : (view_at p i).pass.role ≡ ClientRole (suc i)
+  pub names : (view_at p i).pass.names ≡ o.names
+  pub stock : (view_at p i).pass.stock ≡ stock_at o.setup (suc i) x.taken
+  pub number : x.number ≡ length (own p.entries (suc i))
+  pub under : IsUnder o.setup.pool (view_at p i) x.under
+
+-- what the client has under way is what the records say
+abbrev pub UnderMatches : Underway → View → Doing → Type 0
+UnderMatches Nothing v d = d.task ≡ None
+UnderMatches (Get g into call) v d = ((n : ℕ) × (d.task ≡ Some (ClientTask call n))) × (d.decided ≡ None) × (d.since ≡ since_of (Get g into call) v)
+UnderMatches (Write c call) v d = ((n : ℕ) × (d.task ≡ Some (ClientTask call n))) × (d.decided ≡ None) × (d.since ≡ since_of (Write c call) v)
+UnderMatches (Raise c) v d = ((n : ℕ) × (d.task ≡ Some (ClientTask (call_at c v) n))) × (d.decided ≡ Some (reply_of c.own (call_at c v))) × (d.since ≡ since_of (Raise c) v)
+
+pub record Matches (x : ClientState) (v : View) (d : Doing) : Type 0 where
+  pub refusing : x.refusing ≡ d.refusing
+  pub under : UnderMatches x.under v d
+
+-- how many buffers of its stock the client has committed or may yet commit
+abbrev pub spent_by : Underway → ℕ → ℕ
+spent_by (Write c call) n = suc n
+spent_by under n = n
+
+abbrev pub spent : ClientState → ℕ
+spent x = spent_by x.under x.taken
+
+-- the most accesses of one call
+abbrev pub most_made : Pool → ℕ
+most_made p = (budget p + 1) * (p.words + 5) + 2 * p.words + 7
+
+-- One access of the client of seat i changed the pool so, and added this entry or none.
+pub record Moved (i : ℕ) (x : Access) (e : Option Entry) (p q : Plain) : Type 0 where
+  pub words : q.words ≡ words_by p.setup.pool p.words (Some x)
+  pub others : (j : ℕ) → j ≢ i → view_at q j ≡ view_at p j
+  pub seats : length q.views ≡ length p.views
+  pub entries : q.entries ≡ p.entries ++ listed e
+  pub entered : q.entries ≡ history q
+  pub accesses : q.accesses ≡ (if p.traced then p.accesses ++ x ∷ [] else p.accesses)
+  pub made : q.made ≡ made_by p.made (Some x)
+  pub whole : q.whole ≡ p.whole
+  pub setup : q.setup ≡ p.setup
+  pub start : q.start ≡ p.start
+  pub traced : q.traced ≡ p.traced
+  pub opened : q.opened ≡ p.opened
+
+abbrev pub step_record : ℕ → Access → Option Entry → Note → Record
+step_record i x e note = record { event = Step (suc i); access = Some x; note = note; entry = e }
+
+-- The client of seat i made the next access of its call, which came to this note: in any run that leads to where it stood this is a step, and it stands where that leads.
+pub record Went (o : Opening) (i : ℕ) (x y : ClientState) (p q : Plain) (note : Note) : Type 0 where
+  pub access : Access
+  pub entry : Option Entry
+  pub moved : Moved i access entry p q
+  pub stands : Stands o q i y
+  pub follows : (d : Doing) → Matches x (view_at p i) d
+      → IsStep o (suc i) d p.words (length (own p.entries (suc i))) (step_record i access entry note) × Matches y (view_at q i) (stepped d (Some access) entry note)
+  -- a call that goes on has made one access more
+  pub longer : y.under ≢ Nothing → length (since_of y.under (view_at q i)) ≡ suc (length (since_of x.under (view_at p i)))
+  pub spent : spent y ≤ spent x
+
+-- The client of seat i, which had nothing under way, was asked for this task, which came to this note: it stands where that leads.
+pub record Begins (o : Opening) (p : Plain) (i : ℕ) (x y : ClientState) (t : Task) (note : Note) : Type 0 where
+  pub stands : Stands o p i y
+  pub says : (d : Doing) → d.task ≡ None → note ≡ begin_note o.setup d (suc i) t
+  pub matches : (d : Doing) → Matches x (view_at p i) d → Matches y (view_at p i) (begun d t note)
+  pub spent : spent y ≤ spent x + takes (call_in t)
+
+-- how many bytes the value of a call has
+abbrev pub size_of : Call → ℕ
+size_of (GetCall k) = 0
+size_of (PutCall k v) = length v.bytes
+size_of (DeleteCall k) = 0
+size_of (SwapCall k t v) = length v.bytes
+
+-- the number of an expected tag is one
+abbrev pub ExpectsTag : Call → Type 0
+ExpectsTag (SwapCall k t v) = t < 2 ^ 42
+ExpectsTag call = Unit {0}
+
+-- the call keeps the first bytes of the value as it was written, at most 1,024
+abbrev pub IsTask : Task → Type 0
+IsTask (ClientTask call written) = (size_of call ≡ min written 1024) × ExpectsTag call

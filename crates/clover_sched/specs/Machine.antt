@@ -1,0 +1,116 @@
+-- What contracts see of a machine, and that it stands where some records lead.
+use Prim.Native.Nat.{suc}
+use Rattle.std.specs.Prelude.{◌≡◌, ◌≢◌, ℕ, ◌+◌, ◌-◌, ◌<◌, ◌≤◌, ◌==◌, List, [], ◌∷◌, ◌++◌, length, Contains, Bool, true, if◌then◌else◌, Option, Some, None}
+use Rattle.std.specs.FinMap as finite
+use Rattle.clover_words.specs.declared.setup.Setup.{Setup}
+use Rattle.clover_words.specs.Preset.{HasDealt}
+use Rattle.clover_map.specs.Legal.{Legal}
+use Rattle.clover_map.specs.History.{key_of}
+use Rattle.clover_map.specs.declared.call.Call.{Call}
+use Rattle.clover_script.specs.Lines.{takes}
+use Rattle.clover_script.specs.declared.line.Task.{Task}
+use Rattle.clover_script.specs.declared.line.Task.TheVariants.{Client as ClientTask}
+use Rattle.clover_rule.specs.Lists.{nth}
+use Rattle.clover_rule.specs.Preset.{bindings_from}
+use Rattle.clover_plain.specs.Plain.{Plain, Kept, history, view_at}
+use Rattle.clover_plain.specs.Preset.{IsPreset}
+use Rattle.clover_sched.specs.declared.client.ClientState.{ClientState}
+use Rattle.clover_sched.specs.declared.client.Underway.TheVariants.{Nothing}
+use Rattle.clover_sched.specs.declared.event.Event.{Event}
+use Rattle.clover_sched.specs.declared.event.Event.TheVariants.{Begin, Step, Refuse}
+use Rattle.clover_sched.specs.Client.{Stands, Matches, IsTask, spent, since_of, most_made}
+use Rattle.clover_sched.specs.Folds.{entries_in, accesses_in, words_after, made_in, doing, along}
+use Rattle.clover_sched.specs.Record.{Record}
+use Rattle.clover_sched.specs.Run.{Opening, IsRun}
+
+pub record Parts : Type 0 where
+  pub setup : Setup
+  -- the keys of the slots
+  pub names : List (List ℕ)
+  pub pool : Plain
+  -- the clients, in the order of their numbers
+  pub clients : List ClientState
+
+-- how many calls that write client a was asked to begin
+abbrev pub asks : ℕ → ℕ → Event → ℕ
+asks a n (Begin b (ClientTask call written)) = if b == a then n + takes call else n
+asks a n (Step b) = n
+asks a n (Refuse b) = n
+
+abbrev pub asked : ℕ → List Record → ℕ
+asked a rs = along (λ (n : ℕ) (r : Record). asks a n r.event) 0 rs
+
+-- The pool is as these records left it.
+pub record IsPoolAt (o : Opening) (p : Plain) (rs : List Record) : Type 0 where
+  pub setup : p.setup ≡ o.setup
+  pub start : p.start ≡ o.words
+  pub opened : p.opened ≡ true
+  pub whole : p.whole ≡ true
+  pub words : p.words ≡ words_after o.setup.pool o.words rs
+  pub entries : p.entries ≡ entries_in rs
+  pub entered : p.entries ≡ history p
+  pub accesses : p.accesses ≡ (if p.traced then accesses_in rs else [])
+  pub made : p.made ≡ made_in rs
+  pub seats : length p.views ≡ o.setup.clients
+
+-- The client of seat i is as these records left it.
+pub record IsClientAt (o : Opening) (p : Plain) (i : ℕ) (x : ClientState) (rs : List Record) : Type 0 where
+  pub stands : Stands o p i x
+  pub matches : Matches x (view_at p i) (doing (suc i) rs)
+  pub spent : spent x ≤ asked (suc i) rs
+
+-- The machine stands where these records lead.
+pub record IsAt (o : Opening) (m : Parts) (rs : List Record) : Type 0 where
+  pub run : IsRun o rs
+  pub setup : m.setup ≡ o.setup
+  pub names : o.names ≡ bindings_from 0 m.names
+  pub slots : length m.names ≤ m.setup.pool.slots
+  pub pool : IsPoolAt o m.pool rs
+  pub clients : length m.clients ≡ o.setup.clients
+  pub each : (i : ℕ) (x : ClientState) → nth m.clients i ≡ Some x → IsClientAt o m.pool i x rs
+  -- a client that there is not has no task
+  pub far : (a : ℕ) → o.setup.clients < a → (doing a rs).task ≡ None
+  pub legal : Legal finite.empty [] (entries_in rs)
+
+abbrev pub IsBehind : Parts → Type 0
+IsBehind m = (o : Opening) × (rs : List Record) × IsAt o m rs
+
+-- where the run of a setup and of these keys begins: the preset pool
+pub record IsOpening (s : Setup) (keys : List (List ℕ)) (o : Opening) : Type 0 where
+  pub setup : o.setup ≡ s
+  pub names : o.names ≡ bindings_from 0 keys
+  pub words : IsPreset s keys o.words
+
+-- what a client has that asks for a call: a slot with its key, and for a call that writes a buffer
+pub record HasFor (m : Parts) (a : ℕ) (call : Call) : Type 0 where
+  pub named : Contains m.names (key_of call)
+  pub stock : (i : ℕ) (x : ClientState) → suc i ≡ a → nth m.clients i ≡ Some x → takes call ≡ 1 → HasDealt m.setup a (spent x)
+
+-- the event may come: the actor is a client's number, and has what its task asks for
+abbrev pub MayCome : Parts → Event → Type 0
+MayCome m (Begin a (ClientTask call written)) = (1 ≤ a) × IsTask (ClientTask call written) × HasFor m a call
+MayCome m (Step a) = 1 ≤ a
+MayCome m (Refuse a) = 1 ≤ a
+
+-- the same but for the room of the pool's lists
+pub record IsSame (m n : Parts) : Type 0 where
+  pub setup : n.setup ≡ m.setup
+  pub names : n.names ≡ m.names
+  pub pool : Kept m.pool n.pool
+  pub clients : n.clients ≡ m.clients
+
+-- how many accesses the actor's call may still make
+abbrev pub left_of : Parts → ℕ → Option ClientState → ℕ
+left_of m i None = 0
+left_of m i (Some x) = most_made m.setup.pool + 1 - length (since_of x.under (view_at m.pool i))
+
+abbrev pub left : Parts → ℕ → ℕ
+left m a = left_of m (a - 1) (nth m.clients (a - 1))
+
+-- the actor is a client with a call under way
+abbrev pub HasCall : Option ClientState → Type 0
+HasCall None = ⊥
+HasCall (Some x) = x.under ≢ Nothing
+
+abbrev pub IsBusy : Parts → ℕ → Type 0
+IsBusy m a = (i : ℕ) × (suc i ≡ a) × HasCall (nth m.clients i)

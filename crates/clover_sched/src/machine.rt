@@ -1,0 +1,109 @@
+// The machine: a pool and its clients, one event at a time.
+ghost use Rattle.std.specs.Prelude.{◌≡◌, ◌<◌, ◌≤◌, ◌++◌, ◌∷◌, [], ◌↔◌, ℕ, List, length, true, IsTrue, IfOk, OnErr};
+ghost use Rattle.clover_words.specs.Preset.{buffers_total};
+ghost use Rattle.clover_sched.specs.Folds.{entries_in, accesses_in, made_in};
+ghost use Rattle.clover_sched.specs.Machine.{IsAt, IsOpening, IsSame, MayCome, IsBusy, left};
+ghost use Rattle.clover_sched.specs.Record.{Record};
+ghost use Rattle.clover_sched.specs.Run.{Opening};
+ghost use Rattle.clover_sched.specs.declared.event.Event.TheVariants.{Step as StepOf};
+
+use crate::client::ClientState;
+use crate::event::{Event, Note};
+use clover_map::{Entry, OutOfMemory};
+use clover_plain::PlainPool;
+use clover_rule::Access;
+use clover_script::Names;
+use clover_words::Setup;
+use std::alloc::Global;
+use std::marker::Model;
+
+/// A preset pool with its clients, each with at most one call under way. Events come in any order.
+#[derive(Drop)]
+pub struct Machine {
+    setup: Setup,
+    names: Names,
+    pool: PlainPool,
+    clients: Vec<ClientState>,
+}
+
+impl Model for Machine {
+    ghost use Rattle.clover_sched.specs.Machine.{Parts};
+
+    ghost Value = { Parts };
+
+    ghost use Rattle.clover_map.specs.contracts.map.TaggedMap as tagged;
+    ghost use Rattle.std.specs.Coded.{codes};
+
+    ghost coded = { Prim.hlevel (codes, tagged.the_row.coded) };
+
+    ghost use Rattle.clover_sched.specs.Kept.{meaning, IsKept};
+
+    ghost view = { meaning };
+
+    ghost invariant = { IsKept };
+}
+
+impl Machine {
+    /// The machine of a setup and of the keys of its first slots, over the preset pool, before any event. With
+    /// `trace` it lists its accesses. `OutOfMemory` for want of memory.
+    pub fn make(
+        alloc: Global,
+        setup: Setup,
+        names: Names,
+        trace: bool,
+    ) -> Result<Machine, OutOfMemory>
+        requires slots { length names ≤ setup.pool.slots }
+        requires buffers { setup.pool.slots ≤ buffers_total setup.pool }
+        ensures at { IfOk result (λ m. (o : Opening) × IsOpening setup names o × IsAt o m []) }
+        ensures parts { IfOk result (λ m. (m.setup ≡ setup) × (m.names ≡ names) × (m.pool.traced ≡ trace)) }
+    {
+        let _ = (alloc, setup.clients, names.len(), trace);
+        Err(OutOfMemory)
+    }
+
+    /// Makes an event happen: at most one access and one entry. It answers what the event came to.
+    ///
+    /// `OutOfMemory` for want of memory, before anything has changed.
+    pub fn event(&mut self, event: Event) -> Result<Note, OutOfMemory>
+        requires may { MayCome self.old event }
+        ensures happened { IfOk result (λ note. (o : Opening) (rs : List Record) → IsAt o self.old rs → (r : Record) × (r.event ≡ event) × (r.note ≡ note) × IsAt o self.new (rs ++ r ∷ [])) }
+        ensures parts { IfOk result (λ note. (self.new.setup ≡ self.old.setup) × (self.new.names ≡ self.old.names) × (self.new.pool.traced ≡ self.old.pool.traced)) }
+        ensures less { IfOk result (λ note. (a : ℕ) → event ≡ StepOf a → IsBusy self.old a → left self.new a < left self.old a) }
+        ensures same { OnErr result (IsSame self.old self.new) }
+    {
+        let _ = event;
+        Err(OutOfMemory)
+    }
+
+    /// Whether an actor has a call under way.
+    pub fn is_busy(&self, actor: u32) -> bool
+        requires { 1 ≤ actor }
+        ensures busy { IsTrue result ↔ IsBusy self.now actor }
+    {
+        match self.clients.get(actor as usize - 1) {
+            Some(client) => client.is_busy(),
+            None => false,
+        }
+    }
+
+    /// The history so far.
+    pub fn history(&self) -> &[Entry]
+        ensures { (o : Opening) (rs : List Record) → IsAt o self.now rs → result.now ≡ entries_in rs }
+    {
+        self.pool.entries()
+    }
+
+    /// The accesses so far, in order, refused ones among them; none without a trace.
+    pub fn accesses(&self) -> &[Access]
+        ensures { (o : Opening) (rs : List Record) → IsAt o self.now rs → self.now.pool.traced ≡ true → result.now ≡ accesses_in rs }
+    {
+        self.pool.accesses()
+    }
+
+    /// How many accesses were made and not refused.
+    pub fn made(&self) -> u64
+        ensures { (o : Opening) (rs : List Record) → IsAt o self.now rs → result ≡ made_in rs }
+    {
+        self.pool.made()
+    }
+}
