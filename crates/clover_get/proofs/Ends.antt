@@ -87,6 +87,7 @@ module _ (p : Pool) (f f1 : ℕ) (w : Walking) (t : ℕ) (v : View) (o : Option 
   tail_went a s g1 into into1 extra h at made is holds n few = record {
     made = (made.0, subst (λ (b : Step). Made p b w.first v o made.0 v1 o1) is made.1, made.2);
     found = tt;
+    at = tt;
     absent = tt;
     behind = tt;
     ahead = let e = turns_now h at in let b : w.turns < budget p = subst (λ (q : Pool). w.turns < budget q) (sym of) h.below in subst (λ (k : ℕ). k < budget p) e b;
@@ -186,6 +187,7 @@ module _ (p : Pool) (f f1 : ℕ) (w : Walking) (tag : TagParts) (v : View) (o : 
       record {
         made = (x, later p f f1 w (tag_number tag) v o x v1 o1 of a at.1 made, value ∙ sym (ap (λ (b : Bool). cond b (getting w Over) (sought (goes_on w x))) (eq-eqb x (unlinked (tag_number tag)) e)));
         found = (record { slot = w.slot; tag = tag_number tag; made = m; decides = at_tail p w.slot (tag_number tag) key reply (SawWhole (tag_number tag) (value_in fl into)) v o v1 o1 m saw }, refl, refl);
+        at = (refl, refl);
         absent = tt;
         behind = tt;
         ahead = below h.walk q;
@@ -209,6 +211,7 @@ module _ (p : Pool) (f f1 : ℕ) (w : Walking) (tag : TagParts) (v : View) (o : 
       record {
         made = (x, later p f f1 w (tag_number tag) v o x v1 o1 of a at.1 made, value ∙ sym (ap (λ (b : Bool). cond b (getting w Over) (sought (goes_on w x))) (eq-eqb x (unlinked (tag_number tag)) e)));
         found = tt;
+        at = tt;
         absent = (record { slot = w.slot; tag = tag_number tag; made = m; decides = inl (tag_number tag, ended) }, refl, refl);
         behind = tt;
         ahead = below h.walk q;

@@ -90,9 +90,9 @@ module _ (p : Pool) (f f1 : ℕ) (g : Getting) (into : ValueBuf) (v : View) (o :
 
   went_by : (turn : Turn) → Answers w1 turn → OnWalking turn (Holds w1 v1) → IfWalkBehind turn (λ (n : ℕ). (n ≡ budget p) × (v1.pass.turns ≡ budget p)) → OnWalkAhead turn (v1.pass.turns < budget p)
       → Went p f f1 g (sought w1) into into v o v1 o1 (answer_of turn)
-  went_by WalksOn a h b c = record { made = (x, made, goes_so); found = tt; absent = tt; behind = tt; ahead = c; unreached = tt; stands = seeks h a; ends = tt; bound = allowed (counted_so h) }
-  went_by (AtTail t) a h b c = record { made = (x, made, goes_so); found = tt; absent = tt; behind = tt; ahead = c; unreached = tt; stands = arrives (tag_number t) h a; ends = tt; bound = allowed (counted_so h) }
-  went_by (WalkBehind n) a h b c = record { made = (x, made, goes_so); found = tt; absent = tt; behind = b; ahead = tt; unreached = tt; stands = tt; ends = ap stage_at a.0; bound = allowed (sym a.1 ∙ b.0 ∙ sym b.1) }
+  went_by WalksOn a h b c = record { made = (x, made, goes_so); found = tt; at = tt; absent = tt; behind = tt; ahead = c; unreached = tt; stands = seeks h a; ends = tt; bound = allowed (counted_so h) }
+  went_by (AtTail t) a h b c = record { made = (x, made, goes_so); found = tt; at = tt; absent = tt; behind = tt; ahead = c; unreached = tt; stands = arrives (tag_number t) h a; ends = tt; bound = allowed (counted_so h) }
+  went_by (WalkBehind n) a h b c = record { made = (x, made, goes_so); found = tt; at = tt; absent = tt; behind = b; ahead = tt; unreached = tt; stands = tt; ends = ap stage_at a.0; bound = allowed (sym a.1 ∙ b.0 ∙ sym b.1) }
   went_by Refused a h b c = absurd a
 
   pub went_on : (r : GetTurn) → Follows p w1 v1 r → Went p f f1 g (sought w1) into into v o v1 o1 r
@@ -130,7 +130,7 @@ module _ (p : Pool) (f f1 : ℕ) (w : Walking) (into : ValueBuf) (v : View) (o :
   walk_refused : (w1 : Walking) → Rose f f1 → v1 ≡ v → o1 ≡ o → w1 ≡ w → (g1 : Getting) → g1 ≡ getting w1 Seeking → Went p f f1 (getting w Seeking) g1 into into v o v1 o1 Unreached
   walk_refused w1 rose ve oe we g1 still =
       let ge : g1 ≡ getting w Seeking = still ∙ ap (λ (z : Walking). getting z Seeking) we in
-      record { made = tt; found = tt; absent = tt; behind = tt; ahead = tt; unreached = (rose, ve, oe, ge, refl); stands = subst (λ (z : Getting). GetHolds z v1 into) (sym ge) (subst (λ (z : View). GetHolds (getting w Seeking) z into) (sym ve) holds); ends = tt; bound = tt }
+      record { made = tt; found = tt; at = tt; absent = tt; behind = tt; ahead = tt; unreached = (rose, ve, oe, ge, refl); stands = subst (λ (z : Getting). GetHolds z v1 into) (sym ge) (subst (λ (z : View). GetHolds (getting w Seeking) z into) (sym ve) holds); ends = tt; bound = tt }
 
   pub seek_went : (turn : Turn) (w1 : Walking) → WalkReached turn ((x : ℕ) × Made p (walk_step w) w.first v o x v1 o1 × (w1 ≡ goes_on w x) × (IsAtTail turn ↔ ShowsTail w.stand x)) → WalkReached turn (Answers w1 turn)
       → IfWalkBehind turn (λ (n : ℕ). (n ≡ budget w.pool) × (v1.pass.turns ≡ budget w.pool)) → OnWalkAhead turn (v1.pass.turns < budget w.pool)

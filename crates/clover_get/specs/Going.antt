@@ -16,7 +16,7 @@ use Rattle.clover_walk.specs.declared.turn.Turn.TheVariants.{More as WalksOn, At
 use Rattle.clover_get.specs.declared.turn.GetTurn.TheVariants.{More, Behind, Unreached}
 use Rattle.clover_get.specs.declared.turn.GetTurn.{GetTurn}
 use Rattle.clover_get.specs.Answering.{OnReached, OnUnreached, OnGoing, OnOver, OnAhead, IfFound, IfAbsent, IfBehind}
-use Rattle.clover_get.specs.Getting.{Getting, Over, get_step, value_in, GoesOn}
+use Rattle.clover_get.specs.Getting.{Getting, AtFound, Over, get_step, value_in, GoesOn}
 use Rattle.clover_get.specs.Holding.{GetHolds}
 
 -- the key of the get, as its actor's copy of the bindings has it
@@ -42,6 +42,7 @@ most_accesses p turns = (turns + 1) * (p.words + 5) + 2 * p.words + 4
 pub record Went (p : Pool) (faults faults1 : ℕ) (g g1 : Getting) (into into1 : ValueBuf) (v : View) (o : Option Open) (v1 : View) (o1 : Option Open) (r : GetTurn) : Type 0 where
   pub made : OnReached r (OneAccess p g g1 into into1 v o v1 o1)
   pub found : IfFound r (λ t f. FoundAt p g (tag_number t) (value_in f into1) v o v1 o1)
+  pub at : IfFound r (λ t f. (g.stage ≡ AtFound (tag_number t) f) × (into1 ≡ into))
   pub absent : IfAbsent r (λ t. AbsentAt p g (tag_number t) v o v1 o1)
   pub behind : IfBehind r (λ n. (n ≡ budget p) × (v1.pass.turns ≡ budget p))
   pub ahead : OnAhead r (v1.pass.turns < budget p)

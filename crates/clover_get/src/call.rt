@@ -1,5 +1,5 @@
 // A get: where it stands, and how it goes on.
-ghost use Rattle.std.specs.Prelude.{◌≡◌, ◌≤◌, ◌<◌, ℕ, Option, Some, IfSome, length};
+ghost use Rattle.std.specs.Prelude.{◌≡◌, ◌≤◌, ◌<◌, ℕ, Option, Some, IfSome, IfNone, length};
 ghost use Rattle.clover_words.specs.Meta.{MetaParts};
 ghost use Rattle.clover_words.specs.Tag.{tag_number};
 ghost use Rattle.clover_port.specs.Told.{Rose};
@@ -57,8 +57,8 @@ impl GetCall {
     /// room is passed to all its steps.
     ///
     /// `Found` and `Absent`, only where this access was the load of the tail's next word that showed the tail
-    /// unlinked; at `Found` the value's bytes stand in the room, whose length is theirs, and before that the room
-    /// holds no promise to the caller. `Behind`, exactly where by this access the turns of the call have reached the
+    /// unlinked; at `Found` the value's bytes stand in the room, whose length is theirs, as they stood there before the
+    /// access, and before that the room holds no promise to the caller. `Behind`, exactly where by this access the turns of the call have reached the
     /// budget. `Unreached`, only where the access was refused; neither the call nor the room nor what the actor knows
     /// has changed then.
     pub fn step<P: Port>(&mut self, port: &mut P, into: &mut ValueBuf) -> GetTurn
@@ -67,6 +67,7 @@ impl GetCall {
         requires holds { GetHolds self.old (P.view port.old) into.old }
         ensures made { OnReached result (OneAccess (P.pool port.old) self.old self.new into.old into.new (P.view port.old) (P.told port.old) (P.view port.new) (P.told port.new)) }
         ensures found { IfFound result (λ tag flags. FoundAt (P.pool port.old) self.old (tag_number tag) (value_in flags into.new) (P.view port.old) (P.told port.old) (P.view port.new) (P.told port.new)) }
+        ensures at { IfFound result (λ tag flags. (self.old.stage ≡ AtFound (tag_number tag) flags) × (into.new ≡ into.old)) }
         ensures absent { IfAbsent result (λ tail. AbsentAt (P.pool port.old) self.old (tag_number tail) (P.view port.old) (P.told port.old) (P.view port.new) (P.told port.new)) }
         ensures behind { IfBehind result (λ turns. (turns ≡ budget (P.pool port.old)) × ((P.view port.new).pass.turns ≡ budget (P.pool port.old))) }
         ensures ahead { OnAhead result ((P.view port.new).pass.turns < budget (P.pool port.old)) }
@@ -81,6 +82,19 @@ impl GetCall {
         ensures exact { ExactGet (P.refuses port.old) result }
     {
         self.advance(port, into)
+    }
+
+    /// The flags of the value that stands in the room, where the next access is the last load for it. Only such an
+    /// access may be answered with `Found`.
+    pub fn copied(&self) -> Option<u32>
+        ensures some { IfSome result (λ flags. (t : ℕ) × (self.now.stage ≡ AtFound t flags)) }
+        ensures none { IfNone result ((t f : ℕ) → self.now.stage ≡ AtFound t f → ⊥) }
+    {
+        let stage = self.stage;
+        match stage {
+            Stage::AtFound { tag: _, flags } => Some(flags),
+            _ => None,
+        }
     }
 
     // Makes the access that the stage says.
