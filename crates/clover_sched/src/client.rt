@@ -12,6 +12,8 @@ ghost use Rattle.clover_sched.specs.declared.client.Underway.TheVariants.{Nothin
 ghost use Rattle.clover_sched.specs.Client.{IsTask, Stands, Begins, Went};
 ghost use Rattle.clover_sched.specs.Run.{Opening};
 
+mod get;
+
 use crate::event::{CallRefusal, Note};
 use clover_get::GetCall;
 use clover_map::{Call, OutOfMemory};
@@ -96,7 +98,11 @@ impl ClientState {
         ensures went { IfOk result (λ note. (o : Opening) (i : ℕ) → suc i ≡ client → Stands o pool.old i self.old → Went o i self.old self.new pool.old pool.new note) }
         ensures same { OnErr result ((self.new ≡ self.old) × Kept pool.old pool.new) }
     {
-        let _ = (alloc, pool.made(), client);
-        Err(OutOfMemory)
+        match &self.under {
+            Underway::Nothing => unreachable!(),
+            Underway::Get { .. } => self.step_get(alloc, pool, client),
+            Underway::Write { .. } => Err(OutOfMemory),
+            Underway::Raise { .. } => Err(OutOfMemory),
+        }
     }
 }
