@@ -1,0 +1,345 @@
+-- What a step of a get is in a run: its access decides nothing, or it decides the call, or the call ends without an answer.
+use Rattle.std.proofs.Common.{◌≡◌, ◌≢◌, ℕ, suc, ◌+◌, ◌-◌, ◌^◌, ◌<◌, ◌≤◌, ◌==◌, List, [], ◌∷◌, ◌++◌, length, Bool, true, false, cond, refl, sym, ap, ◌∙◌, subst, arith, eqb, eq-eqb, length-append}
+use Rattle.std.specs.Prelude.{Option, Some, None}
+use Rattle.clover_words.specs.declared.bytes.ValueBuf.{ValueBuf}
+use Rattle.clover_words.specs.declared.pool.Pool.{Pool}
+use Rattle.clover_words.specs.declared.setup.Setup.{Setup}
+use Rattle.clover_map.specs.declared.bytes.Value.{Value}
+use Rattle.clover_map.specs.declared.call.Call.{Call}
+use Rattle.clover_map.specs.declared.call.Call.TheVariants.{Get as GetOf}
+use Rattle.clover_map.specs.declared.call.Entry.{Entry}
+use Rattle.clover_map.specs.declared.call.Reply.{Reply}
+use Rattle.clover_map.specs.declared.call.Reply.TheVariants.{Found, Absent}
+use Rattle.clover_map.specs.History.{own}
+use Rattle.clover_script.specs.declared.line.Task.{Task}
+use Rattle.clover_script.specs.declared.line.Task.TheVariants.{Client as ClientTask}
+use Rattle.clover_rule.specs.Accesses.{CameBack, Decides}
+use Rattle.clover_rule.specs.Knowing.{link_entry}
+use Rattle.clover_rule.specs.Memory.{Next, word, age}
+use Rattle.clover_rule.specs.Steps.{Step, DecideNext, act_of, turn_of, next_history, unlinked, client, number_of}
+use Rattle.clover_rule.specs.Words.{next_of, root_of}
+use Rattle.clover_rule.specs.declared.access.Act.{Act}
+use Rattle.clover_rule.specs.declared.view.Role.{Role}
+use Rattle.clover_rule.specs.declared.view.View.{View}
+use Rattle.clover_port.specs.Told.{Open, Made}
+use Rattle.clover_plain.specs.Plain.{Plain, Accessed, KeptButEntries, view_at, history, open_of, access}
+use Rattle.clover_walk.specs.Ending.{Ended}
+use Rattle.clover_walk.specs.Walking.{Walking, Stand, AtRoot, AtTag, AtLink, OnTail, Ended as StandEnded, IsOnWay, turned, hops, followed, rooted, goes_from, goes_on, key_at, budget, step_at}
+use Rattle.clover_walk.proofs.Endings.{stepped as stepped_so}
+use Rattle.clover_get.specs.Getting.{Getting, Stage, Seeking, AtMeta, AtValue, AtFound, AtDead, AtBad, Over, IsOpen, getting, sought, step_from, get_step, GoesFrom, GoesOn, Reads, value_in}
+use Rattle.clover_get.specs.Going.{OneAccess, key_of}
+use Rattle.clover_get.specs.Holding.{GetHolds, StandsOn}
+use Rattle.clover_sched.specs.declared.client.ClientState.{ClientState}
+use Rattle.clover_sched.specs.declared.client.Underway.{Underway}
+use Rattle.clover_sched.specs.declared.client.Underway.TheVariants.{Nothing, Get}
+use Rattle.clover_sched.specs.declared.event.CallRefusal.TheVariants.{Unreached, Behind}
+use Rattle.clover_sched.specs.declared.event.Note.{Note}
+use Rattle.clover_sched.specs.declared.event.Note.TheVariants.{Quiet, Answered, Refused}
+use Rattle.clover_sched.specs.Client.{Stands, Moved, Went, Matches, UnderMatches, IsUnder, since_of, spent, spent_by}
+use Rattle.clover_sched.specs.Folds.{Doing, stepped, nothing}
+use Rattle.clover_sched.specs.Run.{Opening, IsStep, IsEntry, IsCommit, Wrote}
+use Rattle.clover_sched.proofs.Moving.{MadeSo, RefusedSo, IsNoLink, made_so, refused_so, names_kept, moved_quiet, moved_entered, moved_refused}
+use Rattle.clover_sched.proofs.Stepping.{made_step, refused_step, stands_made, stands_entered, stands_refused}
+
+-- the walk is on the same slot of the same pool, and its call has made an access
+record Goes (w w1 : Walking) : Type 0 where
+  pub pool : w1.pool ≡ w.pool
+  pub slot : w1.slot ≡ w.slot
+  pub first : w1.first ≡ false
+
+either_goes : (b : Bool) (w y z : Walking) → Goes w y → Goes w z → Goes w (cond b y z)
+either_goes true w y z h k = h
+either_goes false w y z h k = k
+
+hops_goes : (w : Walking) (t : ℕ) (l : Option ℕ) → Goes w (hops w t l)
+hops_goes w t None = record { pool = refl; slot = refl; first = refl }
+hops_goes w t (Some u) = record { pool = refl; slot = refl; first = refl }
+
+followed_goes : (w : Walking) (t : ℕ) (n : Next) → Goes w (followed w t n)
+followed_goes w t (word a l) = either_goes (eqb a (age t)) w (hops w t l) _ (hops_goes w t l) (record { pool = refl; slot = refl; first = refl })
+
+rooted_goes : (w : Walking) (r : Option ℕ) → Goes w (rooted w r)
+rooted_goes w None = record { pool = refl; slot = refl; first = refl }
+rooted_goes w (Some t) = record { pool = refl; slot = refl; first = refl }
+
+-- the walk has not ended
+abbrev Stays : Stand → Type 0
+Stays StandEnded = ⊥
+Stays at = Unit {0}
+
+walk_goes : (at : Stand) (w : Walking) (x : ℕ) → Stays at → Goes w (goes_from at w x)
+walk_goes AtRoot w x h = rooted_goes w (root_of x)
+walk_goes (AtTag t) w x h = followed_goes w t (next_of x)
+walk_goes (AtLink t u) w x h = record { pool = refl; slot = refl; first = refl }
+walk_goes (OnTail t) w x h = followed_goes w t (next_of x)
+walk_goes StandEnded w x h = absurd h
+
+way_stays : (at : Stand) → IsOnWay at → Stays at
+way_stays AtRoot h = tt
+way_stays (AtTag t) h = tt
+way_stays (AtLink t u) h = tt
+way_stays (OnTail t) h = absurd h
+way_stays StandEnded h = absurd h
+
+tail_goes : (w : Walking) (t x : ℕ) → w.stand ≡ OnTail t → Goes w (goes_on w x)
+tail_goes w t x e = walk_goes w.stand w x (subst Stays (sym e) tt)
+
+last_goes : (b : Bool) (w : Walking) (t x : ℕ) (g1 : Getting) → w.stand ≡ OnTail t → w.first ≡ false → g1 ≡ cond b (getting w Over) (sought (goes_on w x)) → Goes w g1.walk
+last_goes true w t x g1 at first e = subst (λ (g : Getting). Goes w g.walk) (sym e) (record { pool = refl; slot = refl; first = first })
+last_goes false w t x g1 at first e = subst (λ (g : Getting). Goes w g.walk) (sym e) (tail_goes w t x at)
+
+-- a get that goes on does so on its slot
+goes : (s : Stage) (w : Walking) (v : View) (into : ValueBuf) (size x : ℕ) (g1 : Getting) → StandsOn s w v into → GoesFrom s w size x g1 → Goes w g1.walk
+goes Seeking w v into size x g1 h e = subst (λ (g : Getting). Goes w g.walk) (sym e) (walk_goes w.stand w x (way_stays w.stand h))
+goes (AtMeta t) w v into size x g1 h (m, r, e) = subst (λ (g : Getting). Goes w g.walk) (sym e) (record { pool = refl; slot = refl; first = h.1 })
+goes (AtValue t f j) w v into size x g1 h e = subst (λ (g : Getting). Goes w g.walk) (sym e) (record { pool = refl; slot = refl; first = h.0.1 })
+goes (AtFound t f) w v into size x g1 h e = last_goes (x == unlinked t) w t x g1 h.0.0 h.0.1 e
+goes (AtDead t) w v into size x g1 h e = last_goes (x == unlinked t) w t x g1 h.0.0 h.0.1 e
+goes (AtBad t) w v into size x g1 h e = subst (λ (g : Getting). Goes w g.walk) (sym e) (tail_goes w t x h.0.0)
+goes Over w v into size x g1 h e = absurd h
+
+walk_reads : (s : ℕ) (at : Stand) (x : ℕ) → Wrote (act_of (step_at s at) x) → ⊥
+walk_reads s AtRoot x h = h
+walk_reads s (AtTag t) x h = h
+walk_reads s (AtLink t u) x h = h
+walk_reads s (OnTail t) x h = h
+walk_reads s StandEnded x h = h
+
+-- no access of a get is an exchange
+reads : (s : Stage) (w : Walking) (k : List ℕ) (into : ValueBuf) (x : ℕ) → Wrote (act_of (step_from s w k into) x) → ⊥
+reads Seeking w k into x h = walk_reads w.slot w.stand x h
+reads (AtMeta t) w k into x h = h
+reads (AtValue t f j) w k into x h = h
+reads (AtFound t f) w k into x h = h
+reads (AtDead t) w k into x h = h
+reads (AtBad t) w k into x h = h
+reads Over w k into x h = walk_reads w.slot w.stand x h
+
+walk_links : (s : ℕ) (at : Stand) → IsNoLink (step_at s at)
+walk_links s AtRoot = tt
+walk_links s (AtTag t) = tt
+walk_links s (AtLink t u) = tt
+walk_links s (OnTail t) = tt
+walk_links s StandEnded = tt
+
+links : (s : Stage) (w : Walking) (k : List ℕ) (into : ValueBuf) → IsNoLink (step_from s w k into)
+links Seeking w k into = walk_links w.slot w.stand
+links (AtMeta t) w k into = tt
+links (AtValue t f j) w k into = tt
+links (AtFound t f) w k into = tt
+links (AtDead t) w k into = tt
+links (AtBad t) w k into = tt
+links Over w k into = walk_links w.slot w.stand
+
+-- a last load shows the tag not unlinked
+abbrev Misses : Stage → ℕ → Type 0
+Misses (AtFound t f) x = (x == unlinked t) ≡ false
+Misses (AtDead t) x = (x == unlinked t) ≡ false
+Misses s x = Unit {0}
+
+walk_quiet : (s : ℕ) (at : Stand) (h : List Entry) (v : View) (x : ℕ) → next_history (step_at s at) h v x ≡ h
+walk_quiet s AtRoot h v x = refl
+walk_quiet s (AtTag t) h v x = refl
+walk_quiet s (AtLink t u) h v x = refl
+walk_quiet s (OnTail t) h v x = refl
+walk_quiet s StandEnded h v x = refl
+
+-- the history is as it was
+quiet : (s : Stage) (w : Walking) (k : List ℕ) (into : ValueBuf) (h : List Entry) (v : View) (x : ℕ) → Misses s x → next_history (step_from s w k into) h v x ≡ h
+quiet Seeking w k into h v x m = walk_quiet w.slot w.stand h v x
+quiet (AtMeta t) w k into h v x m = refl
+quiet (AtValue t f j) w k into h v x m = refl
+quiet (AtFound t f) w k into h v x m = ap (λ (b : Bool). cond b (h ++ link_entry v (client v) (GetOf k) (Found t (value_in f into)) ∷ []) h) m
+quiet (AtDead t) w k into h v x m = ap (λ (b : Bool). cond b (h ++ link_entry v (client v) (GetOf k) Absent ∷ []) h) m
+quiet (AtBad t) w k into h v x m = refl
+quiet Over w k into h v x m = walk_quiet w.slot w.stand h v x
+
+open_misses : (b : Bool) (w : Walking) (x : ℕ) (g1 : Getting) → g1 ≡ cond b (getting w Over) (sought (goes_on w x)) → IsOpen g1.stage → b ≡ false
+open_misses true w x g1 e h = absurd (subst (λ (g : Getting). IsOpen g.stage) e h)
+open_misses false w x g1 e h = refl
+
+-- a get that goes on was not decided
+going_misses : (s : Stage) (w : Walking) (size x : ℕ) (g1 : Getting) → GoesFrom s w size x g1 → IsOpen g1.stage → Misses s x
+going_misses Seeking w size x g1 e h = tt
+going_misses (AtMeta t) w size x g1 e h = tt
+going_misses (AtValue t f j) w size x g1 e h = tt
+going_misses (AtFound t f) w size x g1 e h = open_misses (x == unlinked t) w x g1 e h
+going_misses (AtDead t) w size x g1 e h = open_misses (x == unlinked t) w x g1 e h
+going_misses (AtBad t) w size x g1 e h = tt
+going_misses Over w size x g1 e h = tt
+
+turn_misses : (b : Bool) (n : ℕ) → n ≡ cond b 0 1 → n ≢ 0 → b ≡ false
+turn_misses true n e h = absurd (h e)
+turn_misses false n e h = refl
+
+-- nor was one that made a turn
+turning_misses : (s : Stage) (w : Walking) (k : List ℕ) (into : ValueBuf) (x : ℕ) → turn_of (step_from s w k into) x ≢ 0 → Misses s x
+turning_misses Seeking w k into x h = tt
+turning_misses (AtMeta t) w k into x h = tt
+turning_misses (AtValue t f j) w k into x h = tt
+turning_misses (AtFound t f) w k into x h = turn_misses (x == unlinked t) _ refl h
+turning_misses (AtDead t) w k into x h = turn_misses (x == unlinked t) _ refl h
+turning_misses (AtBad t) w k into x h = tt
+turning_misses Over w k into x h = tt
+
+-- a get that holds what it stands on goes on
+holding_open : (s : Stage) (w : Walking) (v : View) (into : ValueBuf) → StandsOn s w v into → IsOpen s
+holding_open Seeking w v into h = tt
+holding_open (AtMeta t) w v into h = tt
+holding_open (AtValue t f j) w v into h = tt
+holding_open (AtFound t f) w v into h = tt
+holding_open (AtDead t) w v into h = tt
+holding_open (AtBad t) w v into h = tt
+holding_open Over w v into h = absurd h
+
+length_more : (l : List Act) (a : Act) → length (l ++ a ∷ []) ≡ suc (length l)
+length_more l a = let e = length-append l (a ∷ []) in omega arith
+
+-- a client's state where a get is under way
+abbrev pub with_get : ClientState → Getting → ValueBuf → Call → ClientState
+with_get x g into asked = record { under = Get g into asked; refusing = false; taken = x.taken; number = x.number }
+
+abbrev pub at_rest : ClientState → ClientState
+at_rest x = record { under = Nothing; refusing = false; taken = x.taken; number = x.number }
+
+abbrev pub answered : ClientState → ClientState
+answered x = record { under = Nothing; refusing = false; taken = x.taken; number = x.number + 1 }
+
+module _ (o : Opening) (i : ℕ) (p : Plain) (x : ClientState) (g : Getting) (into : ValueBuf) (asked : Call) (s : Stands o p i x) (is : x.under ≡ Get g into asked) where
+  under : IsUnder o.setup.pool (view_at p i) (Get g into asked)
+  under = subst (λ (u : Underway). IsUnder o.setup.pool (view_at p i) u) is s.under
+
+  doing : (d : Doing) → Matches x (view_at p i) d → UnderMatches (Get g into asked) (view_at p i) d
+  doing d m = subst (λ (u : Underway). UnderMatches u (view_at p i) d) is m.under
+
+  since : since_of x.under (view_at p i) ≡ cond g.walk.first [] (view_at p i).pass.since
+  since = ap (λ (u : Underway). since_of u (view_at p i)) is
+
+  below : i < length p.views
+  below = let a = s.seats in let b = s.seat in omega arith
+
+  spends : x.taken ≤ spent x
+  spends = let e : spent x ≡ x.taken = ap (λ (u : Underway). spent_by u x.taken) is in omega arith
+
+  came : (act : Act) → CameBack p.setup.pool p.words act → CameBack o.setup.pool p.words act
+  came act h = subst (λ (z : Setup). CameBack z.pool p.words act) s.setup h
+
+  module _ (few : p.made < 2 ^ 64 - 1) (q : Plain) (n : ℕ) (made : Made p.setup.pool (get_step g (key_of g (view_at p i)) into) g.walk.first (view_at p i) (Some (open_of p)) n (view_at q i) (Some (open_of q)))
+      (accessed : Accessed i true p q) where
+    so : MadeSo i p q (get_step g (key_of g (view_at p i)) into) g.walk.first n
+    so = made_so i p q (get_step g (key_of g (view_at p i)) into) g.walk.first n few below s.role s.entered made accessed
+
+    -- the access decides nothing, and the get goes on
+    pub went_on : (g1 : Getting) (into1 : ValueBuf) → x.refusing ≡ false → GoesOn g into1.length n g1 → GetHolds g1 (view_at q i) into1 → Went o i x (with_get x g1 into1 asked) p q Quiet
+    went_on g1 into1 free go h =
+        let k = key_of g (view_at p i) in
+        let a : Step = get_step g k into in
+        let act : Act = act_of a n in
+        let gs = goes g.stage g.walk (view_at p i) into into1.length n g1 under.2.stage go in
+        let opens = holding_open g1.stage g1.walk (view_at q i) into1 h.stage in
+        let same : next_history a (history p) (view_at p i) n ≡ history p = quiet g.stage g.walk k into (history p) (view_at p i) n (going_misses g.stage g.walk into1.length n g1 go opens) in
+        let names : (view_at q i).pass.names ≡ (view_at p i).pass.names = ap (λ (v : View). v.pass.names) so.view ∙ names_kept a g.walk.first (history p) (view_at p i) n in
+        let slot : g1.walk.slot ≡ g.walk.slot = gs.slot in
+        record {
+          access = access i act false;
+          entry = None;
+          moved = moved_quiet i p q a g.walk.first n so s.entered same;
+          stands = stands_made o i p x (with_get x g1 into1 asked) s q a g.walk.first n so (links g.stage g.walk k into) same refl refl (opens, gs.pool ∙ under.1, h, under.3 ∙ sym (λ j. GetOf (key_at (names j) (slot j))));
+          follows = λ d m.
+              let u = doing d m in
+              (made_step o i d p.words (length (own p.entries (suc i))) (ClientTask asked u.0.0) u.0.1 act None Quiet (sym m.refusing ∙ free) (came act so.came) tt (λ w. absurd (reads g.stage g.walk k into n w)) tt,
+                record { refusing = refl; under = (u.0, u.1, ap (λ (l : List Act). l ++ act ∷ []) u.2 ∙ sym so.since ∙ sym (ap (λ (b : Bool). cond b [] (view_at q i).pass.since) gs.first)) });
+          longer = λ ne. ap (λ (b : Bool). length (cond b [] (view_at q i).pass.since)) gs.first ∙ ap length so.since ∙ length_more _ act ∙ ap (λ (l : List Act). suc (length l)) (sym since);
+          spent = spends;
+        }
+
+    -- the turns of the call have reached the budget
+    pub went_behind : (turns : ℕ) → x.refusing ≡ false → turns ≡ budget p.setup.pool → (view_at q i).pass.turns ≡ budget p.setup.pool → Went o i x (at_rest x) p q (Refused (suc i) (Behind turns))
+    went_behind turns free much all =
+        let k = key_of g (view_at p i) in
+        let a : Step = get_step g k into in
+        let act : Act = act_of a n in
+        let t = (stepped_so p.setup.pool a g.walk.first (view_at p i) (Some (open_of p)) n (view_at q i) (Some (open_of q)) made).turns in
+        let most : budget g.walk.pool ≡ budget p.setup.pool = ap budget (under.1 ∙ sym (ap (λ (z : Setup). z.pool) s.setup)) in
+        let few_turns = under.2.walk.below in
+        let counted = under.2.walk.turns in
+        let turned : turn_of a n ≢ 0 = λ z. omega arith in
+        let same : next_history a (history p) (view_at p i) n ≡ history p = quiet g.stage g.walk k into (history p) (view_at p i) n (turning_misses g.stage g.walk k into n turned) in
+        record {
+          access = access i act false;
+          entry = None;
+          moved = moved_quiet i p q a g.walk.first n so s.entered same;
+          stands = stands_made o i p x (at_rest x) s q a g.walk.first n so (links g.stage g.walk k into) same refl refl tt;
+          follows = λ d m.
+              let u = doing d m in
+              (made_step o i d p.words (length (own p.entries (suc i))) (ClientTask asked u.0.0) u.0.1 act None (Refused (suc i) (Behind turns)) (sym m.refusing ∙ free) (came act so.came) tt (λ w. absurd (reads g.stage g.walk k into n w))
+                (refl, much ∙ ap (λ (z : Setup). budget z.pool) s.setup, refl),
+                record { refusing = refl; under = refl });
+          longer = λ ne. absurd (ne refl);
+          spent = spends;
+        }
+
+    module _ (c : ℕ) (reply : Reply) (mine : suc i ≡ c) (ended : Ended p.setup.pool (GetOf (key_of g (view_at p i))) reply (view_at p i) (Some (open_of p)) (view_at q i) (Some (open_of q))) where
+      -- the history grew by the get's entry
+      grows : history q ≡ history p ++ record { client = c; number = x.number + 1; call = asked; reply = reply } ∷ []
+      grows =
+          let v = view_at p i in
+          let k = key_of g v in
+          let last : Step = DecideNext ended.slot ended.tag (GetOf k) reply in
+          let m = made_so i p q last false (unlinked ended.tag) few below s.role s.entered ended.made accessed in
+          let who : client v ≡ c = ap number_of s.role ∙ mine in
+          let number : suc (length v.pass.calls) ≡ x.number + 1 = (let a = m.number in let b = s.number in omega arith) in
+          let e : link_entry v (client v) (GetOf k) reply ≡ record { client = c; number = x.number + 1; call = asked; reply = reply } = (λ j. record { client = who j; number = number j; call = sym under.3 j; reply = reply }) in
+          m.history ∙ ap (λ (b : Bool). cond b (history p ++ link_entry v (client v) (GetOf k) reply ∷ []) (history p)) (eq-eqb (unlinked ended.tag) (unlinked ended.tag) refl) ∙ ap (λ (z : Entry). history p ++ z ∷ []) e
+
+      -- so the entry is the one that may be entered
+      pub enters : history q ≡ q.entries ++ record { client = c; number = x.number + 1; call = asked; reply = reply } ∷ []
+      enters = grows ∙ ap (λ (h : List Entry). h ++ record { client = c; number = x.number + 1; call = asked; reply = reply } ∷ []) (sym s.entered ∙ sym so.entries)
+
+      -- the access decides the call, and its entry was entered
+      pub went_answered : (r : Plain) → x.refusing ≡ false → IsCommit reply ≡ false → r.entries ≡ q.entries ++ record { client = c; number = x.number + 1; call = asked; reply = reply } ∷ [] → KeptButEntries q r
+          → Went o i x (answered x) p r (Answered c reply)
+      went_answered r free commit entries kept =
+          let v = view_at p i in
+          let k = key_of g v in
+          let a : Step = get_step g k into in
+          let act : Act = act_of a n in
+          let entry : Entry = record { client = c; number = x.number + 1; call = asked; reply = reply } in
+          let moved : Moved i (access i act false) (Some entry) p r = moved_entered i p q r a g.walk.first n entry so s.entered (sym so.history ∙ grows) entries kept in
+          record {
+            access = access i act false;
+            entry = Some entry;
+            moved = moved;
+            stands = stands_entered o i p x (answered x) s q r a g.walk.first n entry so (links g.stage g.walk k into) moved kept (sym mine) refl refl tt;
+            follows = λ d m.
+                let u = doing d m in
+                let acts : (view_at q i).pass.since ≡ d.since ++ act ∷ [] = so.since ∙ ap (λ (l : List Act). l ++ act ∷ []) (sym u.2) in
+                let d0 : Decides o.setup.pool ended.made.now.words v.pass.names (view_at q i).pass.since (GetOf k) reply = subst (λ (z : Setup). Decides z.pool ended.made.now.words v.pass.names (view_at q i).pass.since (GetOf k) reply) s.setup ended.decides in
+                let d1 : Decides o.setup.pool p.words v.pass.names (view_at q i).pass.since (GetOf k) reply = subst (λ (z : Open). Decides o.setup.pool z.words v.pass.names (view_at q i).pass.since (GetOf k) reply) (sym ended.made.tells.0) d0 in
+                let d2 : Decides o.setup.pool p.words o.names (view_at q i).pass.since (GetOf k) reply = subst (λ (z : List (ℕ × List ℕ)). Decides o.setup.pool p.words z (view_at q i).pass.since (GetOf k) reply) s.names d1 in
+                let d3 : Decides o.setup.pool p.words o.names (d.since ++ act ∷ []) (GetOf k) reply = subst (λ (z : List Act). Decides o.setup.pool p.words o.names z (GetOf k) reply) acts d2 in
+                let d4 : Decides o.setup.pool p.words o.names (d.since ++ act ∷ []) asked reply = subst (λ (z : Call). Decides o.setup.pool p.words o.names (d.since ++ act ∷ []) z reply) (sym under.3) d3 in
+                let number : x.number + 1 ≡ suc (length (own p.entries (suc i))) = (let b = s.number in omega arith) in
+                (made_step o i d p.words (length (own p.entries (suc i))) (ClientTask asked u.0.0) u.0.1 act (Some entry) (Answered c reply) (sym m.refusing ∙ free) (came act so.came)
+                  (record { access = access i act false; last = refl; made = refl; written = u.0.0; task = u.0.1; first = u.1; client = sym mine; number = number; decided = d4 })
+                  (λ w. refl) (sym mine, (commit, refl)),
+                  record { refusing = refl; under = refl });
+            longer = λ ne. absurd (ne refl);
+            spent = spends;
+          }
+
+  -- the access was refused
+  pub went_unreached : (q : Plain) → x.refusing ≡ true → view_at q i ≡ view_at p i → Accessed i true p q → Went o i x (at_rest x) p q (Refused (suc i) Unreached)
+  went_unreached q refused same accessed =
+      let r = refused_so i p q below same accessed in
+      record {
+        access = access i r.act true;
+        entry = None;
+        moved = moved_refused i p q r s.entered;
+        stands = stands_refused o i p x (at_rest x) s q r refl refl tt;
+        follows = λ d m.
+            let u = doing d m in
+            (refused_step o i d p.words (length (own p.entries (suc i))) (ClientTask asked u.0.0) u.0.1 r.act (sym m.refusing ∙ refused) r.blank u.1, record { refusing = refl; under = refl });
+        longer = λ ne. absurd (ne refl);
+        spent = spends;
+      }

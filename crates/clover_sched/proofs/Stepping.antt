@@ -1,0 +1,173 @@
+-- What one access of a client is in a run, and where the client stands behind it.
+use Rattle.std.proofs.Common.{◌≡◌, ◌≢◌, ◌⊎◌, inl, inr, ℕ, suc, ◌+◌, ◌==◌, List, [], ◌∷◌, ◌++◌, length, get_or, filter, Bool, true, false, cond, if◌then◌else◌, refl, sym, ap, ◌∙◌, subst, arith, eq-eqb}
+use Rattle.std.specs.Prelude.{Option, Some, None, IfSome, IsSome}
+use Rattle.std.proofs.lemmas.List.Elements.{filter-append}
+use Rattle.std.proofs.Math.ListN.{length-append}
+use Rattle.clover_words.specs.declared.setup.Setup.{Setup}
+use Rattle.clover_map.specs.History.{own}
+use Rattle.clover_map.specs.declared.call.Entry.{Entry}
+use Rattle.clover_map.specs.declared.call.Reply.{Reply}
+use Rattle.clover_script.specs.declared.line.Task.{Task}
+use Rattle.clover_rule.specs.Accesses.{CameBack}
+use Rattle.clover_rule.specs.Rule.{longest}
+use Rattle.clover_rule.specs.Steps.{Step, act_of, next_history}
+use Rattle.clover_rule.specs.declared.access.Access.{Access}
+use Rattle.clover_rule.specs.declared.access.Act.{Act}
+use Rattle.clover_rule.specs.declared.view.View.{View}
+use Rattle.clover_plain.specs.Plain.{Plain, Accessed, Kept, KeptButEntries, outset, view_at, history, access}
+use Rattle.clover_sched.specs.declared.client.ClientState.{ClientState}
+use Rattle.clover_sched.specs.declared.event.CallRefusal.TheVariants.{Unreached}
+use Rattle.clover_sched.specs.declared.event.Note.{Note}
+use Rattle.clover_sched.specs.declared.event.Note.TheVariants.{Refused}
+use Rattle.clover_sched.specs.Client.{stock_at, Stands, Moved, Went, Matches, IsUnder, since_of, step_record}
+use Rattle.clover_sched.specs.Folds.{Doing, listed, words_by, made_by}
+use Rattle.clover_sched.specs.Run.{Opening, IsStep, IsEntry, IsCause, IsBlank, Wrote, lost}
+use Rattle.clover_sched.proofs.Moving.{MadeSo, RefusedSo, IsNoLink, role_kept, names_kept, stock_kept}
+
+pub some_is : {A : Type 0} (y z : A) → Some y ≡ Some z → y ≡ z
+some_is y z e = cc
+
+-- a call under way is none at rest
+pub task_there : (o : Option Task) (t : Task) → o ≡ Some t → o ≡ None → ⊥
+task_there o t e f = let g : Some t ≡ None = sym e ∙ f in cc
+
+-- room that was made changes nothing of what is said
+pub kept_view : (i : ℕ) (p q : Plain) → Kept p q → view_at q i ≡ view_at p i
+kept_view i p q k = λ z. get_or (k.views z) i (outset (k.setup z))
+
+pub stands_kept : (o : Opening) (p q : Plain) (i : ℕ) (x : ClientState) → Kept p q → Stands o p i x → Stands o q i x
+stands_kept o p q i x k s =
+    let e = kept_view i p q k in
+    record {
+      setup = k.setup ∙ s.setup;
+      opened = k.opened ∙ s.opened;
+      entered = k.entries ∙ s.entered ∙ sym (ap longest k.views);
+      seat = s.seat;
+      seats = ap length k.views ∙ s.seats;
+      role = ap (λ (v : View). v.pass.role) e ∙ s.role;
+      names = ap (λ (v : View). v.pass.names) e ∙ s.names;
+      stock = ap (λ (v : View). v.pass.stock) e ∙ s.stock;
+      number = s.number ∙ ap (λ (h : List Entry). length (own h (suc i))) (sym k.entries);
+      under = subst (λ (v : View). IsUnder o.setup.pool v x.under) (sym e) s.under;
+    }
+
+moved_kept : (i : ℕ) (a : Access) (e : Option Entry) (p p1 q : Plain) → Kept p p1 → Moved i a e p1 q → Moved i a e p q
+moved_kept i a e p p1 q k m = record {
+  words = m.words ∙ (λ z. words_by (k.setup z).pool (k.words z) (Some a));
+  others = λ j ne. m.others j ne ∙ kept_view j p p1 k;
+  seats = m.seats ∙ ap length k.views;
+  entries = m.entries ∙ ap (λ (l : List Entry). l ++ listed e) k.entries;
+  entered = m.entered;
+  accesses = m.accesses ∙ (λ z. if k.traced z then k.accesses z ++ a ∷ [] else k.accesses z);
+  made = m.made ∙ ap (λ (n : ℕ). made_by n (Some a)) k.made;
+  whole = m.whole ∙ k.whole;
+  setup = m.setup ∙ k.setup;
+  start = m.start ∙ k.start;
+  traced = m.traced ∙ k.traced;
+  opened = m.opened ∙ k.opened;
+}
+
+pub went_kept : (o : Opening) (i : ℕ) (x y : ClientState) (p p1 q : Plain) (note : Note) → Kept p p1 → Went o i x y p1 q note → Went o i x y p q note
+went_kept o i x y p p1 q note k w =
+    let e = kept_view i p p1 k in
+    record {
+      access = w.access;
+      entry = w.entry;
+      moved = moved_kept i w.access w.entry p p1 q k w.moved;
+      stands = w.stands;
+      follows = λ d m.
+          let f = w.follows d (subst (λ (v : View). Matches x v d) (sym e) m) in
+          (subst (λ (h : List Entry). IsStep o (suc i) d p.words (length (own h (suc i))) (step_record i w.access w.entry note)) k.entries
+            (subst (λ (ws : List ℕ). IsStep o (suc i) d ws (length (own p1.entries (suc i))) (step_record i w.access w.entry note)) k.words f.0), f.1);
+      longer = λ n. w.longer n ∙ ap (λ (v : View). suc (length (since_of x.under v))) e;
+      spent = w.spent;
+    }
+
+-- an access leaves the room for an entry
+pub room_left : (i : ℕ) (p q : Plain) → Accessed i true p q → (q.entry_room ≡ p.entry_room) × (q.opened ≡ p.opened)
+room_left i p q (inl (a, b, x, s)) = (s.same.entry_room, s.same.opened)
+room_left i p q (inr (a, r)) = (r.same.entry_room, r.same.opened)
+
+-- one entry more of a client
+pub own_more : (h : List Entry) (e : Entry) (c : ℕ) → e.client ≡ c → length (own (h ++ e ∷ []) c) ≡ length (own h c) + 1
+own_more h e c is =
+    let one : own (e ∷ []) c ≡ e ∷ [] = ap (λ (b : Bool). cond b (e ∷ []) []) (eq-eqb e.client c is) in
+    ap length (filter-append (λ (z : Entry). z.client == c) h (e ∷ [])) ∙ length-append (own h c) (own (e ∷ []) c) ∙ ap (λ (l : List Entry). length (own h c) + length l) one
+
+module _ (o : Opening) (i : ℕ) (d : Doing) (ws : List ℕ) (n : ℕ) (t : Task) (task : d.task ≡ Some t) (act : Act) where
+  -- an access that was made is a step
+  pub made_step : (e : Option Entry) (note : Note) → d.refusing ≡ false → CameBack o.setup.pool ws act → IfSome e (IsEntry o (suc i) d ws n (step_record i (access i act false) e note))
+      → (Wrote act → IsSome e) → IsCause o.setup.pool (suc i) d e act note → IsStep o (suc i) d ws n (step_record i (access i act false) e note)
+  made_step e note free came entry commits cause = record {
+    idle = λ q. absurd (task_there d.task t task q);
+    one = λ s q. refl;
+    access = record { actor = refl; refused = sym free; blank = λ q. absurd cc; replays = λ q. came };
+    entry = entry;
+    commits = λ z q r w. commits (subst (λ (y : Access). Wrote y.act) (sym (some_is _ _ q)) w);
+    unreached = λ z q r. (let k : false ≡ true = ap (λ (y : Access). y.refused) (some_is _ _ q) ∙ r in absurd cc);
+    cause = λ z q r. subst (λ (y : Access). IsCause o.setup.pool (suc i) d e y.act note) (some_is _ _ q) cause;
+  }
+
+  -- an access that was refused before the call had changed anything is a step
+  pub refused_step : d.refusing ≡ true → IsBlank act → d.decided ≡ None → IsStep o (suc i) d ws n (step_record i (access i act true) None (Refused (suc i) Unreached))
+  refused_step asked blank none = record {
+    idle = λ q. absurd (task_there d.task t task q);
+    one = λ s q. refl;
+    access = record { actor = refl; refused = sym asked; blank = λ q. blank; replays = λ q. absurd cc };
+    entry = tt;
+    commits = λ z q r w. (let k : true ≡ false = ap (λ (y : Access). y.refused) (some_is _ _ q) ∙ r in absurd cc);
+    unreached = λ z q r. (refl, ap (λ (y : Option Reply). Refused (suc i) (lost y)) (sym none));
+    cause = λ z q r. (let k : true ≡ false = ap (λ (y : Access). y.refused) (some_is _ _ q) ∙ r in absurd cc);
+  }
+
+module _ (o : Opening) (i : ℕ) (p : Plain) (x y : ClientState) (s : Stands o p i x) where
+  -- where the client stands behind an access that added no entry
+  pub stands_made : (q : Plain) (a : Step) (b : Bool) (n : ℕ) → MadeSo i p q a b n → IsNoLink a → next_history a (history p) (view_at p i) n ≡ history p
+      → y.taken ≡ x.taken → y.number ≡ x.number → IsUnder o.setup.pool (view_at q i) y.under → Stands o q i y
+  stands_made q a b n m free same taken number under = record {
+    setup = m.setup ∙ s.setup;
+    opened = m.opened ∙ s.opened;
+    entered = m.entries ∙ s.entered ∙ sym same ∙ sym m.history;
+    seat = s.seat;
+    seats = m.seats ∙ s.seats;
+    role = ap (λ (v : View). v.pass.role) m.view ∙ role_kept a b (history p) (view_at p i) n ∙ s.role;
+    names = ap (λ (v : View). v.pass.names) m.view ∙ names_kept a b (history p) (view_at p i) n ∙ s.names;
+    stock = ap (λ (v : View). v.pass.stock) m.view ∙ stock_kept a b (history p) (view_at p i) n free ∙ s.stock ∙ ap (stock_at o.setup (suc i)) (sym taken);
+    number = number ∙ s.number ∙ ap (λ (h : List Entry). length (own h (suc i))) (sym m.entries);
+    under = under;
+  }
+
+  -- where it stands behind one that decided its call, whose entry was then entered
+  pub stands_entered : (q r : Plain) (a : Step) (b : Bool) (n : ℕ) (e : Entry) → MadeSo i p q a b n → IsNoLink a → Moved i (access i (act_of a n) false) (Some e) p r → KeptButEntries q r
+      → e.client ≡ suc i → y.taken ≡ x.taken → y.number ≡ x.number + 1 → IsUnder o.setup.pool (view_at r i) y.under → Stands o r i y
+  stands_entered q r a b n e m free moved k client taken number under =
+    let there : view_at r i ≡ view_at q i = λ z. get_or (k.views z) i (outset (k.setup z)) in
+    record {
+      setup = moved.setup ∙ s.setup;
+      opened = moved.opened ∙ s.opened;
+      entered = moved.entered;
+      seat = s.seat;
+      seats = moved.seats ∙ s.seats;
+      role = ap (λ (v : View). v.pass.role) (there ∙ m.view) ∙ role_kept a b (history p) (view_at p i) n ∙ s.role;
+      names = ap (λ (v : View). v.pass.names) (there ∙ m.view) ∙ names_kept a b (history p) (view_at p i) n ∙ s.names;
+      stock = ap (λ (v : View). v.pass.stock) (there ∙ m.view) ∙ stock_kept a b (history p) (view_at p i) n free ∙ s.stock ∙ ap (stock_at o.setup (suc i)) (sym taken);
+      number = number ∙ ap (λ (k1 : ℕ). k1 + 1) s.number ∙ sym (own_more p.entries e (suc i) client) ∙ ap (λ (h : List Entry). length (own h (suc i))) (sym moved.entries);
+      under = under;
+    }
+
+  -- where it stands behind a refused access
+  pub stands_refused : (q : Plain) → RefusedSo i p q → y.taken ≡ x.taken → y.number ≡ x.number → IsUnder o.setup.pool (view_at q i) y.under → Stands o q i y
+  stands_refused q r taken number under =
+    let there : view_at q i ≡ view_at p i = λ z. get_or (r.views z) i (outset (r.setup z)) in
+    record {
+      setup = r.setup ∙ s.setup;
+      opened = r.opened ∙ s.opened;
+      entered = r.entries ∙ s.entered ∙ sym r.history;
+      seat = s.seat;
+      seats = ap length r.views ∙ s.seats;
+      role = ap (λ (v : View). v.pass.role) there ∙ s.role;
+      names = ap (λ (v : View). v.pass.names) there ∙ s.names;
+      stock = ap (λ (v : View). v.pass.stock) there ∙ s.stock ∙ ap (stock_at o.setup (suc i)) (sym taken);
+      number = number ∙ s.number ∙ ap (λ (h : List Entry). length (own h (suc i))) (sym r.entries);
+      under = under;
+    }
