@@ -76,9 +76,11 @@ went_kept o i x y p p1 q note k w =
       moved = moved_kept i w.access w.entry p p1 q k w.moved;
       stands = w.stands;
       follows = λ d m.
-          let f = w.follows d (subst (λ (v : View). Matches x v d) (sym e) m) in
-          (subst (λ (h : List Entry). IsStep o (suc i) d p.words (length (own h (suc i))) (step_record i w.access w.entry note)) k.entries
-            (subst (λ (ws : List ℕ). IsStep o (suc i) d ws (length (own p1.entries (suc i))) (step_record i w.access w.entry note)) k.words f.0), f.1);
+          let f = w.follows d (subst (λ (v : View). Matches x v d) (sym e) m) in (
+            subst (λ (h : List Entry). IsStep o (suc i) d p.words (length (own h (suc i))) (step_record i w.access w.entry note)) k.entries
+                (subst (λ (ws : List ℕ). IsStep o (suc i) d ws (length (own p1.entries (suc i))) (step_record i w.access w.entry note)) k.words f.0),
+            f.1,
+          );
       longer = λ n. w.longer n ∙ ap (λ (v : View). suc (length (since_of x.under v))) e;
       spent = w.spent;
     }
@@ -141,33 +143,33 @@ module _ (o : Opening) (i : ℕ) (p : Plain) (x y : ClientState) (s : Stands o p
   pub stands_entered : (q r : Plain) (a : Step) (b : Bool) (n : ℕ) (e : Entry) → MadeSo i p q a b n → IsNoLink a → Moved i (access i (act_of a n) false) (Some e) p r → KeptButEntries q r
       → e.client ≡ suc i → y.taken ≡ x.taken → y.number ≡ x.number + 1 → IsUnder o.setup.pool (view_at r i) y.under → Stands o r i y
   stands_entered q r a b n e m free moved k client taken number under =
-    let there : view_at r i ≡ view_at q i = λ z. get_or (k.views z) i (outset (k.setup z)) in
-    record {
-      setup = moved.setup ∙ s.setup;
-      opened = moved.opened ∙ s.opened;
-      entered = moved.entered;
-      seat = s.seat;
-      seats = moved.seats ∙ s.seats;
-      role = ap (λ (v : View). v.pass.role) (there ∙ m.view) ∙ role_kept a b (history p) (view_at p i) n ∙ s.role;
-      names = ap (λ (v : View). v.pass.names) (there ∙ m.view) ∙ names_kept a b (history p) (view_at p i) n ∙ s.names;
-      stock = ap (λ (v : View). v.pass.stock) (there ∙ m.view) ∙ stock_kept a b (history p) (view_at p i) n free ∙ s.stock ∙ ap (stock_at o.setup (suc i)) (sym taken);
-      number = number ∙ ap (λ (k1 : ℕ). k1 + 1) s.number ∙ sym (own_more p.entries e (suc i) client) ∙ ap (λ (h : List Entry). length (own h (suc i))) (sym moved.entries);
-      under = under;
-    }
+      let there : view_at r i ≡ view_at q i = λ z. get_or (k.views z) i (outset (k.setup z)) in
+      record {
+        setup = moved.setup ∙ s.setup;
+        opened = moved.opened ∙ s.opened;
+        entered = moved.entered;
+        seat = s.seat;
+        seats = moved.seats ∙ s.seats;
+        role = ap (λ (v : View). v.pass.role) (there ∙ m.view) ∙ role_kept a b (history p) (view_at p i) n ∙ s.role;
+        names = ap (λ (v : View). v.pass.names) (there ∙ m.view) ∙ names_kept a b (history p) (view_at p i) n ∙ s.names;
+        stock = ap (λ (v : View). v.pass.stock) (there ∙ m.view) ∙ stock_kept a b (history p) (view_at p i) n free ∙ s.stock ∙ ap (stock_at o.setup (suc i)) (sym taken);
+        number = number ∙ ap (λ (k1 : ℕ). k1 + 1) s.number ∙ sym (own_more p.entries e (suc i) client) ∙ ap (λ (h : List Entry). length (own h (suc i))) (sym moved.entries);
+        under = under;
+      }
 
   -- where it stands behind a refused access
   pub stands_refused : (q : Plain) → RefusedSo i p q → y.taken ≡ x.taken → y.number ≡ x.number → IsUnder o.setup.pool (view_at q i) y.under → Stands o q i y
   stands_refused q r taken number under =
-    let there : view_at q i ≡ view_at p i = λ z. get_or (r.views z) i (outset (r.setup z)) in
-    record {
-      setup = r.setup ∙ s.setup;
-      opened = r.opened ∙ s.opened;
-      entered = r.entries ∙ s.entered ∙ sym r.history;
-      seat = s.seat;
-      seats = ap length r.views ∙ s.seats;
-      role = ap (λ (v : View). v.pass.role) there ∙ s.role;
-      names = ap (λ (v : View). v.pass.names) there ∙ s.names;
-      stock = ap (λ (v : View). v.pass.stock) there ∙ s.stock ∙ ap (stock_at o.setup (suc i)) (sym taken);
-      number = number ∙ s.number ∙ ap (λ (h : List Entry). length (own h (suc i))) (sym r.entries);
-      under = under;
-    }
+      let there : view_at q i ≡ view_at p i = λ z. get_or (r.views z) i (outset (r.setup z)) in
+      record {
+        setup = r.setup ∙ s.setup;
+        opened = r.opened ∙ s.opened;
+        entered = r.entries ∙ s.entered ∙ sym r.history;
+        seat = s.seat;
+        seats = ap length r.views ∙ s.seats;
+        role = ap (λ (v : View). v.pass.role) there ∙ s.role;
+        names = ap (λ (v : View). v.pass.names) there ∙ s.names;
+        stock = ap (λ (v : View). v.pass.stock) there ∙ s.stock ∙ ap (stock_at o.setup (suc i)) (sym taken);
+        number = number ∙ s.number ∙ ap (λ (h : List Entry). length (own h (suc i))) (sym r.entries);
+        under = under;
+      }

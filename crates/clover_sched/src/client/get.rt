@@ -125,41 +125,33 @@ impl ClientState {
         }
         pool.reserve()?;
         let refuse = self.refusing;
-        match &mut self.under {
-            Underway::Get {
-                call,
-                room,
-                asked: _,
-            } => {
-                let copies = copies_of(alloc, call, room)?;
-                let turn = access(call, room, pool, client, refuse);
-                self.refusing = false;
-                match turn {
-                    GetTurn::More => Ok(Note::Quiet),
-                    GetTurn::Found { tag, flags: _ } => {
-                        let (entered, noted) = replies_of(tag, copies);
-                        Ok(self.answer(pool, client, entered, noted))
-                    }
-                    GetTurn::Absent { tail: _ } => {
-                        Ok(self.answer(pool, client, Reply::Absent, Reply::Absent))
-                    }
-                    GetTurn::Behind { turns } => {
-                        Ok(self.give_up(client, CallRefusal::Behind { turns }))
-                    }
-                    GetTurn::Unreached => Ok(self.give_up(client, CallRefusal::Unreached)),
-                }
+        let Underway::Get {
+            call,
+            room,
+            asked: _,
+        } = &mut self.under
+        else {
+            unreachable!()
+        };
+        let copies = copies_of(alloc, call, room)?;
+        let turn = access(call, room, pool, client, refuse);
+        self.refusing = false;
+        match turn {
+            GetTurn::More => Ok(Note::Quiet),
+            GetTurn::Found { tag, flags: _ } => {
+                let (entered, noted) = replies_of(tag, copies);
+                Ok(self.answer(pool, client, entered, noted))
             }
-            _ => unreachable!(),
+            GetTurn::Absent { tail: _ } => {
+                Ok(self.answer(pool, client, Reply::Absent, Reply::Absent))
+            }
+            GetTurn::Behind { turns } => { Ok(self.give_up(client, CallRefusal::Behind { turns })) }
+            GetTurn::Unreached => Ok(self.give_up(client, CallRefusal::Unreached)),
         }
     }
+
     // Enters the entry of the get, and answers it.
-    fn answer(
-        &mut self,
-        pool: &mut PlainPool,
-        client: u32,
-        entered: Reply,
-        noted: Reply,
-    ) -> Note
+    fn answer(&mut self, pool: &mut PlainPool, client: u32, entered: Reply, noted: Reply) -> Note
         requires getting { (g : Getting) × (room : Buf) × (asked : Asked) × (self.old.under ≡ IsGet g room asked) }
         requires number { self.old.number < 2 ^ 64 - 1 }
         requires opened { pool.old.opened ≡ true }

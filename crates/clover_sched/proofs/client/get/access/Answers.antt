@@ -1,10 +1,10 @@
 use Prim.Native.Nat.{suc}
-use Rattle.std.proofs.Common.{◌≡◌, ◌≤◌, ◌-◌, ℕ, Bool, true, refl, sym, ap, ◌∙◌, subst, arith, rules}
-use Rattle.std.specs.Prelude.{Option, Some, None}
+use Rattle.std.proofs.Common.{◌≡◌, ◌-◌, ℕ, Bool, true, subst, arith, rules}
+use Rattle.std.specs.Prelude.{Some}
 use Rattle.clover_words.specs.Tag.{tag_number}
 use Rattle.clover_plain.specs.Plain.{Plain, Accessed, view_at, open_of}
 use Rattle.clover_get.specs.Answering.{IfFound, IfAbsent}
-use Rattle.clover_get.specs.Getting.{Getting, value_in}
+use Rattle.clover_get.specs.Getting.{value_in}
 use Rattle.clover_get.specs.Going.{FoundAt, AbsentAt}
 use Rattle.clover_sched.proofs.client.get.access.Goals as goal
 
