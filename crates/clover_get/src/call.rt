@@ -57,10 +57,10 @@ impl GetCall {
     /// room is passed to all its steps.
     ///
     /// `Found` and `Absent`, only where this access was the load of the tail's next word that showed the tail
-    /// unlinked; at `Found` the value's bytes stand in the room, whose length is theirs, as they stood there before the
-    /// access, and before that the room holds no promise to the caller. `Behind`, exactly where by this access the turns of the call have reached the
-    /// budget. `Unreached`, only where the access was refused; neither the call nor the room nor what the actor knows
-    /// has changed then.
+    /// unlinked; at `Found` the value's bytes stand in the room, whose length is theirs, and stood there before the
+    /// access too; earlier the room holds no promise to the caller. `Behind`, exactly where by this access the turns of
+    /// the call have reached the budget. `Unreached`, only where the access was refused; neither the call nor the room
+    /// nor what the actor knows has changed then.
     pub fn step<P: Port>(&mut self, port: &mut P, into: &mut ValueBuf) -> GetTurn
         requires open { IsOpen self.old.stage }
         requires pool { P.pool port.old ≡ self.old.walk.pool }
