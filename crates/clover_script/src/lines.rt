@@ -51,17 +51,17 @@ fn passed_over(text: &[u8]) -> (u64, &[u8])
     ensures size { result.0 + length result.1.now ≤ length text.now }
     ensures last { (line : List ℕ) (more : List (List ℕ)) → lines_of result.1.now ≡ line ∷ more → IsIgnored line → ⊥ }
 {
-    let mut lines = 0;
+    let mut passed = 0;
     let mut rest = text;
     while !rest.is_empty() {
         let (line, after) = first_line(rest);
         if !is_ignored(line) {
-            return (lines, rest);
+            return (passed, rest);
         }
-        lines += 1;
+        passed += 1;
         rest = after;
     }
-    (lines, rest)
+    (passed, rest)
 }
 
 /// The setup of the first line that is not passed over. None exactly where that line is not built.

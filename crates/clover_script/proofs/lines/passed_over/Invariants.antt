@@ -5,8 +5,8 @@ use Rattle.clover_script.proofs.lines.passed_over.Given as goal
 
 abbrev pub invariant-loop-line : goal.invariant-loop-line
 invariant-loop-line l = record {
-  over : (over : List (List ℕ)) × All IsIgnored over × (lines_of l.text ≡ over ++ lines_of l.rest) × (l.lines ≡ length over);
-  size : l.lines + length l.rest ≤ length l.text;
+  over : (over : List (List ℕ)) × All IsIgnored over × (lines_of l.text ≡ over ++ lines_of l.rest) × (l.passed ≡ length over);
+  size : l.passed + length l.rest ≤ length l.text;
 }
 
 abbrev pub decreases-loop-line : goal.decreases-loop-line
