@@ -85,11 +85,12 @@ impl Names {
     }
 
     /// Names a key, if it is not named already. False, and nothing changes, exactly where it is new and
-    /// there are as many keys as there may be.
+    /// there are as many keys as there may be. An error for want of memory alone, and then nothing changes.
     pub fn name(&mut self, key: &Key, most: u32) -> Result<bool, OutOfMemory>
         ensures yes { IfOk result (λ yes. IsTrue yes → NamesKey self.old key.now self.new) }
         ensures fits { IfOk result (λ yes. length self.old ≤ most → length self.new ≤ most) }
         ensures no { IfOk result (λ yes. yes ≡ false → (Contains self.old key.now → ⊥) × (most ≤ length self.old) × (self.new ≡ self.old)) }
+        ensures err { OnErr result (self.new ≡ self.old) }
     {
         if self.find(key).is_some() {
             return Ok(true);
