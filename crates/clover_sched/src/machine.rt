@@ -1,10 +1,11 @@
 // The machine: a pool and its clients, one event at a time.
-ghost use Rattle.std.specs.Prelude.{◌≡◌, ◌<◌, ◌≤◌, ◌++◌, ◌∷◌, [], ◌↔◌, ℕ, List, length, true, IsTrue, IfOk, OnErr};
+ghost use Rattle.std.specs.Prelude.{◌≡◌, ◌<◌, ◌≤◌, ◌++◌, ◌∷◌, [], ◌↔◌, ℕ, List, length, replicate, true, false, IsTrue, IfOk, OnErr};
 ghost use Rattle.clover_words.specs.Preset.{buffers_total};
 ghost use Rattle.clover_sched.specs.Folds.{entries_in, accesses_in, made_in};
 ghost use Rattle.clover_sched.specs.Machine.{IsAt, IsOpening, IsSame, MayCome, IsBusy, left};
 ghost use Rattle.clover_sched.specs.Record.{Record};
 ghost use Rattle.clover_sched.specs.Run.{Opening};
+ghost use Rattle.clover_sched.specs.declared.client.Underway.TheVariants.{Nothing as IsNothing};
 ghost use Rattle.clover_sched.specs.declared.event.Event.TheVariants.{Step as StepOf};
 
 use crate::client::ClientState;
@@ -43,6 +44,17 @@ impl Model for Machine {
     ghost invariant = { IsKept };
 }
 
+// So many clients that have done nothing.
+fn idle_clients(alloc: Global, count: u32) -> Result<Vec<ClientState>, OutOfMemory>
+    ensures { IfOk result (λ clients. clients.items ≡ replicate count (record { under = IsNothing; refusing = false; taken = 0; number = 0 })) }
+{
+    let mut clients = Vec::new(alloc);
+    for _ in 0..count {
+        clients.push(ClientState::idle())?;
+    }
+    Ok(clients)
+}
+
 impl Machine {
     /// The machine of a setup and of the keys of its first slots, over the preset pool, before any event. With
     /// `trace` it lists its accesses. `OutOfMemory` for want of memory.
@@ -57,8 +69,15 @@ impl Machine {
         ensures at { IfOk result (λ m. (o : Opening) × IsOpening setup names o × IsAt o m []) }
         ensures parts { IfOk result (λ m. (m.setup ≡ setup) × (m.names ≡ names) × (m.pool.traced ≡ trace)) }
     {
-        let _ = (alloc, setup.clients, names.len(), trace);
-        Err(OutOfMemory)
+        let mut pool = PlainPool::make(alloc, setup, trace)?;
+        pool.preset(names.keys());
+        let clients = idle_clients(alloc, setup.clients)?;
+        Ok(Machine {
+            setup,
+            names,
+            pool,
+            clients,
+        })
     }
 
     /// Makes an event happen: at most one access and one entry. It answers what the event came to.
