@@ -57,7 +57,7 @@ pushed o m n rs r at follows setup names pool clients each far legal = record {
 }
 
 -- no access and no entry
-pub still : Event → Note → Record
+abbrev pub still : Event → Note → Record
 still e note = record { event = e; access = None; note = note; entry = None }
 
 still_entries : (rs : List Record) (r : Record) → r.entry ≡ None → entries_in (rs ++ r ∷ []) ≡ entries_in rs
@@ -105,8 +105,11 @@ each_set P xs i y here others j z e = dite (ℕ_discrete j i)
     go : nth (set xs i y) i ≡ Some z → y ≡ z
     go at = let l = nth_within (set xs i y) i z at in let k : i < length xs = subst (λ (n : ℕ). i < n) (length-set xs i y) l in let h = nth_set xs i y k in cc
 
-pub with_client : Parts → ℕ → ClientState → Parts
+abbrev pub with_client : Parts → ℕ → ClientState → Parts
 with_client m i y = record m { clients = set m.clients i y }
+
+abbrev pub refusing : ClientState → ClientState
+refusing x = record x { refusing = true }
 
 module _ (o : Opening) (m : Parts) (rs : List Record) (at : IsAt o m rs) where
   still_legal : (r : Record) → r.entry ≡ None → Legal finite.empty [] (entries_in (rs ++ r ∷ []))
@@ -114,7 +117,6 @@ module _ (o : Opening) (m : Parts) (rs : List Record) (at : IsAt o m rs) where
 
   -- nothing is another
   stayed : (e : Event) (note : Note) → Follows o rs (still e note) → ((d : Doing) → does d (still e note) e ≡ d) → IsAt o m (rs ++ still e note ∷ [])
-  unfolding still
   stayed e note follows same = pushed o m m rs r at follows refl refl (still_pool o m.pool rs r at.pool refl refl) refl each (λ d above h. ap (λ (z : Doing). z.task) (same d) ∙ h) (still_legal r refl)
     where
       r : Record
@@ -134,7 +136,6 @@ module _ (o : Opening) (m : Parts) (rs : List Record) (at : IsAt o m rs) where
       if_true false x y e = absurd cc
 
   pub begun_missing : (a : ℕ) (t : Task) → o.setup.clients < a → IsAt o m (rs ++ still (Begin a t) (Missing a) ∷ [])
-  unfolding still
   begun_missing a t above = stayed (Begin a t) (Missing a) (refl, refl, begin_missing a t above) (λ d. refl)
 
   -- the seat of a client that there is
@@ -146,7 +147,6 @@ module _ (o : Opening) (m : Parts) (rs : List Record) (at : IsAt o m rs) where
 
   -- an actor whose call is not over
   pub begun_busy : (i : ℕ) (x : ClientState) (t : Task) → nth m.clients i ≡ Some x → x.under ≢ Nothing → IsAt o m (rs ++ still (Begin (suc i) t) (Busy (suc i)) ∷ [])
-  unfolding still
   begun_busy i x t here busy = stayed (Begin (suc i) t) (Busy (suc i)) (refl, refl, told) (λ d. refl)
     where
       has : (u : Underway) (v : View) (d : Doing) → UnderMatches u v d → u ≢ Nothing → (s : Task) × (d.task ≡ Some s)
@@ -170,7 +170,6 @@ module _ (o : Opening) (m : Parts) (rs : List Record) (at : IsAt o m rs) where
   -- one client is another, and the record has no access and no entry
   pub changed : (i : ℕ) (x y : ClientState) (e : Event) (note : Note) → nth m.clients i ≡ Some x → actor_of e ≡ suc i → Follows o rs (still e note) → Stands o m.pool i y
       → Matches y (view_at m.pool i) (does (doing (suc i) rs) (still e note) e) → spent y ≤ asked (suc i) (rs ++ still e note ∷ []) → IsAt o (with_client m i y) (rs ++ still e note ∷ [])
-  unfolding still with_client
   changed i x y e note here actor follows stands matches few = pushed o m (with_client m i y) rs (still e note) at follows refl refl (still_pool o m.pool rs (still e note) at.pool refl refl) (length-set m.clients i y)
       (each_set (λ (j : ℕ) (z : ClientState). IsClientAt o m.pool j z (rs ++ still e note ∷ [])) m.clients i y (own_client o m.pool i y rs (still e note) actor stands matches few)
         (λ j z apart there. let was = at.each j z there in other_client o m.pool m.pool j z rs (still e note) was (λ (s : actor_of e ≡ suc j). apart (omega (arith, s, actor))) was.stands refl))
@@ -183,7 +182,6 @@ module _ (o : Opening) (m : Parts) (rs : List Record) (at : IsAt o m rs) where
 
   -- a client begins
   pub begun_client : (i : ℕ) (x y : ClientState) (t : Task) (note : Note) → nth m.clients i ≡ Some x → x.under ≡ Nothing → Begins o m.pool i x y t note → IsAt o (with_client m i y) (rs ++ still (Begin (suc i) t) note ∷ [])
-  unfolding still
   begun_client i x y t note here idle b =
       let was = at.each i x here in
       let own = asked_own (suc i) rs (still (Begin (suc i) t) note) t refl in
@@ -193,7 +191,6 @@ module _ (o : Opening) (m : Parts) (rs : List Record) (at : IsAt o m rs) where
 
   -- an actor with no task steps
   idled : (a : ℕ) → (doing a rs).task ≡ None → IsAt o m (rs ++ still (Step a) Quiet ∷ [])
-  unfolding still
   idled a none = stayed (Step a) Quiet (record {
     idle = λ e. (refl, refl, refl);
     one = λ t e. absurd (cc (none, e));
@@ -211,11 +208,7 @@ module _ (o : Opening) (m : Parts) (rs : List Record) (at : IsAt o m rs) where
   idled_client i x here idle = idled (suc i) (idle_task i x here idle)
 
   -- the next access of an actor is to be refused
-  pub refusing : ClientState → ClientState
-  refusing x = record x { refusing = true }
-
   pub refused_client : (i : ℕ) (x : ClientState) → nth m.clients i ≡ Some x → IsAt o (with_client m i (refusing x)) (rs ++ still (Refuse (suc i)) Quiet ∷ [])
-  unfolding still refusing
   refused_client i x here =
       let was = at.each i x here in
       let s = was.stands in
@@ -232,7 +225,6 @@ module _ (o : Opening) (m : Parts) (rs : List Record) (at : IsAt o m rs) where
       same d (Raise c) h = h
 
   pub refused_far : (a : ℕ) → o.setup.clients < a → IsAt o m (rs ++ still (Refuse a) Quiet ∷ [])
-  unfolding still
   refused_far a above = pushed o m m rs (still (Refuse a) Quiet) at (refl, refl, refl) refl refl (still_pool o m.pool rs (still (Refuse a) Quiet) at.pool refl refl) refl
       (λ i x here. let was = at.each i x here in other_client o m.pool m.pool i x rs (still (Refuse a) Quiet) was (λ (e : a ≡ suc i). absent i x here (subst (λ (b : ℕ). o.setup.clients < b) e above)) was.stands refl)
       (λ d over h. h) (still_legal (still (Refuse a) Quiet) refl)
@@ -280,13 +272,12 @@ moved_pool o i x e note p q rs at moved =
     grown true h = ap (λ (l : List Access). l ++ x ∷ []) h
     grown false h = h
 
-pub with_pool : Parts → ℕ → ClientState → Plain → Parts
+abbrev pub with_pool : Parts → ℕ → ClientState → Plain → Parts
 with_pool m i y q = record m { pool = q; clients = set m.clients i y }
 
 -- a client makes the next access of its call
 pub stepped_client : (o : Opening) (m : Parts) (rs : List Record) → IsAt o m rs → (i : ℕ) (x y : ClientState) (q : Plain) (note : Note) → nth m.clients i ≡ Some x → (w : Went o i x y m.pool q note) → Legal finite.empty [] q.entries
     → IsAt o (with_pool m i y q) (rs ++ step_record i w.access w.entry note ∷ [])
-unfolding with_pool
 stepped_client o m rs at i x y q note here w legal =
     let r : Record = step_record i w.access w.entry note in
     let d : Doing = doing (suc i) rs in

@@ -18,6 +18,11 @@ nth_past [] i past = refl
 nth_past (y ∷ ys) zero past = absurd (omega arith)
 nth_past (y ∷ ys) (suc i) past = nth_past ys i (omega arith)
 
+pub nth_none : {A : Type 0} (xs : List A) (i : ℕ) → nth xs i ≡ None → length xs ≤ i
+nth_none [] i e = omega arith
+nth_none (y ∷ ys) zero e = absurd cc
+nth_none (y ∷ ys) (suc i) e = let l = nth_none ys i e in omega arith
+
 pub nth_within : {A : Type 0} (xs : List A) (i : ℕ) (x : A) → nth xs i ≡ Some x → i < length xs
 nth_within [] i x e = absurd cc
 nth_within (y ∷ ys) zero x e = omega arith
@@ -40,3 +45,8 @@ pub nth_replicate : {A : Type 0} (n i : ℕ) (x y : A) → nth (replicate n x) i
 nth_replicate zero i x y e = absurd cc
 nth_replicate (suc n) zero x y e = cc
 nth_replicate (suc n) (suc i) x y e = nth_replicate n i x y e
+
+pub set_same : {A : Type 0} (xs : List A) (i : ℕ) (x : A) → nth xs i ≡ Some x → set xs i x ≡ xs
+set_same [] i x e = absurd cc
+set_same (y ∷ ys) zero x e = let same : y ≡ x = cc in ap (λ z. z ∷ ys) (sym same)
+set_same (y ∷ ys) (suc i) x e = ap (λ zs. y ∷ zs) (set_same ys i x e)

@@ -1,19 +1,22 @@
 // The machine: a pool and its clients, one event at a time.
 ghost use Rattle.std.specs.Prelude.{◌≡◌, ◌<◌, ◌≤◌, ◌++◌, ◌∷◌, [], ◌↔◌, ℕ, List, length, replicate, true, false, IsTrue, IfOk, OnErr};
 ghost use Rattle.clover_words.specs.Preset.{buffers_total};
+ghost use Rattle.clover_map.specs.History.{key_of};
+ghost use Rattle.clover_script.specs.Form.{call_in};
 ghost use Rattle.clover_sched.specs.Folds.{entries_in, accesses_in, made_in};
 ghost use Rattle.clover_sched.specs.Machine.{IsAt, IsOpening, IsSame, MayCome, IsBusy, left};
 ghost use Rattle.clover_sched.specs.Record.{Record};
 ghost use Rattle.clover_sched.specs.Run.{Opening};
 ghost use Rattle.clover_sched.specs.declared.client.Underway.TheVariants.{Nothing as IsNothing};
-ghost use Rattle.clover_sched.specs.declared.event.Event.TheVariants.{Step as StepOf};
+ghost use Rattle.clover_sched.specs.declared.event.Event.TheVariants.{Begin as BeginOf, Step as StepOf, Refuse as RefuseOf};
+ghost use Rattle.clover_sched.specs.declared.event.Note.TheVariants.{Quiet as IsQuiet};
 
 use crate::client::ClientState;
 use crate::event::{Event, Note};
-use clover_map::{Entry, OutOfMemory};
+use clover_map::{Call, Entry, Key, OutOfMemory};
 use clover_plain::PlainPool;
 use clover_rule::Access;
-use clover_script::Names;
+use clover_script::{Names, Task};
 use clover_words::Setup;
 use std::alloc::Global;
 use std::marker::Model;
@@ -55,6 +58,17 @@ fn idle_clients(alloc: Global, count: u32) -> Result<Vec<ClientState>, OutOfMemo
     Ok(clients)
 }
 
+// The key that a task names.
+fn key_in(task: &Task) -> &Key
+    ensures { result.now ≡ key_of (call_in task.now) }
+{
+    let Task::Client { call, .. } = task;
+    match call {
+        Call::Get { key } | Call::Put { key, .. } | Call::Delete { key } | Call::Swap { key, .. } =>
+            { key }
+    }
+}
+
 impl Machine {
     /// The machine of a setup and of the keys of its first slots, over the preset pool, before any event. With
     /// `trace` it lists its accesses. `OutOfMemory` for want of memory.
@@ -90,8 +104,63 @@ impl Machine {
         ensures less { IfOk result (λ note. (a : ℕ) → event ≡ StepOf a → IsBusy self.old a → left self.new a < left self.old a) }
         ensures same { OnErr result (IsSame self.old self.new) }
     {
-        let _ = event;
-        Err(OutOfMemory)
+        match event {
+            Event::Begin { actor, task } => Ok(self.begin(actor, task)),
+            Event::Step { actor } => self.step(actor),
+            Event::Refuse { actor } => {
+                self.refuse(actor);
+                Ok(Note::Quiet)
+            }
+        }
+    }
+
+    // Begins a task of an actor.
+    fn begin(&mut self, actor: u32, task: Task) -> Note
+        requires may { MayCome self.old (BeginOf actor task) }
+        ensures happened { (o : Opening) (rs : List Record) → IsAt o self.old rs → (r : Record) × (r.event ≡ BeginOf actor task) × (r.note ≡ result) × IsAt o self.new (rs ++ r ∷ []) }
+        ensures parts { (self.new.setup ≡ self.old.setup) × (self.new.names ≡ self.old.names) × (self.new.pool.traced ≡ self.old.pool.traced) }
+    {
+        let seat = actor as usize - 1;
+        if seat >= self.clients.len() {
+            return Note::Missing { actor };
+        }
+        if self.clients[seat].is_busy() {
+            return Note::Busy { actor };
+        }
+        let Some(slot) = self.names.find(key_in(&task)) else {
+            unreachable!()
+        };
+        self.clients[seat].begin(&self.setup, slot, actor, task)
+    }
+
+    // Makes the next access of an actor's call.
+    fn step(&mut self, actor: u32) -> Result<Note, OutOfMemory>
+        requires { 1 ≤ actor }
+        ensures happened { IfOk result (λ note. (o : Opening) (rs : List Record) → IsAt o self.old rs → (r : Record) × (r.event ≡ StepOf actor) × (r.note ≡ note) × IsAt o self.new (rs ++ r ∷ [])) }
+        ensures parts { IfOk result (λ note. (self.new.setup ≡ self.old.setup) × (self.new.names ≡ self.old.names) × (self.new.pool.traced ≡ self.old.pool.traced)) }
+        ensures less { IfOk result (λ note. IsBusy self.old actor → left self.new actor < left self.old actor) }
+        ensures same { OnErr result (IsSame self.old self.new) }
+    {
+        if !self.is_busy(actor) {
+            return Ok(Note::Quiet);
+        }
+        let seat = actor as usize - 1;
+        let alloc = *self.clients.allocator();
+        let done = self.clients[seat].step(alloc, &mut self.pool, actor);
+        self.pool.stands();
+        done
+    }
+
+    // Has the next access of an actor refused.
+    fn refuse(&mut self, actor: u32)
+        requires { 1 ≤ actor }
+        ensures happened { (o : Opening) (rs : List Record) → IsAt o self.old rs → (r : Record) × (r.event ≡ RefuseOf actor) × (r.note ≡ IsQuiet) × IsAt o self.new (rs ++ r ∷ []) }
+        ensures parts { (self.new.setup ≡ self.old.setup) × (self.new.names ≡ self.old.names) × (self.new.pool.traced ≡ self.old.pool.traced) }
+    {
+        let seat = actor as usize - 1;
+        if seat < self.clients.len() {
+            self.clients[seat].refusing = true;
+        }
     }
 
     /// Whether an actor has a call under way.

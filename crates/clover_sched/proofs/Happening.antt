@@ -1,0 +1,144 @@
+-- What an event of an actor comes to, by what the machine's client of that number does.
+use Rattle.std.proofs.Common.{◌≡◌, ◌≢◌, ℕ, ◌-◌, ◌≤◌, ◌<◌, suc, length, set, get_or, List, [], ◌∷◌, ◌++◌, Bool, true, false, refl, sym, ap, ◌∙◌, subst, arith}
+use Rattle.std.specs.Prelude.{Option, Some, None, Result, Ok, Err, IfOk, OnErr, if◌then◌else◌}
+use Rattle.std.specs.FinMap as finite
+use Rattle.clover_map.specs.Legal.{Legal}
+use Rattle.clover_map.specs.declared.bytes.OutOfMemory.{OutOfMemory}
+use Rattle.clover_map.specs.declared.call.Entry.{Entry}
+use Rattle.clover_words.specs.declared.setup.Setup.{Setup}
+use Rattle.clover_map.specs.History.{own}
+use Rattle.clover_rule.specs.Lists.{nth}
+use Rattle.clover_rule.specs.Preset.{bindings_from}
+use Rattle.clover_rule.specs.Rule.{longest}
+use Rattle.clover_rule.specs.declared.access.Access.{Access}
+use Rattle.clover_rule.specs.declared.view.View.{View}
+use Rattle.clover_plain.specs.Plain.{Plain, Kept, Running, history, view_at, outset}
+use Rattle.clover_script.specs.declared.line.Task.{Task}
+use Rattle.clover_sched.specs.Client.{Stands, Matches, Went, Begins, IsUnder}
+use Rattle.clover_sched.specs.Folds.{accesses_in, entries_in, doing}
+use Rattle.clover_sched.specs.Machine.{Parts, IsAt, IsBehind, IsClientAt, IsPoolAt, IsSame, IsBusy, HasCall}
+use Rattle.clover_sched.specs.Record.{Record}
+use Rattle.clover_sched.specs.Run.{Opening}
+use Rattle.clover_sched.specs.declared.client.ClientState.{ClientState}
+use Rattle.clover_sched.specs.declared.client.Underway.{Underway}
+use Rattle.clover_sched.specs.declared.client.Underway.TheVariants.{Nothing, Get, Write, Raise}
+use Rattle.clover_sched.specs.declared.event.Event.{Event}
+use Rattle.clover_sched.specs.declared.event.Event.TheVariants.{Begin, Step, Refuse}
+use Rattle.clover_sched.specs.declared.event.Note.{Note}
+use Rattle.clover_sched.specs.declared.event.Note.TheVariants.{Quiet, Busy, Missing}
+use Rattle.clover_sched.proofs.Onward.{still, with_client, with_pool, refusing, begun_missing, begun_busy, begun_client, idled_far, idled_client, refused_client, refused_far, stepped_client}
+use Rattle.clover_sched.proofs.Places.{nth_here, nth_past, nth_within, nth_none, set_same}
+
+-- the event came to this note, and leads from one machine to another
+abbrev pub Happens : Parts → Parts → Event → Note → Type 0
+Happens m n e note = (o : Opening) (rs : List Record) → IsAt o m rs → (r : Record) × (r.event ≡ e) × (r.note ≡ note) × IsAt o n (rs ++ r ∷ [])
+
+pub behind : (m n : Parts) (e : Event) (note : Note) → Happens m n e note → IsBehind m → IsBehind n
+behind m n e note h b = let x = h b.0 b.1 b.2 in (b.0, b.1 ++ x.0 ∷ [], x.3)
+
+module _ (m : Parts) (a : ℕ) (one : 1 ≤ a) where
+  same_actor : suc (a - 1) ≡ a
+  same_actor = omega arith
+
+  -- there is no such client
+  above : (o : Opening) (rs : List Record) → IsAt o m rs → length m.clients ≤ a - 1 → o.setup.clients < a
+  above o rs at past = let n = at.clients in omega arith
+
+  pub missing_happens : (t : Task) → length m.clients ≤ a - 1 → Happens m m (Begin a t) (Missing a)
+  missing_happens t past o rs at = (_, refl, refl, begun_missing o m rs at a t (above o rs at past))
+
+  pub refused_nobody : length m.clients ≤ a - 1 → Happens m m (Refuse a) Quiet
+  refused_nobody past o rs at = (_, refl, refl, refused_far o m rs at a (above o rs at past))
+
+  -- there is one
+  pub busy_happens : (t : Task) (x : ClientState) → nth m.clients (a - 1) ≡ Some x → x.under ≢ Nothing → Happens m m (Begin a t) (Busy a)
+  busy_happens t x here busy o rs at = (_, ap (λ (b : ℕ). Begin b t) same_actor, ap Busy same_actor, begun_busy o m rs at (a - 1) x t here busy)
+
+  pub refused_happens : (x : ClientState) → nth m.clients (a - 1) ≡ Some x → Happens m (with_client m (a - 1) (refusing x)) (Refuse a) Quiet
+  refused_happens x here o rs at = (_, ap Refuse same_actor, refl, refused_client o m rs at (a - 1) x here)
+
+  -- no call is under way
+  quiet_at : (z : Option ClientState) → nth m.clients (a - 1) ≡ z → (IsBusy m a → ⊥) → Happens m m (Step a) Quiet
+  quiet_at None past not o rs at = (_, refl, refl, idled_far o m rs at a (above o rs at (nth_none m.clients (a - 1) past)))
+  quiet_at (Some x) here not o rs at = (_, ap Step same_actor, refl, idled_client o m rs at (a - 1) x here (idle x.under (λ (busy : x.under ≢ Nothing). not (a - 1, same_actor, subst HasCall (sym here) busy))))
+    where
+      idle : (u : Underway) → ((u ≢ Nothing) → ⊥) → u ≡ Nothing
+      idle Nothing h = refl
+      idle (Get g into call) h = absurd (h (λ e. cc))
+      idle (Write c call) h = absurd (h (λ e. cc))
+      idle (Raise c) h = absurd (h (λ e. cc))
+
+  pub quiet_happens : (IsBusy m a → ⊥) → Happens m m (Step a) Quiet
+  quiet_happens not = quiet_at (nth m.clients (a - 1)) refl not
+
+  -- a client without a call begins
+  pub begin_happens : (t : Task) (x y : ClientState) (note : Note) → nth m.clients (a - 1) ≡ Some x → x.under ≡ Nothing
+      → ((o : Opening) (rs : List Record) → IsAt o m rs → Stands o m.pool (a - 1) x → Begins o m.pool (a - 1) x y t note) → Happens m (with_client m (a - 1) y) (Begin a t) note
+  begin_happens t x y note here idle begins o rs at = (_, ap (λ (b : ℕ). Begin b t) same_actor, refl, begun_client o m rs at (a - 1) x y t note here idle (begins o rs at (at.each (a - 1) x here).stands))
+
+  -- a client with a call makes an access
+  pub step_happens : (x y : ClientState) (q : Plain) (note : Note) → nth m.clients (a - 1) ≡ Some x → ((o : Opening) (i : ℕ) → suc i ≡ a → Stands o m.pool i x → Went o i x y m.pool q note) → (q.opened ≡ true → Running q)
+      → Happens m (with_pool m (a - 1) y q) (Step a) note
+  step_happens x y q note here went running o rs at =
+      let w = went o (a - 1) same_actor (at.each (a - 1) x here).stands in
+      let legal : Legal finite.empty [] (history q) = (running (w.moved.opened ∙ at.pool.opened)).rule.history_and_map.legal in
+      (_, ap Step same_actor, refl, stepped_client o m rs at (a - 1) x y q note here w (subst (λ (h : List Entry). Legal finite.empty [] h) (sym w.moved.entered) legal))
+
+-- the client stands where it stood, also where the pool's lists have more room
+stands_kept : (o : Opening) (p q : Plain) (i : ℕ) (x : ClientState) → Kept p q → Stands o p i x → Stands o q i x
+stands_kept o p q i x k s =
+    let same : view_at q i ≡ view_at p i = ap (λ (s : Setup). get_or q.views i (outset s)) k.setup ∙ ap (λ (vs : List View). get_or vs i (outset p.setup)) k.views in
+    record {
+      setup = k.setup ∙ s.setup;
+      opened = k.opened ∙ s.opened;
+      entered = k.entries ∙ s.entered ∙ ap longest (sym k.views);
+      seat = s.seat;
+      seats = ap length k.views ∙ s.seats;
+      role = ap (λ (v : View). v.pass.role) same ∙ s.role;
+      names = ap (λ (v : View). v.pass.names) same ∙ s.names;
+      stock = ap (λ (v : View). v.pass.stock) same ∙ s.stock;
+      number = s.number ∙ ap (λ (h : List Entry). length (own h (suc i))) (sym k.entries);
+      under = subst (λ (v : View). IsUnder o.setup.pool v x.under) (sym same) s.under;
+    }
+
+pub kept_at : (o : Opening) (m n : Parts) (rs : List Record) → IsSame m n → IsAt o m rs → IsAt o n rs
+kept_at o m n rs same at =
+    let k = same.pool in
+    record {
+      run = at.run;
+      setup = same.setup ∙ at.setup;
+      names = at.names ∙ ap (bindings_from 0) (sym same.names);
+      slots = subst (λ (s : Setup). length n.names ≤ s.pool.slots) (sym same.setup) (subst (λ (l : List (List ℕ)). length l ≤ m.setup.pool.slots) (sym same.names) at.slots);
+      pool = record {
+        setup = k.setup ∙ at.pool.setup;
+        start = k.start ∙ at.pool.start;
+        opened = k.opened ∙ at.pool.opened;
+        whole = k.whole ∙ at.pool.whole;
+        words = k.words ∙ at.pool.words;
+        entries = k.entries ∙ at.pool.entries;
+        entered = k.entries ∙ at.pool.entered ∙ ap longest (sym k.views);
+        accesses = k.accesses ∙ at.pool.accesses ∙ ap (λ (b : Bool). if b then accesses_in rs else []) (sym k.traced);
+        made = k.made ∙ at.pool.made;
+        seats = ap length k.views ∙ at.pool.seats;
+      };
+      clients = ap length same.clients ∙ at.clients;
+      each = λ i x here. let was = at.each i x (subst (λ (l : List ClientState). nth l i ≡ Some x) same.clients here) in record {
+        stands = stands_kept o m.pool n.pool i x k was.stands;
+        matches = subst (λ (v : View). Matches x v (doing (suc i) rs)) (sym (view i)) was.matches;
+        spent = was.spent;
+      };
+      far = at.far;
+      legal = at.legal;
+    }
+  where
+    view : (i : ℕ) → view_at n.pool i ≡ view_at m.pool i
+    view i = ap (λ (s : Setup). get_or n.pool.views i (outset s)) same.pool.setup ∙ ap (λ (vs : List View). get_or vs i (outset m.pool.setup)) same.pool.views
+
+-- a client whose step found no memory
+pub same_parts : (m : Parts) (i : ℕ) (x y : ClientState) (q : Plain) → nth m.clients i ≡ Some x → y ≡ x → Kept m.pool q → IsSame m (with_pool m i y q)
+same_parts m i x y q here e k = record { setup = refl; names = refl; pool = k; clients = ap (set m.clients i) e ∙ set_same m.clients i x here }
+
+pub step_behind : (m : Parts) (a : ℕ) (x y : ClientState) (q : Plain) (r : Result Note OutOfMemory) → 1 ≤ a → nth m.clients (a - 1) ≡ Some x
+    → IfOk r (λ note. (o : Opening) (i : ℕ) → suc i ≡ a → Stands o m.pool i x → Went o i x y m.pool q note) → OnErr r ((y ≡ x) × Kept m.pool q) → (q.opened ≡ true → Running q) → IsBehind m → IsBehind (with_pool m (a - 1) y q)
+step_behind m a x y q (Ok note) one here went same running b = behind m (with_pool m (a - 1) y q) (Step a) note (step_happens m a one x y q note here went running) b
+step_behind m a x y q (Err fault) one here went same running b = (b.0, b.1, kept_at b.0 m (with_pool m (a - 1) y q) b.1 (same_parts m (a - 1) x y q here same.0 same.1) b.2)

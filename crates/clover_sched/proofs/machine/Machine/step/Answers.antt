@@ -1,0 +1,1 @@
+use Rattle.clover_sched.proofs.machine.Machine.step.Goals as goal
