@@ -1,22 +1,27 @@
 -- What an event of an actor comes to, by what the machine's client of that number does.
 use Rattle.std.proofs.Common.{◌≡◌, ◌≢◌, ℕ, ◌-◌, ◌≤◌, ◌<◌, suc, length, set, get_or, List, [], ◌∷◌, ◌++◌, Bool, true, false, refl, sym, ap, ◌∙◌, subst, arith}
-use Rattle.std.specs.Prelude.{Option, Some, None, Result, Ok, Err, IfOk, OnErr, if◌then◌else◌}
+use Rattle.std.specs.Prelude.{Option, Some, None, Result, Ok, Err, IfOk, OnErr, slice_get, if◌then◌else◌}
 use Rattle.std.specs.FinMap as finite
 use Rattle.clover_map.specs.Legal.{Legal}
 use Rattle.clover_map.specs.declared.bytes.OutOfMemory.{OutOfMemory}
 use Rattle.clover_map.specs.declared.call.Entry.{Entry}
+use Rattle.clover_words.specs.Preset.{HasDealt}
 use Rattle.clover_words.specs.declared.setup.Setup.{Setup}
-use Rattle.clover_map.specs.History.{own}
-use Rattle.clover_rule.specs.Lists.{nth}
+use Rattle.clover_map.specs.History.{own, key_of}
+use Rattle.clover_walk.specs.Walking.{key_at}
+use Rattle.clover_rule.specs.Lists.{nth, Within}
 use Rattle.clover_rule.specs.Preset.{bindings_from}
 use Rattle.clover_rule.specs.Rule.{longest}
 use Rattle.clover_rule.specs.declared.access.Access.{Access}
 use Rattle.clover_rule.specs.declared.view.View.{View}
 use Rattle.clover_plain.specs.Plain.{Plain, Kept, Running, history, view_at, outset}
+use Rattle.clover_script.specs.Form.{call_in}
+use Rattle.clover_script.specs.Lines.{takes}
 use Rattle.clover_script.specs.declared.line.Task.{Task}
-use Rattle.clover_sched.specs.Client.{Stands, Matches, Went, Begins, IsUnder}
+use Rattle.clover_script.specs.declared.line.Task.TheVariants.{Client as ClientTask}
+use Rattle.clover_sched.specs.Client.{Stands, Matches, Went, Begins, IsUnder, spent, spent_by}
 use Rattle.clover_sched.specs.Folds.{accesses_in, entries_in, doing}
-use Rattle.clover_sched.specs.Machine.{Parts, IsAt, IsBehind, IsClientAt, IsPoolAt, IsSame, IsBusy, HasCall}
+use Rattle.clover_sched.specs.Machine.{Parts, IsAt, IsBehind, IsClientAt, IsPoolAt, IsSame, IsBusy, HasCall, HasFor, MayCome}
 use Rattle.clover_sched.specs.Record.{Record}
 use Rattle.clover_sched.specs.Run.{Opening}
 use Rattle.clover_sched.specs.declared.client.ClientState.{ClientState}
@@ -27,7 +32,8 @@ use Rattle.clover_sched.specs.declared.event.Event.TheVariants.{Begin, Step, Ref
 use Rattle.clover_sched.specs.declared.event.Note.{Note}
 use Rattle.clover_sched.specs.declared.event.Note.TheVariants.{Quiet, Busy, Missing}
 use Rattle.clover_sched.proofs.Onward.{still, with_client, with_pool, refusing, begun_missing, begun_busy, begun_client, idled_far, idled_client, refused_client, refused_far, stepped_client}
-use Rattle.clover_sched.proofs.Places.{nth_here, nth_past, nth_within, nth_none, set_same}
+use Rattle.clover_sched.proofs.Bound.{bound_within, bound_key}
+use Rattle.clover_sched.proofs.Places.{nth_none, nth_get, set_same}
 
 -- the event came to this note, and leads from one machine to another
 abbrev pub Happens : Parts → Parts → Event → Note → Type 0
@@ -35,6 +41,12 @@ Happens m n e note = (o : Opening) (rs : List Record) → IsAt o m rs → (r : R
 
 pub behind : (m n : Parts) (e : Event) (note : Note) → Happens m n e note → IsBehind m → IsBehind n
 behind m n e note h b = let x = h b.0 b.1 b.2 in (b.0, b.1 ++ x.0 ∷ [], x.3)
+
+pub not_busy : (u : Underway) → ((u ≢ Nothing) → ⊥) → u ≡ Nothing
+not_busy Nothing h = refl
+not_busy (Get g into call) h = absurd (h (λ e. cc))
+not_busy (Write c call) h = absurd (h (λ e. cc))
+not_busy (Raise c) h = absurd (h (λ e. cc))
 
 module _ (m : Parts) (a : ℕ) (one : 1 ≤ a) where
   same_actor : suc (a - 1) ≡ a
@@ -60,13 +72,7 @@ module _ (m : Parts) (a : ℕ) (one : 1 ≤ a) where
   -- no call is under way
   quiet_at : (z : Option ClientState) → nth m.clients (a - 1) ≡ z → (IsBusy m a → ⊥) → Happens m m (Step a) Quiet
   quiet_at None past not o rs at = (_, refl, refl, idled_far o m rs at a (above o rs at (nth_none m.clients (a - 1) past)))
-  quiet_at (Some x) here not o rs at = (_, ap Step same_actor, refl, idled_client o m rs at (a - 1) x here (idle x.under (λ (busy : x.under ≢ Nothing). not (a - 1, same_actor, subst HasCall (sym here) busy))))
-    where
-      idle : (u : Underway) → ((u ≢ Nothing) → ⊥) → u ≡ Nothing
-      idle Nothing h = refl
-      idle (Get g into call) h = absurd (h (λ e. cc))
-      idle (Write c call) h = absurd (h (λ e. cc))
-      idle (Raise c) h = absurd (h (λ e. cc))
+  quiet_at (Some x) here not o rs at = (_, ap Step same_actor, refl, idled_client o m rs at (a - 1) x here (not_busy x.under (λ (busy : x.under ≢ Nothing). not (a - 1, same_actor, subst HasCall (sym here) busy))))
 
   pub quiet_happens : (IsBusy m a → ⊥) → Happens m m (Step a) Quiet
   quiet_happens not = quiet_at (nth m.clients (a - 1)) refl not
@@ -142,3 +148,44 @@ pub step_behind : (m : Parts) (a : ℕ) (x y : ClientState) (q : Plain) (r : Res
     → IfOk r (λ note. (o : Opening) (i : ℕ) → suc i ≡ a → Stands o m.pool i x → Went o i x y m.pool q note) → OnErr r ((y ≡ x) × Kept m.pool q) → (q.opened ≡ true → Running q) → IsBehind m → IsBehind (with_pool m (a - 1) y q)
 step_behind m a x y q (Ok note) one here went same running b = behind m (with_pool m (a - 1) y q) (Step a) note (step_happens m a one x y q note here went running) b
 step_behind m a x y q (Err fault) one here went same running b = (b.0, b.1, kept_at b.0 m (with_pool m (a - 1) y q) b.1 (same_parts m (a - 1) x y q here same.0 same.1) b.2)
+
+-- what holds of the value of a result
+if_ok : {T E : Type 0} (r : Result T E) {P Q : T → Type 0} → IfOk r P → ((t : T) → P t → Q t) → IfOk r Q
+if_ok (Ok t) h f = f t h
+if_ok (Err e) h f = tt
+
+-- what a step of the client says in every run
+abbrev pub GoesOn : Parts → ℕ → ClientState → ClientState → Plain → Note → Type 0
+GoesOn m a x y q note = (o : Opening) (i : ℕ) → suc i ≡ a → Stands o m.pool i x → Went o i x y m.pool q note
+
+pub step_ok : (m p : Parts) (a : ℕ) (x y : ClientState) (q : Plain) (r : Result Note OutOfMemory) → m ≡ p → 1 ≤ a → nth m.clients (a - 1) ≡ Some x → IfOk r (GoesOn m a x y q) → (q.opened ≡ true → Running q)
+    → IfOk r (Happens p (with_pool m (a - 1) y q) (Step a))
+step_ok m p a x y q r same one here went running = if_ok r went (λ note w o rs at. step_happens m a one x y q note here w running o rs (subst (λ (z : Parts). IsAt o z rs) (sym same) at))
+
+pub step_parts : (m p : Parts) (a : ℕ) (x y : ClientState) (q : Plain) (r : Result Note OutOfMemory) → m ≡ p → 1 ≤ a → nth m.clients (a - 1) ≡ Some x → IfOk r (GoesOn m a x y q) → IsBehind m
+    → IfOk r (λ note. (m.setup ≡ p.setup) × (m.names ≡ p.names) × (q.traced ≡ p.pool.traced))
+step_parts m p a x y q r same one here went b = if_ok r went (λ note w. (ap (λ (z : Parts). z.setup) same, ap (λ (z : Parts). z.names) same, (w b.0 (a - 1) (omega arith) (b.2.each (a - 1) x here).stands).moved.traced ∙ ap (λ (z : Parts). z.pool.traced) same))
+
+pub client_stands : (m : Parts) (a : ℕ) (x : ClientState) → 1 ≤ a → nth m.clients (a - 1) ≡ Some x → IsBehind m → (o : Opening) × (i : ℕ) × (suc i ≡ a) × Stands o m.pool i x
+client_stands m a x one here b = (b.0, a - 1, omega arith, (b.2.each (a - 1) x here).stands)
+
+-- the actor of a task that may begin is a number from 1 on
+pub may_one : (m : Parts) (a : ℕ) (t : Task) → MayCome m (Begin a t) → 1 ≤ a
+may_one m a (ClientTask call written) may = may.0
+
+-- a client without a call has a buffer for a task that asks for one
+pub may_stock : (m : Parts) (a : ℕ) (t : Task) (x : ClientState) → MayCome m (Begin a t) → nth m.clients (a - 1) ≡ Some x → x.under ≡ Nothing → takes (call_in t) ≡ 1 → HasDealt m.setup a x.taken
+may_stock m a (ClientTask call written) x may here idle takes =
+    let one = may.0 in
+    let dealt : HasDealt m.setup a (spent x) = may.2.stock (a - 1) x (omega arith) here takes in
+    subst (λ (n : ℕ). HasDealt m.setup a n) (ap (λ (u : Underway). spent_by u x.taken) idle) dealt
+
+-- what a begin of the client on the slot of the task's key says in every run
+abbrev pub BeginsOn : Parts → ℕ → ℕ → ClientState → ClientState → Task → Note → Type 0
+BeginsOn m a slot x y t note = (o : Opening) (p : Plain) (i : ℕ) → suc i ≡ a → o.setup ≡ m.setup → Within (slot, key_of (call_in t)) o.names → key_at o.names slot ≡ key_of (call_in t) → Stands o p i x → Begins o p i x y t note
+
+pub begin_on : (m : Parts) (a slot : ℕ) (x y : ClientState) (t : Task) (note : Note) → 1 ≤ a → nth m.clients (a - 1) ≡ Some x → x.under ≡ Nothing → slice_get m.names slot ≡ Some (key_of (call_in t)) → BeginsOn m a slot x y t note
+    → Happens m (with_client m (a - 1) y) (Begin a t) note
+begin_on m a slot x y t note one here idle named begins = begin_happens m a one t x y note here idle (λ o rs at s. begins o m.pool (a - 1) (omega arith) (sym at.setup)
+    (subst (λ (l : List (ℕ × List ℕ)). Within (slot, key_of (call_in t)) l) (sym at.names) (bound_within 0 m.names slot slot (key_of (call_in t)) (omega arith) (sym (nth_get m.names slot) ∙ named)))
+    (ap (λ (l : List (ℕ × List ℕ)). key_at l slot) at.names ∙ bound_key 0 m.names slot slot (key_of (call_in t)) (omega arith) (sym (nth_get m.names slot) ∙ named)) s)
