@@ -19,9 +19,9 @@ use Rattle.clover_script.specs.Form.{call_in}
 use Rattle.clover_script.specs.Lines.{takes}
 use Rattle.clover_script.specs.declared.line.Task.{Task}
 use Rattle.clover_script.specs.declared.line.Task.TheVariants.{Client as ClientTask}
-use Rattle.clover_sched.specs.Client.{Stands, Matches, Went, Begins, IsUnder, spent, spent_by}
+use Rattle.clover_sched.specs.Client.{Stands, Matches, Went, Begins, IsUnder, spent, spent_by, since_of, most_made}
 use Rattle.clover_sched.specs.Folds.{accesses_in, entries_in, doing}
-use Rattle.clover_sched.specs.Machine.{Parts, IsAt, IsBehind, IsClientAt, IsPoolAt, IsSame, IsBusy, HasCall, HasFor, MayCome}
+use Rattle.clover_sched.specs.Machine.{Parts, IsAt, IsBehind, IsClientAt, IsPoolAt, IsSame, IsBusy, IsFitting, HasCall, HasFor, MayCome, left, left_of, left_by}
 use Rattle.clover_sched.specs.Record.{Record}
 use Rattle.clover_sched.specs.Run.{Opening}
 use Rattle.clover_sched.specs.declared.client.ClientState.{ClientState}
@@ -31,9 +31,11 @@ use Rattle.clover_sched.specs.declared.event.Event.{Event}
 use Rattle.clover_sched.specs.declared.event.Event.TheVariants.{Begin, Step, Refuse}
 use Rattle.clover_sched.specs.declared.event.Note.{Note}
 use Rattle.clover_sched.specs.declared.event.Note.TheVariants.{Quiet, Busy, Missing}
+use Rattle.clover_sched.proofs.Busies.{busy_within, busy_here}
+use Rattle.clover_sched.proofs.Lefts.{since_few, left_less}
 use Rattle.clover_sched.proofs.Onward.{still, with_client, with_pool, refusing, begun_missing, begun_busy, begun_client, idled_far, idled_client, refused_client, refused_far, stepped_client}
 use Rattle.clover_sched.proofs.Bound.{bound_within, bound_key}
-use Rattle.clover_sched.proofs.Places.{nth_none, nth_get, set_same}
+use Rattle.clover_sched.proofs.Places.{nth_here, nth_none, nth_get, nth_set, nth_within, set_same}
 
 -- the event came to this note, and leads from one machine to another
 abbrev pub Happens : Parts → Parts → Event → Note → Type 0
@@ -189,3 +191,22 @@ pub begin_on : (m : Parts) (a slot : ℕ) (x y : ClientState) (t : Task) (note :
 begin_on m a slot x y t note one here idle named begins = begin_happens m a one t x y note here idle (λ o rs at s. begins o m.pool (a - 1) (omega arith) (sym at.setup)
     (subst (λ (l : List (ℕ × List ℕ)). Within (slot, key_of (call_in t)) l) (sym at.names) (bound_within 0 m.names slot slot (key_of (call_in t)) (omega arith) (sym (nth_get m.names slot) ∙ named)))
     (ap (λ (l : List (ℕ × List ℕ)). key_at l slot) at.names ∙ bound_key 0 m.names slot slot (key_of (call_in t)) (omega arith) (sym (nth_get m.names slot) ∙ named)) s)
+
+pub step_less : (m p : Parts) (a : ℕ) (x y : ClientState) (q : Plain) (r : Result Note OutOfMemory) → m ≡ p → 1 ≤ a → nth m.clients (a - 1) ≡ Some x → IfOk r (GoesOn m a x y q) → IsBehind m → x.under ≢ Nothing → IsFitting x.under
+    → IfOk r (λ note. IsBusy p a → left (with_pool m (a - 1) y q) a < left p a)
+step_less m p a x y q r same one here went b busy fits = if_ok r went (λ note w is_busy.
+    let i = a - 1 in
+    let s = (b.2.each i x here).stands in
+    let go = w b.0 i (omega arith) s in
+    let few : length (since_of x.under (view_at m.pool i)) ≤ most_made m.setup.pool = since_few m.setup.pool x.under (view_at m.pool i) (subst (λ (z : Setup). IsUnder z.pool (view_at m.pool i) x.under) (sym b.2.setup) s.under) fits in
+    let less : left_by m.setup.pool y.under (view_at q i) < left_by m.setup.pool x.under (view_at m.pool i) = left_less m.setup.pool x.under y.under (view_at m.pool i) (view_at q i) busy few go.longer in
+    let new : left (with_pool m i y q) a ≡ left_by m.setup.pool y.under (view_at q i) = ap (left_of (with_pool m i y q) i) (nth_set m.clients i y (nth_within m.clients i x here)) in
+    let old : left m a ≡ left_by m.setup.pool x.under (view_at m.pool i) = ap (left_of m i) here in
+    subst (λ (z : Parts). left (with_pool m i y q) a < left z a) same (omega arith))
+
+-- the client that is read where the actor has a call
+pub busy_read : (m p : Parts) (a : ℕ) (x : ClientState) → m ≡ p → IsBusy p a → x ≡ get_or m.clients (a - 1) x → nth m.clients (a - 1) ≡ Some x
+busy_read m p a x same busy read = nth_here m.clients (a - 1) x (busy_within m a (subst (λ (z : Parts). IsBusy z a) (sym same) busy)) read
+
+pub busy_client : (m p : Parts) (a : ℕ) (x : ClientState) → m ≡ p → IsBusy p a → x ≡ get_or m.clients (a - 1) x → x.under ≢ Nothing
+busy_client m p a x same busy read = busy_here m a x (busy_read m p a x same busy read) (subst (λ (z : Parts). IsBusy z a) (sym same) busy)

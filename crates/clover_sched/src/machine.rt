@@ -4,14 +4,14 @@ ghost use Rattle.clover_words.specs.Preset.{buffers_total};
 ghost use Rattle.clover_map.specs.History.{key_of};
 ghost use Rattle.clover_script.specs.Form.{call_in};
 ghost use Rattle.clover_sched.specs.Folds.{entries_in, accesses_in, made_in};
-ghost use Rattle.clover_sched.specs.Machine.{IsAt, IsOpening, IsSame, MayCome, IsBusy, left};
+ghost use Rattle.clover_sched.specs.Machine.{IsAt, IsOpening, IsSame, MayCome, IsBusy, IsFitting, left};
 ghost use Rattle.clover_sched.specs.Record.{Record};
 ghost use Rattle.clover_sched.specs.Run.{Opening};
 ghost use Rattle.clover_sched.specs.declared.client.Underway.TheVariants.{Nothing as IsNothing};
 ghost use Rattle.clover_sched.specs.declared.event.Event.TheVariants.{Begin as BeginOf, Step as StepOf, Refuse as RefuseOf};
 ghost use Rattle.clover_sched.specs.declared.event.Note.TheVariants.{Quiet as IsQuiet};
 
-use crate::client::ClientState;
+use crate::client::{ClientState, Underway};
 use crate::event::{Event, Note};
 use clover_map::{Call, Entry, Key, OutOfMemory};
 use clover_plain::PlainPool;
@@ -66,6 +66,16 @@ fn key_in(task: &Task) -> &Key
     match call {
         Call::Get { key } | Call::Put { key, .. } | Call::Delete { key } | Call::Swap { key, .. } =>
             { key }
+    }
+}
+
+// The version that a call is to commit fits into a buffer. This is for the proof, and does nothing.
+fn fits(under: &Underway)
+    ensures { IsFitting under.now }
+{
+    match under {
+        Underway::Write { call, .. } | Underway::Raise { call } => call.fits(),
+        Underway::Nothing | Underway::Get { .. } => {}
     }
 }
 
@@ -146,6 +156,7 @@ impl Machine {
         }
         let seat = actor as usize - 1;
         let alloc = *self.clients.allocator();
+        fits(&self.clients[seat].under);
         let done = self.clients[seat].step(alloc, &mut self.pool, actor);
         self.pool.stands();
         done

@@ -1,7 +1,5 @@
 use Rattle.std.proofs.Common.{◌≡◌, ◌∙◌, ℕ, refl, ap, subst, List, []}
 use Rattle.clover_words.specs.declared.setup.Setup.{Setup}
-use Rattle.clover_rule.specs.Lists.{nth}
-use Rattle.clover_rule.specs.declared.view.View.{View}
 use Rattle.clover_plain.specs.Preset.{IsPreset, start_view}
 use Rattle.clover_sched.proofs.Made.{IsFresh, opening, is_opening, made_at}
 use Rattle.clover_sched.proofs.machine.Machine.make.Goals as goal

@@ -1,13 +1,9 @@
-use Rattle.std.proofs.Common.{◌≡◌, ◌≢◌, ◌-◌, ◌<◌, ◌≤◌, ◌∙◌, length, sym, ap, subst, arith, true, false}
-use Rattle.std.specs.Prelude.{Some}
-use Rattle.clover_rule.specs.Lists.{nth}
+use Rattle.std.proofs.Common.{◌≡◌, subst, sym, arith}
 use Rattle.clover_sched.specs.Kept.{meaning}
-use Rattle.clover_sched.specs.Machine.{Parts, IsAt, IsBehind, IsBusy}
-use Rattle.clover_sched.specs.declared.client.Underway.TheVariants.{Nothing}
-use Rattle.clover_sched.specs.declared.event.Event.TheVariants.{Step}
-use Rattle.clover_sched.proofs.Busies.{busy_within, busy_here}
-use Rattle.clover_sched.proofs.Happening.{quiet_happens, step_ok, step_parts, step_behind, client_stands}
-use Rattle.clover_sched.proofs.Places.{nth_here}
+use Rattle.clover_sched.specs.Machine.{Parts, IsBusy, IsFitting}
+use Rattle.clover_sched.specs.declared.client.ClientState.{ClientState}
+use Rattle.clover_sched.proofs.Busies.{busy_within}
+use Rattle.clover_sched.proofs.Happening.{quiet_happens, busy_read, busy_client, client_stands, step_behind, step_ok, step_parts, step_less}
 use Rattle.clover_sched.proofs.machine.Machine.step.Goals as goal
 
 pub returns-then-not-is_busy-clause-happened : goal.returns-then-not-is_busy-clause-happened
@@ -15,44 +11,57 @@ returns-then-not-is_busy-clause-happened c = quiet_happens c.args.self.now c.arg
 
 pub index_mut-requires : goal.index_mut-requires
 index_mut-requires c =
-    let b : IsBusy (meaning c.self.inside) c.args.actor = subst (λ (p : Parts). IsBusy p c.args.actor) (sym c.self.view_is) (c.is_busy.ensures.busy.0 c.if-not-is_busy.false) in
-    let l = busy_within (meaning c.self.inside) c.args.actor b in
+    let m : Parts = meaning c.self.inside in
+    let within = busy_within m c.args.actor (subst (λ (p : Parts). IsBusy p c.args.actor) (sym c.self.view_is) (c.is_busy.ensures.busy.0 c.if-not-is_busy.false)) in
+    omega (arith, c.self.inside.clients.ok.0)
+
+pub index-requires : goal.index-requires
+index-requires c =
+    let m : Parts = meaning c.self.inside in
+    let within = busy_within m c.args.actor (subst (λ (p : Parts). IsBusy p c.args.actor) (sym c.self.view_is) (c.is_busy.ensures.busy.0 c.if-not-is_busy.false)) in
     omega (arith, c.self.inside.clients.ok.0)
 
 pub step-done-requires-clause-busy : goal.step-done-requires-clause-busy
 step-done-requires-clause-busy c =
-    let x = c.index_mut.result.now in
-    let b : IsBusy (meaning c.self.inside) c.args.actor = subst (λ (p : Parts). IsBusy p c.args.actor) (sym c.self.view_is) (c.is_busy.ensures.busy.0 c.if-not-is_busy.false) in
-    let here : nth c.self.inside.clients.items (c.args.actor - 1) ≡ Some x = nth_here c.self.inside.clients.items (c.args.actor - 1) x (busy_within (meaning c.self.inside) c.args.actor b) c.index_mut.ensures.value in
-    busy_here (meaning c.self.inside) c.args.actor x here b
+    let busy = c.is_busy.ensures.busy.0 c.if-not-is_busy.false in
+    busy_client (meaning c.self.inside) c.args.self.now c.args.actor c.index_mut.result.now c.self.view_is busy c.index_mut.ensures.value
 
 pub step-done-requires-clause-stands : goal.step-done-requires-clause-stands
 step-done-requires-clause-stands c =
-    let x = c.index_mut.result.now in
-    let b : IsBusy (meaning c.self.inside) c.args.actor = subst (λ (p : Parts). IsBusy p c.args.actor) (sym c.self.view_is) (c.is_busy.ensures.busy.0 c.if-not-is_busy.false) in
-    let here : nth c.self.inside.clients.items (c.args.actor - 1) ≡ Some x = nth_here c.self.inside.clients.items (c.args.actor - 1) x (busy_within (meaning c.self.inside) c.args.actor b) c.index_mut.ensures.value in
-    client_stands (meaning c.self.inside) c.args.actor x c.requires here c.self.invariant
+    let m : Parts = meaning c.self.inside in
+    let busy = c.is_busy.ensures.busy.0 c.if-not-is_busy.false in
+    let here = busy_read m c.args.self.now c.args.actor c.index_mut.result.now c.self.view_is busy c.index_mut.ensures.value in
+    client_stands m c.args.actor c.index_mut.result.now c.requires here c.self.invariant
 
 pub invariant_of-self : goal.invariant_of-self
 invariant_of-self c =
-    let x = c.index_mut.result.now in
-    let b : IsBusy (meaning c.self.inside) c.args.actor = subst (λ (p : Parts). IsBusy p c.args.actor) (sym c.self.view_is) (c.is_busy.ensures.busy.0 c.if-not-is_busy.false) in
-    let here : nth c.self.inside.clients.items (c.args.actor - 1) ≡ Some x = nth_here c.self.inside.clients.items (c.args.actor - 1) x (busy_within (meaning c.self.inside) c.args.actor b) c.index_mut.ensures.value in
-    step_behind (meaning c.self.inside) c.args.actor x c.step-done.new.self c.step-done.new.pool c.step-done.result c.requires here c.step-done.ensures.went c.step-done.ensures.same c.stands.ensures.running c.self.invariant
+    let m : Parts = meaning c.self.inside in
+    let busy = c.is_busy.ensures.busy.0 c.if-not-is_busy.false in
+    let here = busy_read m c.args.self.now c.args.actor c.index_mut.result.now c.self.view_is busy c.index_mut.ensures.value in
+    step_behind m c.args.actor c.index_mut.result.now c.step-done.new.self c.step-done.new.pool c.step-done.result c.requires here c.step-done.ensures.went c.step-done.ensures.same c.stands.ensures.running c.self.invariant
 
 pub returns-clause-happened : goal.returns-clause-happened
 returns-clause-happened c =
-    let x = c.index_mut.result.now in
-    let b : IsBusy (meaning c.self.inside) c.args.actor = subst (λ (p : Parts). IsBusy p c.args.actor) (sym c.self.view_is) (c.is_busy.ensures.busy.0 c.if-not-is_busy.false) in
-    let here : nth c.self.inside.clients.items (c.args.actor - 1) ≡ Some x = nth_here c.self.inside.clients.items (c.args.actor - 1) x (busy_within (meaning c.self.inside) c.args.actor b) c.index_mut.ensures.value in
-    step_ok (meaning c.self.inside) c.args.self.now c.args.actor x c.step-done.new.self c.step-done.new.pool c.step-done.result c.self.view_is c.requires here c.step-done.ensures.went c.stands.ensures.running
+    let m : Parts = meaning c.self.inside in
+    let busy = c.is_busy.ensures.busy.0 c.if-not-is_busy.false in
+    let here = busy_read m c.args.self.now c.args.actor c.index_mut.result.now c.self.view_is busy c.index_mut.ensures.value in
+    step_ok m c.args.self.now c.args.actor c.index_mut.result.now c.step-done.new.self c.step-done.new.pool c.step-done.result c.self.view_is c.requires here c.step-done.ensures.went c.stands.ensures.running
 
 pub returns-clause-parts : goal.returns-clause-parts
 returns-clause-parts c =
-    let x = c.index_mut.result.now in
-    let b : IsBusy (meaning c.self.inside) c.args.actor = subst (λ (p : Parts). IsBusy p c.args.actor) (sym c.self.view_is) (c.is_busy.ensures.busy.0 c.if-not-is_busy.false) in
-    let here : nth c.self.inside.clients.items (c.args.actor - 1) ≡ Some x = nth_here c.self.inside.clients.items (c.args.actor - 1) x (busy_within (meaning c.self.inside) c.args.actor b) c.index_mut.ensures.value in
-    step_parts (meaning c.self.inside) c.args.self.now c.args.actor x c.step-done.new.self c.step-done.new.pool c.step-done.result c.self.view_is c.requires here c.step-done.ensures.went c.self.invariant
+    let m : Parts = meaning c.self.inside in
+    let busy = c.is_busy.ensures.busy.0 c.if-not-is_busy.false in
+    let here = busy_read m c.args.self.now c.args.actor c.index_mut.result.now c.self.view_is busy c.index_mut.ensures.value in
+    step_parts m c.args.self.now c.args.actor c.index_mut.result.now c.step-done.new.self c.step-done.new.pool c.step-done.result c.self.view_is c.requires here c.step-done.ensures.went c.self.invariant
 
 pub returns-clause-less : goal.returns-clause-less
-returns-clause-less c = ?
+returns-clause-less c =
+    let m : Parts = meaning c.self.inside in
+    let x = c.index_mut.result.now in
+    let busy = c.is_busy.ensures.busy.0 c.if-not-is_busy.false in
+    let here = busy_read m c.args.self.now c.args.actor x c.self.view_is busy c.index_mut.ensures.value in
+    let was = busy_read m c.args.self.now c.args.actor c.index.result.now c.self.view_is busy c.index.ensures in
+    let same : c.index.result.now ≡ x = cc (here, was) in
+    let fits : IsFitting x.under = subst (λ (z : ClientState). IsFitting z.under) same c.fits.ensures in
+    step_less m c.args.self.now c.args.actor x c.step-done.new.self c.step-done.new.pool c.step-done.result c.self.view_is c.requires here c.step-done.ensures.went c.self.invariant
+    (busy_client m c.args.self.now c.args.actor x c.self.view_is busy c.index_mut.ensures.value) fits
