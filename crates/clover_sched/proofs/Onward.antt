@@ -172,7 +172,7 @@ module _ (o : Opening) (m : Parts) (rs : List Record) (at : IsAt o m rs) where
       → Matches y (view_at m.pool i) (does (doing (suc i) rs) (still e note) e) → spent y ≤ asked (suc i) (rs ++ still e note ∷ []) → IsAt o (with_client m i y) (rs ++ still e note ∷ [])
   changed i x y e note here actor follows stands matches few = pushed o m (with_client m i y) rs (still e note) at follows refl refl (still_pool o m.pool rs (still e note) at.pool refl refl) (length-set m.clients i y)
       (each_set (λ (j : ℕ) (z : ClientState). IsClientAt o m.pool j z (rs ++ still e note ∷ [])) m.clients i y (own_client o m.pool i y rs (still e note) actor stands matches few)
-        (λ j z apart there. let was = at.each j z there in other_client o m.pool m.pool j z rs (still e note) was (λ (s : actor_of e ≡ suc j). apart (omega (arith, s, actor))) was.stands refl))
+      (λ j z apart there. let was = at.each j z there in other_client o m.pool m.pool j z rs (still e note) was (λ (s : actor_of e ≡ suc j). apart (omega (arith, s, actor))) was.stands refl))
       (λ d above h. absurd (absent i x here (subst (λ (b : ℕ). o.setup.clients < b) actor above)))
       (still_legal (still e note) refl)
 
@@ -215,8 +215,8 @@ module _ (o : Opening) (m : Parts) (rs : List Record) (at : IsAt o m rs) where
       let least = asked_least (suc i) rs (still (Refuse (suc i)) Quiet) in
       let few = was.spent in
       changed i x (refusing x) (Refuse (suc i)) Quiet here refl (refl, refl, refl)
-        (record { setup = s.setup; opened = s.opened; entered = s.entered; seat = s.seat; seats = s.seats; role = s.role; names = s.names; stock = s.stock; number = s.number; under = s.under })
-        (record { refusing = refl; under = same (doing (suc i) rs) x.under was.matches.under }) (omega arith)
+      (record { setup = s.setup; opened = s.opened; entered = s.entered; seat = s.seat; seats = s.seats; role = s.role; names = s.names; stock = s.stock; number = s.number; under = s.under })
+      (record { refusing = refl; under = same (doing (suc i) rs) x.under was.matches.under }) (omega arith)
     where
       same : (d : Doing) (u : Underway) → UnderMatches u (view_at m.pool i) d → UnderMatches u (view_at m.pool i) (record { task = d.task; decided = d.decided; since = d.since; refusing = true })
       same d Nothing h = h
@@ -285,14 +285,14 @@ stepped_client o m rs at i x y q note here w legal =
     let went = w.follows d was.matches in
     let pool : IsPoolAt o q (rs ++ r ∷ []) = moved_pool o i w.access w.entry note m.pool q rs at.pool w.moved in
     let steps : IsStep o (suc i) d (words_after o.setup.pool o.words rs) (length (own (entries_in rs) (suc i))) r =
-          subst (λ (l : List Entry). IsStep o (suc i) d (words_after o.setup.pool o.words rs) (length (own l (suc i))) r) at.pool.entries
-            (subst (λ (ws : List ℕ). IsStep o (suc i) d ws (length (own m.pool.entries (suc i))) r) at.pool.words went.0) in
+    subst (λ (l : List Entry). IsStep o (suc i) d (words_after o.setup.pool o.words rs) (length (own l (suc i))) r) at.pool.entries
+    (subst (λ (ws : List ℕ). IsStep o (suc i) d ws (length (own m.pool.entries (suc i))) r) at.pool.words went.0) in
     let client : IfSome w.entry (λ (z : Entry). z.client ≡ suc i) = IfSome_then w.entry went.0.entry (λ (z : Entry) (h : IsEntry o (suc i) d m.pool.words (length (own m.pool.entries (suc i))) r z). h.client) in
     let least = asked_least (suc i) rs r in
     let few = was.spent in
     let less = w.spent in
     pushed o m (with_pool m i y q) rs r at steps refl refl pool (length-set m.clients i y)
-      (each_set (λ (j : ℕ) (z : ClientState). IsClientAt o q j z (rs ++ r ∷ [])) m.clients i y (own_client o q i y rs r refl w.stands went.1 (omega arith))
-        (λ j z apart there. let was = at.each j z there in other_client o m.pool q j z rs r was (λ (s : suc i ≡ suc j). apart (omega arith)) (stands_on o i j z w.access w.entry m.pool q apart client w.moved was.stands) (w.moved.others j apart)))
-      (λ d above h. absurd (let l = was.stands.seat in omega arith))
-      (subst (λ (l : List Entry). Legal finite.empty [] l) pool.entries legal)
+    (each_set (λ (j : ℕ) (z : ClientState). IsClientAt o q j z (rs ++ r ∷ [])) m.clients i y (own_client o q i y rs r refl w.stands went.1 (omega arith))
+    (λ j z apart there. let was = at.each j z there in other_client o m.pool q j z rs r was (λ (s : suc i ≡ suc j). apart (omega arith)) (stands_on o i j z w.access w.entry m.pool q apart client w.moved was.stands) (w.moved.others j apart)))
+    (λ d above h. absurd (let l = was.stands.seat in omega arith))
+    (subst (λ (l : List Entry). Legal finite.empty [] l) pool.entries legal)
