@@ -3,9 +3,10 @@
 
 use crate::number::number_of;
 use crate::{
-    Form, Line, LineFault, ScriptFault, Task, call_on, check_script, first_line, form_of, line_of,
-    push_answer, push_behind, push_busy, push_call, push_entry, push_hex, push_linked, push_none,
-    push_number, push_tag, push_too_long, push_unreached, push_word,
+    Form, Line, LineFault, Outline, ScriptFault, Task, call_on, check_lines, check_script,
+    first_line, form_of, line_of, push_answer, push_behind, push_busy, push_call, push_entry,
+    push_hex, push_linked, push_none, push_number, push_tag, push_too_long, push_unreached,
+    push_word,
 };
 use clover_map::{Bytes, Call, Entry, Key, Reply, Value};
 use clover_words::{Buffer, Side, Word};
@@ -27,17 +28,126 @@ fn assert_refused(
     let mut text = first.to_vec(alloc)?;
     text.extend_from_slice(others)?;
     assert!(rt; text.len() <= 16_777_216);
-    let line = match check_script(alloc, &text) {
-        Ok(_) => 0,
+    assert_eq!(rt; bad_line(check_script(alloc, &text))?, want);
+    Ok(())
+}
+
+/// The line that is refused, or 0 where the text is a script.
+fn bad_line(checked: Result<Outline, ScriptFault>) -> Result<u64, Fail> {
+    match checked {
+        Ok(_) => Ok(0),
         Err(
             ScriptFault::BadLine {
                 line,
                 fault: LineFault::Unbuilt,
             },
-        ) => line,
-        Err(ScriptFault::OutOfMemory) => return Err("out of memory".into()),
-    };
-    assert_eq!(rt; line, want);
+        ) => Ok(line),
+        Err(ScriptFault::OutOfMemory) => Err("out of memory".into()),
+    }
+}
+
+/// Eight buffers, two slots and two clients: each client has three buffers.
+const PAIR: &[u8] = b"pool nodes=1 buffers=8 slots=2 words=2 wear=3 clients=2 batch=2\n";
+
+/// Asserts which line of these lines behind the pool line is refused, where 0 is none.
+fn assert_lines_refused(
+    rt: &impl Abort,
+    alloc: Global,
+    others: &[u8],
+    want: u64,
+) -> Result<(), Fail> {
+    let mut text = PAIR.to_vec(alloc)?;
+    text.extend_from_slice(others)?;
+    assert!(rt; text.len() <= 16_777_216);
+    assert_eq!(rt; bad_line(check_lines(alloc, &text))?, want);
+    Ok(())
+}
+
+#[test]
+fn names_the_first_bad_line_of_clients(rt: HostRuntime) -> Result<(), Fail> {
+    let alloc = rt.alloc();
+    let cases: [(&[u8], u64); 17] = [
+        (b"", 0),
+        (
+            b"\n# a\ncall 1 put a =1\nbegin 2 get b\nstep 2 3\nrefuse 2\nfinish 2\n#",
+            0,
+        ),
+        (b"call 1 put a =0123456789abcdefg\n", 0),
+        (
+            b"call 1 put a =1\ncall 1 delete a\nbegin 1 swap a 0.0.0 =1\ncall 1 get a\n",
+            0,
+        ),
+        // None of the forms.
+        (b"jump 1\n", 2),
+        (b" \n", 2),
+        (b"#\n\ncall 1 get a \n#\n", 4),
+        (b"call 17 get a\n", 2),
+        (b"step 1 0\n", 2),
+        // A second pool line.
+        (PAIR, 2),
+        (
+            b"# a\npool nodes=1 buffers=8 slots=2 words=2 wear=3 clients=2 batch=2",
+            3,
+        ),
+        // One key more than there are slots.
+        (b"call 1 get a\n\nbegin 2 get b\ncall 1 get c\n", 5),
+        (
+            b"call 1 get a\ncall 2 get b\ncall 1 get b\ncall 2 get a\n",
+            0,
+        ),
+        // No buffer left.
+        (
+            b"call 1 put a =1\ncall 1 delete a\nbegin 1 swap a 0.0.0 =1\ncall 1 put a =1\n",
+            5,
+        ),
+        (
+            b"call 1 put a =1\ncall 1 delete a\ncall 2 put a =1\ncall 1 delete a\ncall 2 delete a\n",
+            0,
+        ),
+        // A client that the setup does not have has no buffer.
+        (b"call 16 get a\nfinish 3\n", 0),
+        (b"begin 3 delete a\n", 2),
+    ];
+    for (others, want) in cases {
+        assert_lines_refused(&rt, alloc, others, want)?;
+    }
+    Ok(())
+}
+
+#[test]
+fn refuses_what_opens_no_script_of_clients(rt: HostRuntime) -> Result<(), Fail> {
+    let alloc = rt.alloc();
+    let cases: [(&[u8], u64); 10] = [
+        // No pool line at all.
+        (b"", 1),
+        (b"\n", 2),
+        (b"# a\n\n# b", 4),
+        // A client's line before it.
+        (b"call 1 get a\n", 1),
+        (b"\n#\nfinish 1\n", 3),
+        // A line of no form before it.
+        (b"# a\njump 1\n", 2),
+        // A number out of range, and fewer buffers than slots.
+        (
+            b"\npool nodes=17 buffers=8 slots=2 words=2 wear=3 clients=2 batch=2",
+            2,
+        ),
+        (
+            b"\n\npool nodes=1 buffers=1 slots=2 words=2 wear=3 clients=1 batch=2\njump 1\n",
+            3,
+        ),
+        (
+            b"# a\n\npool nodes=1 buffers=8 slots=2 words=2 wear=3 clients=2 batch=2",
+            0,
+        ),
+        (
+            b"# a\n\npool nodes=1 buffers=8 slots=2 words=2 wear=3 clients=2 batch=2\n# b\njump 1\n",
+            5,
+        ),
+    ];
+    for (text, want) in cases {
+        assert_eq!(rt; bad_line(check_lines(alloc, text))?, want);
+    }
     Ok(())
 }
 
