@@ -1,5 +1,5 @@
 // A call that writes: where it stands, and how it goes on.
-ghost use Rattle.std.specs.Prelude.{◌≡◌, ◌≢◌, ◌≤◌, ◌<◌, ◌*◌, ◌↔◌, ℕ, Option, Some, None, length, take, IsTrue, IfOk, IfErr, IsErr, IfSome, IsNone};
+ghost use Rattle.std.specs.Prelude.{◌≡◌, ◌≢◌, ◌≤◌, ◌<◌, ◌+◌, ◌*◌, ◌↔◌, ℕ, Option, Some, None, length, take, IsTrue, IfOk, IfErr, IsErr, IfSome, IsNone};
 ghost use Rattle.clover_words.specs.declared.meta.Kind.{Kind as WordKind};
 ghost use Rattle.clover_words.specs.Tag.{tag_number};
 ghost use Rattle.clover_rule.specs.Content.{InRange};
@@ -162,6 +162,14 @@ impl PutCall {
             Stage::AtRaise(tail) => self.raise(port, tail),
             Stage::Over => unreachable!(),
         }
+    }
+
+    /// What holds of each call: the version that it is to commit fits into a buffer of its pool. This is for proofs,
+    /// and does nothing.
+    pub fn fits(&self)
+        ensures { length (body self.now) ≤ self.now.walk.pool.words + 1 }
+    {
+        let _ = &self.stage;
     }
 
     // How many content words the own version has.

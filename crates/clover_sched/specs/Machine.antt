@@ -2,6 +2,7 @@
 use Prim.Native.Nat.{suc}
 use Rattle.std.specs.Prelude.{◌≡◌, ◌≢◌, ℕ, ◌+◌, ◌-◌, ◌<◌, ◌≤◌, ◌==◌, List, [], ◌∷◌, ◌++◌, length, Contains, Bool, true, if◌then◌else◌, Option, Some, None}
 use Rattle.std.specs.FinMap as finite
+use Rattle.clover_words.specs.declared.pool.Pool.{Pool}
 use Rattle.clover_words.specs.declared.setup.Setup.{Setup}
 use Rattle.clover_words.specs.Preset.{HasDealt}
 use Rattle.clover_map.specs.Legal.{Legal}
@@ -12,10 +13,13 @@ use Rattle.clover_script.specs.declared.line.Task.{Task}
 use Rattle.clover_script.specs.declared.line.Task.TheVariants.{Client as ClientTask}
 use Rattle.clover_rule.specs.Lists.{nth}
 use Rattle.clover_rule.specs.Preset.{bindings_from}
+use Rattle.clover_rule.specs.declared.view.View.{View}
+use Rattle.clover_put.specs.Putting.{body}
 use Rattle.clover_plain.specs.Plain.{Plain, Kept, history, view_at}
 use Rattle.clover_plain.specs.Preset.{IsPreset}
 use Rattle.clover_sched.specs.declared.client.ClientState.{ClientState}
-use Rattle.clover_sched.specs.declared.client.Underway.TheVariants.{Nothing}
+use Rattle.clover_sched.specs.declared.client.Underway.{Underway}
+use Rattle.clover_sched.specs.declared.client.Underway.TheVariants.{Nothing, Write, Raise}
 use Rattle.clover_sched.specs.declared.event.Event.{Event}
 use Rattle.clover_sched.specs.declared.event.Event.TheVariants.{Begin, Step, Refuse}
 use Rattle.clover_sched.specs.Client.{Stands, Matches, IsTask, spent, since_of, most_made}
@@ -99,13 +103,24 @@ pub record IsSame (m n : Parts) : Type 0 where
   pub pool : Kept m.pool n.pool
   pub clients : n.clients ≡ m.clients
 
+-- how many accesses a call may still make
+abbrev pub left_by : Pool → Underway → View → ℕ
+left_by p Nothing v = 0
+left_by p under v = most_made p + 1 - length (since_of under v)
+
 -- how many accesses the actor's call may still make
 abbrev pub left_of : Parts → ℕ → Option ClientState → ℕ
 left_of m i None = 0
-left_of m i (Some x) = most_made m.setup.pool + 1 - length (since_of x.under (view_at m.pool i))
+left_of m i (Some x) = left_by m.setup.pool x.under (view_at m.pool i)
 
 abbrev pub left : Parts → ℕ → ℕ
 left m a = left_of m (a - 1) (nth m.clients (a - 1))
+
+-- the version that a call is to commit fits into a buffer
+abbrev pub IsFitting : Underway → Type 0
+IsFitting (Write c call) = length (body c) ≤ c.walk.pool.words + 1
+IsFitting (Raise c) = length (body c) ≤ c.walk.pool.words + 1
+IsFitting under = Unit {0}
 
 -- the actor is a client with a call under way
 abbrev pub HasCall : Option ClientState → Type 0

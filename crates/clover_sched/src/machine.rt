@@ -1,18 +1,22 @@
 // The machine: a pool and its clients, one event at a time.
-ghost use Rattle.std.specs.Prelude.{◌≡◌, ◌<◌, ◌≤◌, ◌++◌, ◌∷◌, [], ◌↔◌, ℕ, List, length, true, IsTrue, IfOk, OnErr};
+ghost use Rattle.std.specs.Prelude.{◌≡◌, ◌<◌, ◌≤◌, ◌++◌, ◌∷◌, [], ◌↔◌, ℕ, List, length, replicate, true, false, IsTrue, IfOk, OnErr};
 ghost use Rattle.clover_words.specs.Preset.{buffers_total};
+ghost use Rattle.clover_map.specs.History.{key_of};
+ghost use Rattle.clover_script.specs.Form.{call_in};
 ghost use Rattle.clover_sched.specs.Folds.{entries_in, accesses_in, made_in};
-ghost use Rattle.clover_sched.specs.Machine.{IsAt, IsOpening, IsSame, MayCome, IsBusy, left};
+ghost use Rattle.clover_sched.specs.Machine.{IsAt, IsOpening, IsSame, MayCome, IsBusy, IsFitting, left};
 ghost use Rattle.clover_sched.specs.Record.{Record};
 ghost use Rattle.clover_sched.specs.Run.{Opening};
-ghost use Rattle.clover_sched.specs.declared.event.Event.TheVariants.{Step as StepOf};
+ghost use Rattle.clover_sched.specs.declared.client.Underway.TheVariants.{Nothing as IsNothing};
+ghost use Rattle.clover_sched.specs.declared.event.Event.TheVariants.{Begin as BeginOf, Step as StepOf, Refuse as RefuseOf};
+ghost use Rattle.clover_sched.specs.declared.event.Note.TheVariants.{Quiet as IsQuiet};
 
-use crate::client::ClientState;
+use crate::client::{ClientState, Underway};
 use crate::event::{Event, Note};
-use clover_map::{Entry, OutOfMemory};
+use clover_map::{Call, Entry, Key, OutOfMemory};
 use clover_plain::PlainPool;
 use clover_rule::Access;
-use clover_script::Names;
+use clover_script::{Names, Task};
 use clover_words::Setup;
 use std::alloc::Global;
 use std::marker::Model;
@@ -43,6 +47,38 @@ impl Model for Machine {
     ghost invariant = { IsKept };
 }
 
+// So many clients that have done nothing.
+fn idle_clients(alloc: Global, count: u32) -> Result<Vec<ClientState>, OutOfMemory>
+    ensures { IfOk result (λ clients. clients.items ≡ replicate count (record { under = IsNothing; refusing = false; taken = 0; number = 0 })) }
+{
+    let mut clients = Vec::new(alloc);
+    for _ in 0..count {
+        clients.push(ClientState::idle())?;
+    }
+    Ok(clients)
+}
+
+// The key that a task names.
+fn key_in(task: &Task) -> &Key
+    ensures { result.now ≡ key_of (call_in task.now) }
+{
+    let Task::Client { call, .. } = task;
+    match call {
+        Call::Get { key } | Call::Put { key, .. } | Call::Delete { key } | Call::Swap { key, .. } =>
+            { key }
+    }
+}
+
+// The version that a call is to commit fits into a buffer. This is for the proof, and does nothing.
+fn fits(under: &Underway)
+    ensures { IsFitting under.now }
+{
+    match under {
+        Underway::Write { call, .. } | Underway::Raise { call } => call.fits(),
+        Underway::Nothing | Underway::Get { .. } => {}
+    }
+}
+
 impl Machine {
     /// The machine of a setup and of the keys of its first slots, over the preset pool, before any event. With
     /// `trace` it lists its accesses. `OutOfMemory` for want of memory.
@@ -57,8 +93,15 @@ impl Machine {
         ensures at { IfOk result (λ m. (o : Opening) × IsOpening setup names o × IsAt o m []) }
         ensures parts { IfOk result (λ m. (m.setup ≡ setup) × (m.names ≡ names) × (m.pool.traced ≡ trace)) }
     {
-        let _ = (alloc, setup.clients, names.len(), trace);
-        Err(OutOfMemory)
+        let mut pool = PlainPool::make(alloc, setup, trace)?;
+        pool.preset(names.keys());
+        let clients = idle_clients(alloc, setup.clients)?;
+        Ok(Machine {
+            setup,
+            names,
+            pool,
+            clients,
+        })
     }
 
     /// Makes an event happen: at most one access and one entry. It answers what the event came to.
@@ -71,8 +114,64 @@ impl Machine {
         ensures less { IfOk result (λ note. (a : ℕ) → event ≡ StepOf a → IsBusy self.old a → left self.new a < left self.old a) }
         ensures same { OnErr result (IsSame self.old self.new) }
     {
-        let _ = event;
-        Err(OutOfMemory)
+        match event {
+            Event::Begin { actor, task } => Ok(self.begin(actor, task)),
+            Event::Step { actor } => self.step(actor),
+            Event::Refuse { actor } => {
+                self.refuse(actor);
+                Ok(Note::Quiet)
+            }
+        }
+    }
+
+    // Begins a task of an actor.
+    fn begin(&mut self, actor: u32, task: Task) -> Note
+        requires may { MayCome self.old (BeginOf actor task) }
+        ensures happened { (o : Opening) (rs : List Record) → IsAt o self.old rs → (r : Record) × (r.event ≡ BeginOf actor task) × (r.note ≡ result) × IsAt o self.new (rs ++ r ∷ []) }
+        ensures parts { (self.new.setup ≡ self.old.setup) × (self.new.names ≡ self.old.names) × (self.new.pool.traced ≡ self.old.pool.traced) }
+    {
+        let seat = actor as usize - 1;
+        if seat >= self.clients.len() {
+            return Note::Missing { actor };
+        }
+        if self.clients[seat].is_busy() {
+            return Note::Busy { actor };
+        }
+        let Some(slot) = self.names.find(key_in(&task)) else {
+            unreachable!()
+        };
+        self.clients[seat].begin(&self.setup, slot, actor, task)
+    }
+
+    // Makes the next access of an actor's call.
+    fn step(&mut self, actor: u32) -> Result<Note, OutOfMemory>
+        requires { 1 ≤ actor }
+        ensures happened { IfOk result (λ note. (o : Opening) (rs : List Record) → IsAt o self.old rs → (r : Record) × (r.event ≡ StepOf actor) × (r.note ≡ note) × IsAt o self.new (rs ++ r ∷ [])) }
+        ensures parts { IfOk result (λ note. (self.new.setup ≡ self.old.setup) × (self.new.names ≡ self.old.names) × (self.new.pool.traced ≡ self.old.pool.traced)) }
+        ensures less { IfOk result (λ note. IsBusy self.old actor → left self.new actor < left self.old actor) }
+        ensures same { OnErr result (IsSame self.old self.new) }
+    {
+        if !self.is_busy(actor) {
+            return Ok(Note::Quiet);
+        }
+        let seat = actor as usize - 1;
+        let alloc = *self.clients.allocator();
+        fits(&self.clients[seat].under);
+        let done = self.clients[seat].step(alloc, &mut self.pool, actor);
+        self.pool.stands();
+        done
+    }
+
+    // Has the next access of an actor refused.
+    fn refuse(&mut self, actor: u32)
+        requires { 1 ≤ actor }
+        ensures happened { (o : Opening) (rs : List Record) → IsAt o self.old rs → (r : Record) × (r.event ≡ RefuseOf actor) × (r.note ≡ IsQuiet) × IsAt o self.new (rs ++ r ∷ []) }
+        ensures parts { (self.new.setup ≡ self.old.setup) × (self.new.names ≡ self.old.names) × (self.new.pool.traced ≡ self.old.pool.traced) }
+    {
+        let seat = actor as usize - 1;
+        if seat < self.clients.len() {
+            self.clients[seat].refusing = true;
+        }
     }
 
     /// Whether an actor has a call under way.

@@ -1,0 +1,212 @@
+-- What an event of an actor comes to, by what the machine's client of that number does.
+use Rattle.std.proofs.Common.{◌≡◌, ◌≢◌, ℕ, ◌-◌, ◌≤◌, ◌<◌, suc, length, set, get_or, List, [], ◌∷◌, ◌++◌, Bool, true, false, refl, sym, ap, ◌∙◌, subst, arith}
+use Rattle.std.specs.Prelude.{Option, Some, None, Result, Ok, Err, IfOk, OnErr, slice_get, if◌then◌else◌}
+use Rattle.std.specs.FinMap as finite
+use Rattle.clover_map.specs.Legal.{Legal}
+use Rattle.clover_map.specs.declared.bytes.OutOfMemory.{OutOfMemory}
+use Rattle.clover_map.specs.declared.call.Entry.{Entry}
+use Rattle.clover_words.specs.Preset.{HasDealt}
+use Rattle.clover_words.specs.declared.setup.Setup.{Setup}
+use Rattle.clover_map.specs.History.{own, key_of}
+use Rattle.clover_walk.specs.Walking.{key_at}
+use Rattle.clover_rule.specs.Lists.{nth, Within}
+use Rattle.clover_rule.specs.Preset.{bindings_from}
+use Rattle.clover_rule.specs.Rule.{longest}
+use Rattle.clover_rule.specs.declared.access.Access.{Access}
+use Rattle.clover_rule.specs.declared.view.View.{View}
+use Rattle.clover_plain.specs.Plain.{Plain, Kept, Running, history, view_at, outset}
+use Rattle.clover_script.specs.Form.{call_in}
+use Rattle.clover_script.specs.Lines.{takes}
+use Rattle.clover_script.specs.declared.line.Task.{Task}
+use Rattle.clover_script.specs.declared.line.Task.TheVariants.{Client as ClientTask}
+use Rattle.clover_sched.specs.Client.{Stands, Matches, Went, Begins, IsUnder, spent, spent_by, since_of, most_made}
+use Rattle.clover_sched.specs.Folds.{accesses_in, entries_in, doing}
+use Rattle.clover_sched.specs.Machine.{Parts, IsAt, IsBehind, IsClientAt, IsPoolAt, IsSame, IsBusy, IsFitting, HasCall, HasFor, MayCome, left, left_of, left_by}
+use Rattle.clover_sched.specs.Record.{Record}
+use Rattle.clover_sched.specs.Run.{Opening}
+use Rattle.clover_sched.specs.declared.client.ClientState.{ClientState}
+use Rattle.clover_sched.specs.declared.client.Underway.{Underway}
+use Rattle.clover_sched.specs.declared.client.Underway.TheVariants.{Nothing, Get, Write, Raise}
+use Rattle.clover_sched.specs.declared.event.Event.{Event}
+use Rattle.clover_sched.specs.declared.event.Event.TheVariants.{Begin, Step, Refuse}
+use Rattle.clover_sched.specs.declared.event.Note.{Note}
+use Rattle.clover_sched.specs.declared.event.Note.TheVariants.{Quiet, Busy, Missing}
+use Rattle.clover_sched.proofs.Busies.{busy_within, busy_here}
+use Rattle.clover_sched.proofs.Lefts.{since_few, left_less}
+use Rattle.clover_sched.proofs.Onward.{still, with_client, with_pool, refusing, begun_missing, begun_busy, begun_client, idled_far, idled_client, refused_client, refused_far, stepped_client}
+use Rattle.clover_sched.proofs.Bound.{bound_within, bound_key}
+use Rattle.clover_sched.proofs.Places.{nth_here, nth_none, nth_get, nth_set, nth_within, set_same}
+
+-- the event came to this note, and leads from one machine to another
+abbrev pub Happens : Parts → Parts → Event → Note → Type 0
+Happens m n e note = (o : Opening) (rs : List Record) → IsAt o m rs → (r : Record) × (r.event ≡ e) × (r.note ≡ note) × IsAt o n (rs ++ r ∷ [])
+
+pub behind : (m n : Parts) (e : Event) (note : Note) → Happens m n e note → IsBehind m → IsBehind n
+behind m n e note h b = let x = h b.0 b.1 b.2 in (b.0, b.1 ++ x.0 ∷ [], x.3)
+
+pub not_busy : (u : Underway) → ((u ≢ Nothing) → ⊥) → u ≡ Nothing
+not_busy Nothing h = refl
+not_busy (Get g into call) h = absurd (h (λ e. cc))
+not_busy (Write c call) h = absurd (h (λ e. cc))
+not_busy (Raise c) h = absurd (h (λ e. cc))
+
+module _ (m : Parts) (a : ℕ) (one : 1 ≤ a) where
+  same_actor : suc (a - 1) ≡ a
+  same_actor = omega arith
+
+  -- there is no such client
+  above : (o : Opening) (rs : List Record) → IsAt o m rs → length m.clients ≤ a - 1 → o.setup.clients < a
+  above o rs at past = let n = at.clients in omega arith
+
+  pub missing_happens : (t : Task) → length m.clients ≤ a - 1 → Happens m m (Begin a t) (Missing a)
+  missing_happens t past o rs at = (_, refl, refl, begun_missing o m rs at a t (above o rs at past))
+
+  pub refused_nobody : length m.clients ≤ a - 1 → Happens m m (Refuse a) Quiet
+  refused_nobody past o rs at = (_, refl, refl, refused_far o m rs at a (above o rs at past))
+
+  -- there is one
+  pub busy_happens : (t : Task) (x : ClientState) → nth m.clients (a - 1) ≡ Some x → x.under ≢ Nothing → Happens m m (Begin a t) (Busy a)
+  busy_happens t x here busy o rs at = (_, ap (λ (b : ℕ). Begin b t) same_actor, ap Busy same_actor, begun_busy o m rs at (a - 1) x t here busy)
+
+  pub refused_happens : (x : ClientState) → nth m.clients (a - 1) ≡ Some x → Happens m (with_client m (a - 1) (refusing x)) (Refuse a) Quiet
+  refused_happens x here o rs at = (_, ap Refuse same_actor, refl, refused_client o m rs at (a - 1) x here)
+
+  -- no call is under way
+  quiet_at : (z : Option ClientState) → nth m.clients (a - 1) ≡ z → (IsBusy m a → ⊥) → Happens m m (Step a) Quiet
+  quiet_at None past not o rs at = (_, refl, refl, idled_far o m rs at a (above o rs at (nth_none m.clients (a - 1) past)))
+  quiet_at (Some x) here not o rs at = (_, ap Step same_actor, refl, idled_client o m rs at (a - 1) x here (not_busy x.under (λ (busy : x.under ≢ Nothing). not (a - 1, same_actor, subst HasCall (sym here) busy))))
+
+  pub quiet_happens : (IsBusy m a → ⊥) → Happens m m (Step a) Quiet
+  quiet_happens not = quiet_at (nth m.clients (a - 1)) refl not
+
+  -- a client without a call begins
+  pub begin_happens : (t : Task) (x y : ClientState) (note : Note) → nth m.clients (a - 1) ≡ Some x → x.under ≡ Nothing
+      → ((o : Opening) (rs : List Record) → IsAt o m rs → Stands o m.pool (a - 1) x → Begins o m.pool (a - 1) x y t note) → Happens m (with_client m (a - 1) y) (Begin a t) note
+  begin_happens t x y note here idle begins o rs at = (_, ap (λ (b : ℕ). Begin b t) same_actor, refl, begun_client o m rs at (a - 1) x y t note here idle (begins o rs at (at.each (a - 1) x here).stands))
+
+  -- a client with a call makes an access
+  pub step_happens : (x y : ClientState) (q : Plain) (note : Note) → nth m.clients (a - 1) ≡ Some x → ((o : Opening) (i : ℕ) → suc i ≡ a → Stands o m.pool i x → Went o i x y m.pool q note) → (q.opened ≡ true → Running q)
+      → Happens m (with_pool m (a - 1) y q) (Step a) note
+  step_happens x y q note here went running o rs at =
+      let w = went o (a - 1) same_actor (at.each (a - 1) x here).stands in
+      let legal : Legal finite.empty [] (history q) = (running (w.moved.opened ∙ at.pool.opened)).rule.history_and_map.legal in
+      (_, ap Step same_actor, refl, stepped_client o m rs at (a - 1) x y q note here w (subst (λ (h : List Entry). Legal finite.empty [] h) (sym w.moved.entered) legal))
+
+-- the client stands where it stood, also where the pool's lists have more room
+stands_kept : (o : Opening) (p q : Plain) (i : ℕ) (x : ClientState) → Kept p q → Stands o p i x → Stands o q i x
+stands_kept o p q i x k s =
+    let same : view_at q i ≡ view_at p i = ap (λ (s : Setup). get_or q.views i (outset s)) k.setup ∙ ap (λ (vs : List View). get_or vs i (outset p.setup)) k.views in
+    record {
+      setup = k.setup ∙ s.setup;
+      opened = k.opened ∙ s.opened;
+      entered = k.entries ∙ s.entered ∙ ap longest (sym k.views);
+      seat = s.seat;
+      seats = ap length k.views ∙ s.seats;
+      role = ap (λ (v : View). v.pass.role) same ∙ s.role;
+      names = ap (λ (v : View). v.pass.names) same ∙ s.names;
+      stock = ap (λ (v : View). v.pass.stock) same ∙ s.stock;
+      number = s.number ∙ ap (λ (h : List Entry). length (own h (suc i))) (sym k.entries);
+      under = subst (λ (v : View). IsUnder o.setup.pool v x.under) (sym same) s.under;
+    }
+
+pub kept_at : (o : Opening) (m n : Parts) (rs : List Record) → IsSame m n → IsAt o m rs → IsAt o n rs
+kept_at o m n rs same at =
+    let k = same.pool in
+    record {
+      run = at.run;
+      setup = same.setup ∙ at.setup;
+      names = at.names ∙ ap (bindings_from 0) (sym same.names);
+      slots = subst (λ (s : Setup). length n.names ≤ s.pool.slots) (sym same.setup) (subst (λ (l : List (List ℕ)). length l ≤ m.setup.pool.slots) (sym same.names) at.slots);
+      pool = record {
+        setup = k.setup ∙ at.pool.setup;
+        start = k.start ∙ at.pool.start;
+        opened = k.opened ∙ at.pool.opened;
+        whole = k.whole ∙ at.pool.whole;
+        words = k.words ∙ at.pool.words;
+        entries = k.entries ∙ at.pool.entries;
+        entered = k.entries ∙ at.pool.entered ∙ ap longest (sym k.views);
+        accesses = k.accesses ∙ at.pool.accesses ∙ ap (λ (b : Bool). if b then accesses_in rs else []) (sym k.traced);
+        made = k.made ∙ at.pool.made;
+        seats = ap length k.views ∙ at.pool.seats;
+      };
+      clients = ap length same.clients ∙ at.clients;
+      each = λ i x here. let was = at.each i x (subst (λ (l : List ClientState). nth l i ≡ Some x) same.clients here) in record {
+        stands = stands_kept o m.pool n.pool i x k was.stands;
+        matches = subst (λ (v : View). Matches x v (doing (suc i) rs)) (sym (view i)) was.matches;
+        spent = was.spent;
+      };
+      far = at.far;
+      legal = at.legal;
+    }
+  where
+    view : (i : ℕ) → view_at n.pool i ≡ view_at m.pool i
+    view i = ap (λ (s : Setup). get_or n.pool.views i (outset s)) same.pool.setup ∙ ap (λ (vs : List View). get_or vs i (outset m.pool.setup)) same.pool.views
+
+-- a client whose step found no memory
+pub same_parts : (m : Parts) (i : ℕ) (x y : ClientState) (q : Plain) → nth m.clients i ≡ Some x → y ≡ x → Kept m.pool q → IsSame m (with_pool m i y q)
+same_parts m i x y q here e k = record { setup = refl; names = refl; pool = k; clients = ap (set m.clients i) e ∙ set_same m.clients i x here }
+
+pub step_behind : (m : Parts) (a : ℕ) (x y : ClientState) (q : Plain) (r : Result Note OutOfMemory) → 1 ≤ a → nth m.clients (a - 1) ≡ Some x
+    → IfOk r (λ note. (o : Opening) (i : ℕ) → suc i ≡ a → Stands o m.pool i x → Went o i x y m.pool q note) → OnErr r ((y ≡ x) × Kept m.pool q) → (q.opened ≡ true → Running q) → IsBehind m → IsBehind (with_pool m (a - 1) y q)
+step_behind m a x y q (Ok note) one here went same running b = behind m (with_pool m (a - 1) y q) (Step a) note (step_happens m a one x y q note here went running) b
+step_behind m a x y q (Err fault) one here went same running b = (b.0, b.1, kept_at b.0 m (with_pool m (a - 1) y q) b.1 (same_parts m (a - 1) x y q here same.0 same.1) b.2)
+
+-- what holds of the value of a result
+if_ok : {T E : Type 0} (r : Result T E) {P Q : T → Type 0} → IfOk r P → ((t : T) → P t → Q t) → IfOk r Q
+if_ok (Ok t) h f = f t h
+if_ok (Err e) h f = tt
+
+-- what a step of the client says in every run
+abbrev pub GoesOn : Parts → ℕ → ClientState → ClientState → Plain → Note → Type 0
+GoesOn m a x y q note = (o : Opening) (i : ℕ) → suc i ≡ a → Stands o m.pool i x → Went o i x y m.pool q note
+
+pub step_ok : (m p : Parts) (a : ℕ) (x y : ClientState) (q : Plain) (r : Result Note OutOfMemory) → m ≡ p → 1 ≤ a → nth m.clients (a - 1) ≡ Some x → IfOk r (GoesOn m a x y q) → (q.opened ≡ true → Running q)
+    → IfOk r (Happens p (with_pool m (a - 1) y q) (Step a))
+step_ok m p a x y q r same one here went running = if_ok r went (λ note w o rs at. step_happens m a one x y q note here w running o rs (subst (λ (z : Parts). IsAt o z rs) (sym same) at))
+
+pub step_parts : (m p : Parts) (a : ℕ) (x y : ClientState) (q : Plain) (r : Result Note OutOfMemory) → m ≡ p → 1 ≤ a → nth m.clients (a - 1) ≡ Some x → IfOk r (GoesOn m a x y q) → IsBehind m
+    → IfOk r (λ note. (m.setup ≡ p.setup) × (m.names ≡ p.names) × (q.traced ≡ p.pool.traced))
+step_parts m p a x y q r same one here went b = if_ok r went (λ note w. (ap (λ (z : Parts). z.setup) same, ap (λ (z : Parts). z.names) same, (w b.0 (a - 1) (omega arith) (b.2.each (a - 1) x here).stands).moved.traced ∙ ap (λ (z : Parts). z.pool.traced) same))
+
+pub client_stands : (m : Parts) (a : ℕ) (x : ClientState) → 1 ≤ a → nth m.clients (a - 1) ≡ Some x → IsBehind m → (o : Opening) × (i : ℕ) × (suc i ≡ a) × Stands o m.pool i x
+client_stands m a x one here b = (b.0, a - 1, omega arith, (b.2.each (a - 1) x here).stands)
+
+-- the actor of a task that may begin is a number from 1 on
+pub may_one : (m : Parts) (a : ℕ) (t : Task) → MayCome m (Begin a t) → 1 ≤ a
+may_one m a (ClientTask call written) may = may.0
+
+-- a client without a call has a buffer for a task that asks for one
+pub may_stock : (m : Parts) (a : ℕ) (t : Task) (x : ClientState) → MayCome m (Begin a t) → nth m.clients (a - 1) ≡ Some x → x.under ≡ Nothing → takes (call_in t) ≡ 1 → HasDealt m.setup a x.taken
+may_stock m a (ClientTask call written) x may here idle takes =
+    let one = may.0 in
+    let dealt : HasDealt m.setup a (spent x) = may.2.stock (a - 1) x (omega arith) here takes in
+    subst (λ (n : ℕ). HasDealt m.setup a n) (ap (λ (u : Underway). spent_by u x.taken) idle) dealt
+
+-- what a begin of the client on the slot of the task's key says in every run
+abbrev pub BeginsOn : Parts → ℕ → ℕ → ClientState → ClientState → Task → Note → Type 0
+BeginsOn m a slot x y t note = (o : Opening) (p : Plain) (i : ℕ) → suc i ≡ a → o.setup ≡ m.setup → Within (slot, key_of (call_in t)) o.names → key_at o.names slot ≡ key_of (call_in t) → Stands o p i x → Begins o p i x y t note
+
+pub begin_on : (m : Parts) (a slot : ℕ) (x y : ClientState) (t : Task) (note : Note) → 1 ≤ a → nth m.clients (a - 1) ≡ Some x → x.under ≡ Nothing → slice_get m.names slot ≡ Some (key_of (call_in t)) → BeginsOn m a slot x y t note
+    → Happens m (with_client m (a - 1) y) (Begin a t) note
+begin_on m a slot x y t note one here idle named begins = begin_happens m a one t x y note here idle (λ o rs at s. begins o m.pool (a - 1) (omega arith) (sym at.setup)
+    (subst (λ (l : List (ℕ × List ℕ)). Within (slot, key_of (call_in t)) l) (sym at.names) (bound_within 0 m.names slot slot (key_of (call_in t)) (omega arith) (sym (nth_get m.names slot) ∙ named)))
+    (ap (λ (l : List (ℕ × List ℕ)). key_at l slot) at.names ∙ bound_key 0 m.names slot slot (key_of (call_in t)) (omega arith) (sym (nth_get m.names slot) ∙ named)) s)
+
+pub step_less : (m p : Parts) (a : ℕ) (x y : ClientState) (q : Plain) (r : Result Note OutOfMemory) → m ≡ p → 1 ≤ a → nth m.clients (a - 1) ≡ Some x → IfOk r (GoesOn m a x y q) → IsBehind m → x.under ≢ Nothing → IsFitting x.under
+    → IfOk r (λ note. IsBusy p a → left (with_pool m (a - 1) y q) a < left p a)
+step_less m p a x y q r same one here went b busy fits = if_ok r went (λ note w is_busy.
+    let i = a - 1 in
+    let s = (b.2.each i x here).stands in
+    let go = w b.0 i (omega arith) s in
+    let few : length (since_of x.under (view_at m.pool i)) ≤ most_made m.setup.pool = since_few m.setup.pool x.under (view_at m.pool i) (subst (λ (z : Setup). IsUnder z.pool (view_at m.pool i) x.under) (sym b.2.setup) s.under) fits in
+    let less : left_by m.setup.pool y.under (view_at q i) < left_by m.setup.pool x.under (view_at m.pool i) = left_less m.setup.pool x.under y.under (view_at m.pool i) (view_at q i) busy few go.longer in
+    let new : left (with_pool m i y q) a ≡ left_by m.setup.pool y.under (view_at q i) = ap (left_of (with_pool m i y q) i) (nth_set m.clients i y (nth_within m.clients i x here)) in
+    let old : left m a ≡ left_by m.setup.pool x.under (view_at m.pool i) = ap (left_of m i) here in
+    subst (λ (z : Parts). left (with_pool m i y q) a < left z a) same (omega arith))
+
+-- the client that is read where the actor has a call
+pub busy_read : (m p : Parts) (a : ℕ) (x : ClientState) → m ≡ p → IsBusy p a → x ≡ get_or m.clients (a - 1) x → nth m.clients (a - 1) ≡ Some x
+busy_read m p a x same busy read = nth_here m.clients (a - 1) x (busy_within m a (subst (λ (z : Parts). IsBusy z a) (sym same) busy)) read
+
+pub busy_client : (m p : Parts) (a : ℕ) (x : ClientState) → m ≡ p → IsBusy p a → x ≡ get_or m.clients (a - 1) x → x.under ≢ Nothing
+busy_client m p a x same busy read = busy_here m a x (busy_read m p a x same busy read) (subst (λ (z : Parts). IsBusy z a) (sym same) busy)

@@ -1,0 +1,101 @@
+-- A call that makes an access has less left to make.
+use Rattle.std.proofs.Common.{◌≡◌, ◌≢◌, ℕ, ◌+◌, ◌-◌, ◌*◌, ◌/◌, ◌≤◌, ◌<◌, suc, length, set, List, [], ◌∷◌, Bool, true, false, cond, refl, sym, ap, ◌∙◌, subst, arith}
+use Rattle.std.specs.Prelude.{Option, Some, None, Result, IfOk}
+use Rattle.std.proofs.Math.Nat.{mul-le-mul_left}
+use Rattle.clover_words.specs.declared.bytes.ValueBuf.{ValueBuf}
+use Rattle.clover_words.specs.declared.pool.Pool.{Pool}
+use Rattle.clover_rule.specs.declared.view.View.{View}
+use Rattle.clover_walk.specs.Walking.{Walking, Stand, AtRoot, AtTag, AtLink as OnLink, OnTail, Ended, budget}
+use Rattle.clover_get.specs.Getting.{Getting, Stage as GetStage, Seeking as GetSeeking, AtMeta as GetMeta, AtValue, AtFound, AtDead as GetDead, AtBad as GetBad, Over as GetOver, IsOpen}
+use Rattle.clover_get.specs.Holding.{GetHolds, StandsOn, walked, copied}
+use Rattle.clover_get.proofs.Counting.{length_first}
+use Rattle.clover_put.specs.Holding.{PutHolds, Fills, steps_at, most}
+use Rattle.clover_put.specs.Putting.{Putting, Stage, Storing, Flushing, Seeking, AtMeta, AtLink, AtDead, AtOther, AtBad, AtRaise, Over, body}
+use Rattle.clover_put.specs.Stepping.{turn_bound}
+use Rattle.clover_put.proofs.Known.{bounded}
+use Rattle.clover_sched.specs.Client.{IsUnder, since_of, most_made}
+use Rattle.clover_sched.specs.Machine.{IsFitting, left_by}
+use Rattle.clover_sched.specs.declared.client.Underway.{Underway}
+use Rattle.clover_sched.specs.declared.client.Underway.TheVariants.{Nothing, Get, Write, Raise}
+
+-- the accesses of a get since its last turn
+walked_few : (at : Stand) → walked at ≤ 2
+walked_few AtRoot = omega arith
+walked_few (AtTag t) = omega arith
+walked_few (OnLink t u) = omega arith
+walked_few (OnTail t) = omega arith
+walked_few Ended = omega arith
+
+copied_few : (s : GetStage) (w : Walking) (v : View) (into : ValueBuf) → StandsOn s w v into → copied s w.stand w.pool.words ≤ 4 + w.pool.words
+copied_few GetSeeking w v into h = let l = walked_few w.stand in omega arith
+copied_few (GetMeta t) w v into h = omega arith
+copied_few (AtValue t f j) w v into h = let a : j < (into.length + 7) / 8 = h.1 in let b = h.2.size in omega arith
+copied_few (AtFound t f) w v into h = omega arith
+copied_few (GetDead t) w v into h = omega arith
+copied_few (GetBad t) w v into h = omega arith
+copied_few GetOver w v into h = absurd h
+
+-- what the turns of a call allow
+turns_allow : (t b w c : ℕ) → t < b → c ≤ 4 + w → t * (w + 4) + c ≤ (b + 1) * (w + 5) + 2 * w + 7
+turns_allow t b w c less few =
+    let one : (w + 4) * t ≤ (w + 4) * b = mul-le-mul_left (w + 4) (omega arith) in
+    omega arith
+
+get_few : (p : Pool) (g : Getting) (v : View) (into : ValueBuf) → g.walk.pool ≡ p → GetHolds g v into → length (cond g.walk.first [] v.pass.since) ≤ most_made p
+get_few p g v into pool h =
+    let few = copied_few g.stage g.walk v into h.stage in
+    let all = turns_allow g.walk.turns (budget g.walk.pool) g.walk.pool.words _ h.walk.below few in
+    let bound = h.bound in
+    let count = length_first g.walk.first v.pass.since in
+    subst (λ (q : Pool). length (cond g.walk.first [] v.pass.since) ≤ most_made q) pool (omega arith)
+
+steps_few : (at : Stand) → steps_at at ≤ 2
+steps_few AtRoot = omega arith
+steps_few (AtTag t) = omega arith
+steps_few (OnLink t u) = omega arith
+steps_few (OnTail t) = omega arith
+steps_few Ended = omega arith
+
+most_few : (s : Stage) (c : Putting) (v : View) → Fills s c v → most s c ≤ 2 * length (body c) + 5 * c.walk.turns + 5
+most_few (Storing j) c v h = let l = h.1 in omega arith
+most_few (Flushing j) c v h = let l = h.1 in omega arith
+most_few Seeking c v h = let l = steps_few c.walk.stand in omega arith
+most_few (AtMeta u) c v h = omega arith
+most_few (AtLink u) c v h = omega arith
+most_few (AtDead u) c v h = omega arith
+most_few (AtOther u) c v h = omega arith
+most_few (AtBad u) c v h = omega arith
+most_few (AtRaise u) c v h = omega arith
+most_few Over c v h = absurd h
+
+turn_most : (t b w : ℕ) → t < b → (t + 1) * (w + 5) + 2 * w + 4 ≤ (b + 1) * (w + 5) + 2 * w + 7
+turn_most t b w less = let one : (w + 5) * (t + 1) ≤ (w + 5) * (b + 1) = mul-le-mul_left (w + 5) (omega arith) in omega arith
+
+put_few : (p : Pool) (c : Putting) (v : View) → c.walk.pool ≡ p → PutHolds c v → length (body c) ≤ c.walk.pool.words + 1 → length (cond c.walk.first [] v.pass.since) ≤ most_made p
+put_few p c v pool h fits =
+    let few = most_few c.stage c v h.fills in
+    let spent = h.spent in
+    let count = length_first c.walk.first v.pass.since in
+    let all : length (cond c.walk.first [] v.pass.since) ≤ turn_bound c.walk.pool c.walk.turns = bounded c.walk.pool _ (length (body c)) c.walk.turns (omega arith) (omega arith) in
+    let least = turn_most c.walk.turns (budget c.walk.pool) c.walk.pool.words h.walk.below in
+    subst (λ (q : Pool). length (cond c.walk.first [] v.pass.since) ≤ most_made q) pool (omega arith)
+
+-- no call makes more accesses
+pub since_few : (p : Pool) (u : Underway) (v : View) → IsUnder p v u → IsFitting u → length (since_of u v) ≤ most_made p
+since_few p Nothing v h fits = omega arith
+since_few p (Get g into call) v h fits = get_few p g v into h.1 h.2
+since_few p (Write c call) v h fits = put_few p c v h.1 h.2 fits
+since_few p (Raise c) v h fits = put_few p c v h.2 h.3 fits
+
+-- a call that has ended has none left, and one that goes on has one less
+left_some : (p : Pool) (u : Underway) (v : View) → u ≢ Nothing → left_by p u v ≡ most_made p + 1 - length (since_of u v)
+left_some p Nothing v not = absurd (not refl)
+left_some p (Get g into call) v not = refl
+left_some p (Write c call) v not = refl
+left_some p (Raise c) v not = refl
+
+pub left_less : (p : Pool) (u n : Underway) (v w : View) → u ≢ Nothing → length (since_of u v) ≤ most_made p → (n ≢ Nothing → length (since_of n w) ≡ suc (length (since_of u v))) → left_by p n w < left_by p u v
+left_less p u Nothing v w busy few longer = let l = left_some p u v busy in omega arith
+left_less p u (Get g into call) v w busy few longer = let l = left_some p u v busy in let more = longer (λ e. cc) in omega arith
+left_less p u (Write c call) v w busy few longer = let l = left_some p u v busy in let more = longer (λ e. cc) in omega arith
+left_less p u (Raise c) v w busy few longer = let l = left_some p u v busy in let more = longer (λ e. cc) in omega arith

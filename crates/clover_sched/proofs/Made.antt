@@ -1,0 +1,108 @@
+-- The machine as it is made: the preset pool, and clients that have done nothing.
+use Rattle.std.proofs.Common.{◌≡◌, ℕ, ◌≤◌, ◌<◌, ◌-◌, zero, suc, length, List, [], ◌∷◌, ◌++◌, Bool, true, false, replicate, refl, sym, ap, ◌∙◌, subst, arith, get_or}
+use Rattle.std.specs.Prelude.{Some, None, slice_get, if◌then◌else◌}
+use Rattle.clover_words.specs.Preset.{buffers_total}
+use Rattle.clover_words.specs.declared.setup.Setup.{Setup}
+use Rattle.clover_map.specs.History.{own}
+use Rattle.clover_map.specs.declared.call.Entry.{Entry}
+use Rattle.clover_rule.specs.Lists.{nth}
+use Rattle.clover_rule.specs.Preset.{bindings_from}
+use Rattle.clover_rule.specs.declared.access.Access.{Access}
+use Rattle.clover_rule.specs.declared.view.View.{View}
+use Rattle.clover_plain.specs.Plain.{Plain, view_at, history, outset}
+use Rattle.clover_plain.specs.Preset.{IsPreset, start_view, dealt_from, AreDistinct}
+use Rattle.clover_plain.proofs.Stepping.{default_nth, nth_default}
+use Rattle.clover_sched.specs.Client.{Stands}
+use Rattle.clover_sched.specs.Machine.{Parts, IsAt, IsClientAt, IsOpening}
+use Rattle.clover_sched.specs.Run.{Opening}
+use Rattle.clover_sched.specs.declared.client.ClientState.{ClientState}
+use Rattle.clover_sched.specs.declared.client.Underway.TheVariants.{Nothing}
+use Rattle.clover_sched.proofs.Places.{nth_within, nth_get, nth_replicate}
+
+-- the keys of the slots each stand once
+pub distinct_keys : (keys : List (List ℕ)) → ((i j : ℕ) (k : List ℕ) → slice_get keys i ≡ Some k → slice_get keys j ≡ Some k → i ≡ j) → AreDistinct keys
+distinct_keys keys h s r k a b = h s r k (nth_get keys s ∙ a) (nth_get keys r ∙ b)
+
+length_replicate : {A : Type 0} (n : ℕ) (x : A) → length (replicate n x) ≡ n
+length_replicate zero x = refl
+length_replicate (suc n) x = ap suc (length_replicate n x)
+
+-- a pool that was just preset
+pub record IsFresh (s : Setup) (keys : List (List ℕ)) (p : Plain) : Type 0 where
+  pub setup : p.setup ≡ s
+  pub opened : p.opened ≡ true
+  pub preset : IsPreset s keys p.words
+  pub start : p.start ≡ p.words
+  pub views : (i : ℕ) (v : View) → nth p.views i ≡ Some v → v ≡ start_view s keys i
+  pub seats : length p.views ≡ s.clients
+  pub history : history p ≡ []
+  pub entries : p.entries ≡ []
+  pub accesses : p.accesses ≡ []
+  pub made : p.made ≡ 0
+  pub whole : p.whole ≡ true
+
+pub idle : ClientState
+idle = record { under = Nothing; refusing = false; taken = 0; number = 0 }
+
+pub opening : Setup → List (List ℕ) → Plain → Opening
+opening s keys p = record { setup = s; words = p.words; names = bindings_from 0 keys }
+
+pub is_opening : (s : Setup) (keys : List (List ℕ)) (p : Plain) → IsFresh s keys p → IsOpening s keys (opening s keys p)
+unfolding opening
+is_opening s keys p fresh = record { setup = refl; names = refl; words = fresh.preset }
+
+pub made_at : (m : Parts) (s : Setup) (keys : List (List ℕ)) → m.setup ≡ s → m.names ≡ keys → length keys ≤ s.pool.slots → IsFresh s keys m.pool → m.clients ≡ replicate s.clients (record { under = Nothing; refusing = false; taken = 0; number = 0 }) → IsAt (opening s keys m.pool) m []
+unfolding opening idle
+made_at m s keys setup names slots fresh clients = record {
+  run = tt;
+  setup = setup;
+  names = ap (bindings_from 0) (sym names);
+  slots = subst (λ (z : Setup). length m.names ≤ z.pool.slots) (sym setup) (subst (λ (l : List (List ℕ)). length l ≤ s.pool.slots) (sym names) slots);
+  pool = record {
+    setup = fresh.setup;
+    start = fresh.start;
+    opened = fresh.opened;
+    whole = fresh.whole;
+    words = refl;
+    entries = fresh.entries;
+    entered = fresh.entries ∙ sym fresh.history;
+    accesses = fresh.accesses ∙ none m.pool.traced;
+    made = fresh.made;
+    seats = fresh.seats;
+  };
+  clients = ap length clients ∙ length_replicate s.clients idle;
+  each = λ i x here. each i x (subst (λ (l : List ClientState). nth l i ≡ Some x) clients here);
+  far = λ a above. refl;
+  legal = tt;
+}
+  where
+    none : (b : Bool) → ◌≡◌ {A = List Access} [] (if b then [] else [])
+    none true = refl
+    none false = refl
+
+    view : (i : ℕ) → i < s.clients → view_at m.pool i ≡ start_view s keys i
+    view i below = fresh.views i (view_at m.pool i) (nth_default m.pool.views i (outset m.pool.setup) (omega (arith, below, fresh.seats)))
+
+    stands : (i : ℕ) → i < s.clients → Stands (record { setup = s; words = m.pool.words; names = bindings_from 0 keys }) m.pool i idle
+    stands i below = record {
+      setup = fresh.setup;
+      opened = fresh.opened;
+      entered = fresh.entries ∙ sym fresh.history;
+      seat = omega arith;
+      seats = fresh.seats;
+      role = ap (λ (v : View). v.pass.role) (view i below);
+      names = ap (λ (v : View). v.pass.names) (view i below);
+      stock = ap (λ (v : View). v.pass.stock) (view i below) ∙ ap (dealt_from s (suc i) 0) (whole (buffers_total s.pool));
+      number = sym (ap (λ (l : List Entry). length (own l (suc i))) fresh.entries);
+      under = tt;
+    }
+      where
+        whole : (n : ℕ) → n ≡ n - 0
+        whole n = omega arith
+
+    each : (i : ℕ) (x : ClientState) → nth (replicate s.clients idle) i ≡ Some x → IsClientAt (record { setup = s; words = m.pool.words; names = bindings_from 0 keys }) m.pool i x []
+    each i x here = subst (λ (y : ClientState). IsClientAt (record { setup = s; words = m.pool.words; names = bindings_from 0 keys }) m.pool i y []) (sym (nth_replicate s.clients i idle x here)) (record {
+      stands = stands i (subst (λ (n : ℕ). i < n) (length_replicate s.clients idle) (nth_within (replicate s.clients idle) i x here));
+      matches = record { refusing = refl; under = refl };
+      spent = omega arith;
+    })

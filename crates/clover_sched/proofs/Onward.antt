@@ -1,0 +1,298 @@
+-- The machine stands behind one record more: in general, and for each kind of event.
+use Rattle.std.proofs.Common.{◌≡◌, ◌≢◌, ℕ, ◌+◌, ◌≤◌, ◌<◌, suc, length, set, List, [], ◌∷◌, ◌++◌, Bool, true, false, refl, sym, ap, ◌∙◌, subst, arith, append-nil, ltb, cond, ne_eqb}
+use Rattle.std.specs.Prelude.{Option, Some, None, ◌==◌, if◌then◌else◌, filter, IfSome}
+use Rattle.std.specs.FinMap as finite
+use Rattle.std.proofs.lemmas.Bool.{lt-ltb, le-ltb}
+use Rattle.std.proofs.lemmas.Option.{IfSome_then}
+use Rattle.std.proofs.lemmas.List.{length-set}
+use Rattle.std.proofs.lemmas.List.Elements.{filter-append}
+use native.Mathlib.Decide.{ℕ_discrete}
+use mathlib.Core.Logic.{dite}
+use Rattle.clover_words.specs.declared.pool.Pool.{Pool}
+use Rattle.clover_words.specs.declared.setup.Setup.{Setup}
+use Rattle.clover_map.specs.History.{own}
+use Rattle.clover_map.specs.Legal.{Legal}
+use Rattle.clover_map.specs.declared.call.Entry.{Entry}
+use Rattle.clover_rule.specs.Lists.{nth}
+use Rattle.clover_rule.specs.Preset.{bindings_from}
+use Rattle.clover_rule.specs.declared.access.Access.{Access}
+use Rattle.clover_rule.specs.declared.view.View.{View}
+use Rattle.clover_plain.specs.Plain.{Plain, view_at, history}
+use Rattle.clover_script.specs.Form.{call_in}
+use Rattle.clover_script.specs.Lines.{takes}
+use Rattle.clover_script.specs.declared.line.Task.{Task}
+use Rattle.clover_script.specs.declared.line.Task.TheVariants.{Client as ClientTask}
+use Rattle.clover_sched.specs.Client.{Stands, Matches, UnderMatches, Moved, Went, Begins, IsUnder, spent, step_record}
+use Rattle.clover_sched.specs.Folds.{listed, accesses_in, entries_in, words_by, words_after, made_by, made_in, Doing, actor_of, does, doing, begun}
+use Rattle.clover_sched.specs.Machine.{Parts, IsAt, IsPoolAt, IsClientAt, asked}
+use Rattle.clover_sched.specs.Record.{Record}
+use Rattle.clover_sched.specs.Run.{Opening, Follows, IsStep, IsEntry, begin_note}
+use Rattle.clover_sched.specs.declared.client.ClientState.{ClientState}
+use Rattle.clover_sched.specs.declared.client.Underway.{Underway}
+use Rattle.clover_sched.specs.declared.client.Underway.TheVariants.{Nothing, Get, Write, Raise}
+use Rattle.clover_sched.specs.declared.event.Event.{Event}
+use Rattle.clover_sched.specs.declared.event.Event.TheVariants.{Begin, Step, Refuse}
+use Rattle.clover_sched.specs.declared.event.Note.{Note}
+use Rattle.clover_sched.specs.declared.event.Note.TheVariants.{Quiet, Answered, Refused, Busy, Missing}
+use Rattle.clover_sched.proofs.Pasts.{accesses_more, entries_more, words_more, made_more, goes_more, doing_own, doing_other, asked_least, asked_own}
+use Rattle.clover_sched.proofs.Places.{nth_within, nth_set, nth_other}
+
+-- one record more, from what it owes
+pub pushed : (o : Opening) (m n : Parts) (rs : List Record) (r : Record) → IsAt o m rs → Follows o rs r → n.setup ≡ m.setup → n.names ≡ m.names → IsPoolAt o n.pool (rs ++ r ∷ []) → length n.clients ≡ length m.clients
+    → ((i : ℕ) (x : ClientState) → nth n.clients i ≡ Some x → IsClientAt o n.pool i x (rs ++ r ∷ []))
+    → ((d : Doing) → o.setup.clients < actor_of r.event → d.task ≡ None → (does d r r.event).task ≡ None)
+    → Legal finite.empty [] (entries_in (rs ++ r ∷ [])) → IsAt o n (rs ++ r ∷ [])
+pushed o m n rs r at follows setup names pool clients each far legal = record {
+  run = goes_more o [] rs r at.run follows;
+  setup = setup ∙ at.setup;
+  names = at.names ∙ ap (bindings_from 0) (sym names);
+  slots = subst (λ (s : Setup). length n.names ≤ s.pool.slots) (sym setup) (subst (λ (l : List (List ℕ)). length l ≤ m.setup.pool.slots) (sym names) at.slots);
+  pool = pool;
+  clients = clients ∙ at.clients;
+  each = each;
+  far = λ a above. dite (ℕ_discrete (actor_of r.event) a)
+      (λ e. ap (λ (d : Doing). d.task) (doing_own a rs r e) ∙ far (doing a rs) (subst (λ (b : ℕ). o.setup.clients < b) (sym e) above) (at.far a above))
+      (λ e. ap (λ (d : Doing). d.task) (doing_other a rs r e) ∙ at.far a above);
+  legal = legal;
+}
+
+-- no access and no entry
+abbrev pub still : Event → Note → Record
+still e note = record { event = e; access = None; note = note; entry = None }
+
+still_entries : (rs : List Record) (r : Record) → r.entry ≡ None → entries_in (rs ++ r ∷ []) ≡ entries_in rs
+still_entries rs r e = entries_more rs r ∙ ap (λ (z : Option Entry). entries_in rs ++ listed z) e ∙ append-nil (entries_in rs)
+
+still_accesses : (rs : List Record) (r : Record) → r.access ≡ None → accesses_in (rs ++ r ∷ []) ≡ accesses_in rs
+still_accesses rs r e = accesses_more rs r ∙ ap (λ (z : Option Access). accesses_in rs ++ listed z) e ∙ append-nil (accesses_in rs)
+
+still_pool : (o : Opening) (p : Plain) (rs : List Record) (r : Record) → IsPoolAt o p rs → r.access ≡ None → r.entry ≡ None → IsPoolAt o p (rs ++ r ∷ [])
+still_pool o p rs r at a e = record {
+  setup = at.setup;
+  start = at.start;
+  opened = at.opened;
+  whole = at.whole;
+  words = at.words ∙ sym (words_more o.setup.pool o.words rs r ∙ ap (words_by o.setup.pool (words_after o.setup.pool o.words rs)) a);
+  entries = at.entries ∙ sym (still_entries rs r e);
+  entered = at.entered;
+  accesses = at.accesses ∙ ap (λ (l : List Access). if p.traced then l else []) (sym (still_accesses rs r a));
+  made = at.made ∙ sym (made_more rs r ∙ ap (made_by (made_in rs)) a);
+  seats = at.seats;
+}
+
+-- a client of which the record is not
+other_client : (o : Opening) (p q : Plain) (i : ℕ) (x : ClientState) (rs : List Record) (r : Record) → IsClientAt o p i x rs → actor_of r.event ≢ suc i → Stands o q i x → view_at q i ≡ view_at p i → IsClientAt o q i x (rs ++ r ∷ [])
+other_client o p q i x rs r at apart stands same = record {
+  stands = stands;
+  matches = subst (λ (v : View). Matches x v (doing (suc i) (rs ++ r ∷ []))) (sym same) (subst (λ (d : Doing). Matches x (view_at p i) d) (sym (doing_other (suc i) rs r apart)) at.matches);
+  spent = let l = asked_least (suc i) rs r in let s = at.spent in omega arith;
+}
+
+-- the client of which it is
+own_client : (o : Opening) (q : Plain) (i : ℕ) (y : ClientState) (rs : List Record) (r : Record) → actor_of r.event ≡ suc i → Stands o q i y → Matches y (view_at q i) (does (doing (suc i) rs) r r.event) → spent y ≤ asked (suc i) (rs ++ r ∷ []) → IsClientAt o q i y (rs ++ r ∷ [])
+own_client o q i y rs r e stands matches few = record {
+  stands = stands;
+  matches = subst (λ (d : Doing). Matches y (view_at q i) d) (sym (doing_own (suc i) rs r e)) matches;
+  spent = few;
+}
+
+-- the clients where that of one place is another
+each_set : (P : ℕ → ClientState → Type 0) (xs : List ClientState) (i : ℕ) (y : ClientState) → P i y → ((j : ℕ) (z : ClientState) → j ≢ i → nth xs j ≡ Some z → P j z) → (j : ℕ) (z : ClientState) → nth (set xs i y) j ≡ Some z → P j z
+each_set P xs i y here others j z e = dite (ℕ_discrete j i)
+    (λ (h : j ≡ i). let at : nth (set xs i y) i ≡ Some z = subst (λ (k : ℕ). nth (set xs i y) k ≡ Some z) h e in let same : y ≡ z = go at in subst (λ (k : ℕ). P k z) (sym h) (subst (P i) same here))
+    (λ (h : j ≢ i). others j z h (sym (nth_other xs i j y h) ∙ e))
+  where
+    go : nth (set xs i y) i ≡ Some z → y ≡ z
+    go at = let l = nth_within (set xs i y) i z at in let k : i < length xs = subst (λ (n : ℕ). i < n) (length-set xs i y) l in let h = nth_set xs i y k in cc
+
+abbrev pub with_client : Parts → ℕ → ClientState → Parts
+with_client m i y = record m { clients = set m.clients i y }
+
+abbrev pub refusing : ClientState → ClientState
+refusing x = record x { refusing = true }
+
+module _ (o : Opening) (m : Parts) (rs : List Record) (at : IsAt o m rs) where
+  still_legal : (r : Record) → r.entry ≡ None → Legal finite.empty [] (entries_in (rs ++ r ∷ []))
+  still_legal r e = subst (λ (l : List Entry). Legal finite.empty [] l) (sym (still_entries rs r e)) at.legal
+
+  -- nothing is another
+  stayed : (e : Event) (note : Note) → Follows o rs (still e note) → ((d : Doing) → does d (still e note) e ≡ d) → IsAt o m (rs ++ still e note ∷ [])
+  stayed e note follows same = pushed o m m rs r at follows refl refl (still_pool o m.pool rs r at.pool refl refl) refl each (λ d above h. ap (λ (z : Doing). z.task) (same d) ∙ h) (still_legal r refl)
+    where
+      r : Record
+      r = still e note
+
+      each : (i : ℕ) (x : ClientState) → nth m.clients i ≡ Some x → IsClientAt o m.pool i x (rs ++ still e note ∷ [])
+      each i x here = let was = at.each i x here in dite (ℕ_discrete (actor_of e) (suc i))
+          (λ (h : actor_of e ≡ suc i). own_client o m.pool i x rs (still e note) h was.stands (subst (λ (d : Doing). Matches x (view_at m.pool i) d) (sym (same (doing (suc i) rs))) was.matches) (let l = asked_least (suc i) rs (still e note) in let s = was.spent in omega arith))
+          (λ h. other_client o m.pool m.pool i x rs (still e note) was h was.stands refl)
+
+  -- an actor that there is not
+  begin_missing : (a : ℕ) (t : Task) → o.setup.clients < a → Missing a ≡ begin_note o.setup (doing a rs) a t
+  begin_missing a (ClientTask call written) above = sym (if_true _ _ _ (lt-ltb o.setup.clients a above))
+    where
+      if_true : (b : Bool) (x y : Note) → b ≡ true → (if b then x else y) ≡ x
+      if_true true x y e = refl
+      if_true false x y e = absurd cc
+
+  pub begun_missing : (a : ℕ) (t : Task) → o.setup.clients < a → IsAt o m (rs ++ still (Begin a t) (Missing a) ∷ [])
+  begun_missing a t above = stayed (Begin a t) (Missing a) (refl, refl, begin_missing a t above) (λ d. refl)
+
+  -- the seat of a client that there is
+  seated : (i : ℕ) (x : ClientState) → nth m.clients i ≡ Some x → suc i ≤ o.setup.clients
+  seated i x here = (at.each i x here).stands.seat
+
+  absent : (i : ℕ) (x : ClientState) → nth m.clients i ≡ Some x → o.setup.clients < suc i → ⊥
+  absent i x here above = let l = seated i x here in omega arith
+
+  -- an actor whose call is not over
+  pub begun_busy : (i : ℕ) (x : ClientState) (t : Task) → nth m.clients i ≡ Some x → x.under ≢ Nothing → IsAt o m (rs ++ still (Begin (suc i) t) (Busy (suc i)) ∷ [])
+  begun_busy i x t here busy = stayed (Begin (suc i) t) (Busy (suc i)) (refl, refl, told) (λ d. refl)
+    where
+      has : (u : Underway) (v : View) (d : Doing) → UnderMatches u v d → u ≢ Nothing → (s : Task) × (d.task ≡ Some s)
+      has Nothing v d h not = absurd (not refl)
+      has (Get g into call) v d h not = (ClientTask call h.0.0, h.0.1)
+      has (Write c call) v d h not = (ClientTask call h.0.0, h.0.1)
+      has (Raise c) v d h not = (ClientTask _ h.0.0, h.0.1)
+
+      if_false : (b : Bool) (y z : Note) → b ≡ false → (if b then y else z) ≡ z
+      if_false true y z e = absurd cc
+      if_false false y z e = refl
+
+      busy_note : (d : Doing) (s u : Task) → d.task ≡ Some s → begin_note o.setup d (suc i) u ≡ Busy (suc i)
+      busy_note d s (ClientTask call written) e =
+          ap (λ (z : Option Task). begin_note o.setup (record { task = z; decided = d.decided; since = d.since; refusing = d.refusing }) (suc i) (ClientTask call written)) e
+          ∙ if_false (ltb o.setup.clients (suc i)) (Missing (suc i)) (Busy (suc i)) (le-ltb o.setup.clients (suc i) (seated i x here))
+
+      told : Busy (suc i) ≡ begin_note o.setup (doing (suc i) rs) (suc i) t
+      told = let s = has x.under (view_at m.pool i) (doing (suc i) rs) (at.each i x here).matches.under busy in sym (busy_note (doing (suc i) rs) s.0 t s.1)
+
+  -- one client is another, and the record has no access and no entry
+  pub changed : (i : ℕ) (x y : ClientState) (e : Event) (note : Note) → nth m.clients i ≡ Some x → actor_of e ≡ suc i → Follows o rs (still e note) → Stands o m.pool i y
+      → Matches y (view_at m.pool i) (does (doing (suc i) rs) (still e note) e) → spent y ≤ asked (suc i) (rs ++ still e note ∷ []) → IsAt o (with_client m i y) (rs ++ still e note ∷ [])
+  changed i x y e note here actor follows stands matches few = pushed o m (with_client m i y) rs (still e note) at follows refl refl (still_pool o m.pool rs (still e note) at.pool refl refl) (length-set m.clients i y)
+      (each_set (λ (j : ℕ) (z : ClientState). IsClientAt o m.pool j z (rs ++ still e note ∷ [])) m.clients i y (own_client o m.pool i y rs (still e note) actor stands matches few)
+      (λ j z apart there. let was = at.each j z there in other_client o m.pool m.pool j z rs (still e note) was (λ (s : actor_of e ≡ suc j). apart (omega (arith, s, actor))) was.stands refl))
+      (λ d above h. absurd (absent i x here (subst (λ (b : ℕ). o.setup.clients < b) actor above)))
+      (still_legal (still e note) refl)
+
+  -- a client with nothing under way has no task
+  idle_task : (i : ℕ) (x : ClientState) → nth m.clients i ≡ Some x → x.under ≡ Nothing → (doing (suc i) rs).task ≡ None
+  idle_task i x here idle = subst (λ (u : Underway). UnderMatches u (view_at m.pool i) (doing (suc i) rs)) idle (at.each i x here).matches.under
+
+  -- a client begins
+  pub begun_client : (i : ℕ) (x y : ClientState) (t : Task) (note : Note) → nth m.clients i ≡ Some x → x.under ≡ Nothing → Begins o m.pool i x y t note → IsAt o (with_client m i y) (rs ++ still (Begin (suc i) t) note ∷ [])
+  begun_client i x y t note here idle b =
+      let was = at.each i x here in
+      let own = asked_own (suc i) rs (still (Begin (suc i) t) note) t refl in
+      let few = was.spent in
+      let more = b.spent in
+      changed i x y (Begin (suc i) t) note here refl (refl, refl, b.says (doing (suc i) rs) (idle_task i x here idle)) b.stands (b.matches (doing (suc i) rs) was.matches) (omega arith)
+
+  -- an actor with no task steps
+  idled : (a : ℕ) → (doing a rs).task ≡ None → IsAt o m (rs ++ still (Step a) Quiet ∷ [])
+  idled a none = stayed (Step a) Quiet (record {
+    idle = λ e. (refl, refl, refl);
+    one = λ t e. absurd (cc (none, e));
+    access = tt;
+    entry = tt;
+    commits = λ z e. absurd cc;
+    unreached = λ z e. absurd cc;
+    cause = λ z e. absurd cc;
+  }) (λ d. refl)
+
+  pub idled_far : (a : ℕ) → o.setup.clients < a → IsAt o m (rs ++ still (Step a) Quiet ∷ [])
+  idled_far a above = idled a (at.far a above)
+
+  pub idled_client : (i : ℕ) (x : ClientState) → nth m.clients i ≡ Some x → x.under ≡ Nothing → IsAt o m (rs ++ still (Step (suc i)) Quiet ∷ [])
+  idled_client i x here idle = idled (suc i) (idle_task i x here idle)
+
+  -- the next access of an actor is to be refused
+  pub refused_client : (i : ℕ) (x : ClientState) → nth m.clients i ≡ Some x → IsAt o (with_client m i (refusing x)) (rs ++ still (Refuse (suc i)) Quiet ∷ [])
+  refused_client i x here =
+      let was = at.each i x here in
+      let s = was.stands in
+      let least = asked_least (suc i) rs (still (Refuse (suc i)) Quiet) in
+      let few = was.spent in
+      changed i x (refusing x) (Refuse (suc i)) Quiet here refl (refl, refl, refl)
+      (record { setup = s.setup; opened = s.opened; entered = s.entered; seat = s.seat; seats = s.seats; role = s.role; names = s.names; stock = s.stock; number = s.number; under = s.under })
+      (record { refusing = refl; under = same (doing (suc i) rs) x.under was.matches.under }) (omega arith)
+    where
+      same : (d : Doing) (u : Underway) → UnderMatches u (view_at m.pool i) d → UnderMatches u (view_at m.pool i) (record { task = d.task; decided = d.decided; since = d.since; refusing = true })
+      same d Nothing h = h
+      same d (Get g into call) h = h
+      same d (Write c call) h = h
+      same d (Raise c) h = h
+
+  pub refused_far : (a : ℕ) → o.setup.clients < a → IsAt o m (rs ++ still (Refuse a) Quiet ∷ [])
+  refused_far a above = pushed o m m rs (still (Refuse a) Quiet) at (refl, refl, refl) refl refl (still_pool o m.pool rs (still (Refuse a) Quiet) at.pool refl refl) refl
+      (λ i x here. let was = at.each i x here in other_client o m.pool m.pool i x rs (still (Refuse a) Quiet) was (λ (e : a ≡ suc i). absent i x here (subst (λ (b : ℕ). o.setup.clients < b) e above)) was.stands refl)
+      (λ d over h. h) (still_legal (still (Refuse a) Quiet) refl)
+
+-- the entries of a client are the same where the entry is another client's
+own_kept : (h : List Entry) (e : Option Entry) (c n : ℕ) → IfSome e (λ (x : Entry). x.client ≡ n) → n ≢ c → own (h ++ listed e) c ≡ own h c
+own_kept h None c n is apart = ap (λ (l : List Entry). own l c) (append-nil h)
+own_kept h (Some e) c n is apart = filter-append (λ (x : Entry). x.client == c) h (e ∷ []) ∙ ap (λ (l : List Entry). own h c ++ l) (ap (λ (b : Bool). if b then e ∷ [] else []) (ne_eqb e.client c (λ s. apart (sym is ∙ s)))) ∙ append-nil (own h c)
+
+-- another client stands where it stood
+stands_on : (o : Opening) (i j : ℕ) (z : ClientState) (x : Access) (e : Option Entry) (p q : Plain) → j ≢ i → IfSome e (λ (y : Entry). y.client ≡ suc i) → Moved i x e p q → Stands o p j z → Stands o q j z
+stands_on o i j z x e p q apart is moved s =
+    let same = moved.others j apart in
+    record {
+      setup = moved.setup ∙ s.setup;
+      opened = moved.opened ∙ s.opened;
+      entered = moved.entered;
+      seat = s.seat;
+      seats = moved.seats ∙ s.seats;
+      role = ap (λ (v : View). v.pass.role) same ∙ s.role;
+      names = ap (λ (v : View). v.pass.names) same ∙ s.names;
+      stock = ap (λ (v : View). v.pass.stock) same ∙ s.stock;
+      number = s.number ∙ sym (ap (λ (l : List Entry). length (own l (suc j))) moved.entries ∙ ap length (own_kept p.entries e (suc j) (suc i) is (λ (h : suc i ≡ suc j). apart (omega arith))));
+      under = subst (λ (v : View). IsUnder o.setup.pool v z.under) (sym same) s.under;
+    }
+
+-- the pool of one access more
+moved_pool : (o : Opening) (i : ℕ) (x : Access) (e : Option Entry) (note : Note) (p q : Plain) (rs : List Record) → IsPoolAt o p rs → Moved i x e p q → IsPoolAt o q (rs ++ step_record i x e note ∷ [])
+moved_pool o i x e note p q rs at moved =
+    let r : Record = step_record i x e note in
+    record {
+      setup = moved.setup ∙ at.setup;
+      start = moved.start ∙ at.start;
+      opened = moved.opened ∙ at.opened;
+      whole = moved.whole ∙ at.whole;
+      words = moved.words ∙ ap (λ (s : Setup). words_by s.pool p.words (Some x)) at.setup ∙ ap (λ (w : List ℕ). words_by o.setup.pool w (Some x)) at.words ∙ sym (words_more o.setup.pool o.words rs r);
+      entries = moved.entries ∙ ap (λ (l : List Entry). l ++ listed e) at.entries ∙ sym (entries_more rs r);
+      entered = moved.entered;
+      accesses = moved.accesses ∙ grown p.traced at.accesses ∙ ap (λ (b : Bool). if b then accesses_in rs ++ x ∷ [] else []) (sym moved.traced) ∙ ap (λ (l : List Access). if q.traced then l else []) (sym (accesses_more rs r));
+      made = moved.made ∙ ap (λ (n : ℕ). made_by n (Some x)) at.made ∙ sym (made_more rs r);
+      seats = moved.seats ∙ at.seats;
+    }
+  where
+    grown : (b : Bool) → p.accesses ≡ (if b then accesses_in rs else []) → (if b then p.accesses ++ x ∷ [] else p.accesses) ≡ (if b then accesses_in rs ++ x ∷ [] else [])
+    grown true h = ap (λ (l : List Access). l ++ x ∷ []) h
+    grown false h = h
+
+abbrev pub with_pool : Parts → ℕ → ClientState → Plain → Parts
+with_pool m i y q = record m { pool = q; clients = set m.clients i y }
+
+-- a client makes the next access of its call
+pub stepped_client : (o : Opening) (m : Parts) (rs : List Record) → IsAt o m rs → (i : ℕ) (x y : ClientState) (q : Plain) (note : Note) → nth m.clients i ≡ Some x → (w : Went o i x y m.pool q note) → Legal finite.empty [] q.entries
+    → IsAt o (with_pool m i y q) (rs ++ step_record i w.access w.entry note ∷ [])
+stepped_client o m rs at i x y q note here w legal =
+    let r : Record = step_record i w.access w.entry note in
+    let d : Doing = doing (suc i) rs in
+    let was = at.each i x here in
+    let went = w.follows d was.matches in
+    let pool : IsPoolAt o q (rs ++ r ∷ []) = moved_pool o i w.access w.entry note m.pool q rs at.pool w.moved in
+    let steps : IsStep o (suc i) d (words_after o.setup.pool o.words rs) (length (own (entries_in rs) (suc i))) r =
+    subst (λ (l : List Entry). IsStep o (suc i) d (words_after o.setup.pool o.words rs) (length (own l (suc i))) r) at.pool.entries
+    (subst (λ (ws : List ℕ). IsStep o (suc i) d ws (length (own m.pool.entries (suc i))) r) at.pool.words went.0) in
+    let client : IfSome w.entry (λ (z : Entry). z.client ≡ suc i) = IfSome_then w.entry went.0.entry (λ (z : Entry) (h : IsEntry o (suc i) d m.pool.words (length (own m.pool.entries (suc i))) r z). h.client) in
+    let least = asked_least (suc i) rs r in
+    let few = was.spent in
+    let less = w.spent in
+    pushed o m (with_pool m i y q) rs r at steps refl refl pool (length-set m.clients i y)
+    (each_set (λ (j : ℕ) (z : ClientState). IsClientAt o q j z (rs ++ r ∷ [])) m.clients i y (own_client o q i y rs r refl w.stands went.1 (omega arith))
+    (λ j z apart there. let was = at.each j z there in other_client o m.pool q j z rs r was (λ (s : suc i ≡ suc j). apart (omega arith)) (stands_on o i j z w.access w.entry m.pool q apart client w.moved was.stands) (w.moved.others j apart)))
+    (λ d above h. absurd (let l = was.stands.seat in omega arith))
+    (subst (λ (l : List Entry). Legal finite.empty [] l) pool.entries legal)
