@@ -12,6 +12,8 @@ ghost use Rattle.clover_sched.specs.declared.client.Underway.TheVariants.{Nothin
 ghost use Rattle.clover_sched.specs.Client.{IsTask, Stands, Begins, Went};
 ghost use Rattle.clover_sched.specs.Run.{Opening};
 
+mod write;
+
 use crate::event::{CallRefusal, Note};
 use clover_get::GetCall;
 use clover_map::{Call, OutOfMemory};
