@@ -5,7 +5,7 @@ use Rattle.clover_plain.specs.Plain.{Accessed, view_at}
 use Rattle.clover_walk.specs.Walking.{budget}
 use Rattle.clover_put.specs.Answering.{IfBehind, OnAhead, OnReached}
 use Rattle.clover_put.specs.Stepping.{turn_bound}
-use Rattle.clover_sched.proofs.Accessing.{port_done, port_accessed}
+use Rattle.clover_sched.proofs.WriteAccess.{port_done, port_accessed}
 use Rattle.clover_sched.proofs.client.write.access.Goals as goal
 
 pub returns-clause-done : goal.returns-clause-done
