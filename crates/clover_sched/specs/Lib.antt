@@ -4,5 +4,6 @@ pub mod Run
 pub mod Lines
 pub mod Text
 pub mod Client
+pub mod Writing
 pub mod Machine
 pub mod Kept
