@@ -473,6 +473,3 @@ module _ (o : Opening) (i : ℕ) (x : ClientState) (c n : Putting) (p q : Plain)
         longer = λ b. absurd (b refl);
         spent = subst (λ (u : Underway). x.taken ≤ spent_by u x.taken) (sym is) (omega arith);
       }
-
-pub no_use : ℕ → ℕ
-no_use y = y
