@@ -55,14 +55,15 @@ seat_below o p i x s = let a = s.seat in let b = s.seats in omega arith
 
 -- the client stands behind an access
 pub stands_moved : (o : Opening) (i : ℕ) (x y : ClientState) (p q : Plain) (a : Access) (e : Option Entry) → Stands o p i x → Moved i a e p q
-    → (view_at q i).pass.role ≡ (view_at p i).pass.role → (view_at q i).pass.names ≡ (view_at p i).pass.names → (view_at q i).pass.stock ≡ stock_at o.setup (suc i) y.taken
+    → (view_at q i).pass.pool ≡ (view_at p i).pass.pool → (view_at q i).pass.role ≡ (view_at p i).pass.role → (view_at q i).pass.names ≡ (view_at p i).pass.names → (view_at q i).pass.stock ≡ stock_at o.setup (suc i) y.taken
     → y.number ≡ length (own q.entries (suc i)) → IsUnder o.setup.pool (view_at q i) y.under → Stands o q i y
-stands_moved o i x y p q a e s m role names stock number under = record {
+stands_moved o i x y p q a e s m pool role names stock number under = record {
   setup = m.setup ∙ s.setup;
   opened = m.opened ∙ s.opened;
   entered = m.entered;
   seat = s.seat;
   seats = m.seats ∙ s.seats;
+  pool = pool ∙ s.pool;
   role = role ∙ s.role;
   names = names ∙ s.names;
   stock = stock;
@@ -95,6 +96,7 @@ stands_kept o p q i x k s =
       entered = k.entries ∙ s.entered ∙ sym (ap Rattle.clover_rule.specs.Rule.longest k.views);
       seat = s.seat;
       seats = ap length k.views ∙ s.seats;
+      pool = ap (λ (w : _). w.pass.pool) v ∙ s.pool;
       role = ap (λ (w : _). w.pass.role) v ∙ s.role;
       names = ap (λ (w : _). w.pass.names) v ∙ s.names;
       stock = ap (λ (w : _). w.pass.stock) v ∙ s.stock;

@@ -28,6 +28,7 @@ use Rattle.clover_port.specs.Told.{Open, Made}
 use Rattle.clover_plain.specs.Plain.{Plain, Accessed, Kept, KeptButEntries, view_at, history, open_of, access, outset}
 use Rattle.clover_walk.specs.Ending.{Ended, Commits}
 use Rattle.clover_walk.specs.Walking.{key_at}
+use Rattle.clover_walk.proofs.Endings.{stepped}
 use Rattle.clover_put.specs.Answering.{IsBefore, Stores, Deletes, ExactPut, OnReached, OnRefused}
 use Rattle.clover_put.specs.Holding.{PutHolds}
 use Rattle.clover_put.specs.Putting.{Putting, AtLink, AtRaise, Over, call_of, call_at, put_step, put_on, staged}
@@ -45,12 +46,12 @@ use Rattle.clover_sched.specs.declared.event.CallRefusal.TheVariants as why
 use Rattle.clover_sched.specs.declared.event.Note.{Note}
 use Rattle.clover_sched.specs.declared.event.Note.TheVariants.{Quiet, Answered, Refused}
 use Rattle.clover_sched.specs.Client.{Stands, Moved, Matches, UnderMatches, Went, IsUnder, stock_at, step_record, since_of, spent, spent_by}
-use Rattle.clover_sched.specs.Folds.{Doing, stepped}
+use Rattle.clover_sched.specs.Folds.{Doing}
 use Rattle.clover_sched.specs.Run.{Opening, IsStep, IsEntry, IsCause, IsAnswer, IsCommit, Flushes, Wrote, lost}
 use Rattle.clover_sched.specs.Writing.{PutAccess, next_entry}
 use Rattle.clover_sched.proofs.Going.{step_made, step_refused, seat_below, stands_moved, number_same, number_more}
 use Rattle.clover_sched.proofs.Moving.{MadeSo, made_so, RefusedSo, refused_so, role_kept, names_kept, stock_kept, moved_quiet, moved_entered, moved_refused}
-use Rattle.clover_sched.proofs.Onward.{SameCall, same_call, later_call, Misses, quiet_history, quiet_stock, quiet_writes, before_misses, behind_misses, linked_hit}
+use Rattle.clover_sched.proofs.PutOnward.{SameCall, same_call, later_call, Misses, quiet_history, quiet_stock, quiet_writes, before_misses, behind_misses, linked_hit}
 
 -- the client with this under way, and as it was but for the refusal to come
 abbrev pub with_under : ClientState → Underway → ClientState
@@ -120,7 +121,7 @@ module _ (o : Opening) (i : ℕ) (x : ClientState) (c n : Putting) (call : Call)
     stock = ap (λ (z : View). z.pass.stock) so.view ∙ quiet_stock c v c.walk.first (history p) v a miss ∙ st.stock
 
     stands : (u : Underway) → IsUnder o.setup.pool w u → Stands o q i (with_under x u)
-    stands u h = stands_moved o i x (with_under x u) p q _ None st moved role names stock (number_same x.number (suc i) p.entries q.entries st.number moved.entries) h
+    stands u h = stands_moved o i x (with_under x u) p q _ None st moved (stepped p.setup.pool (put_step c v) c.walk.first v _ a w _ made).pool role names stock (number_same x.number (suc i) p.entries q.entries st.number moved.entries) h
 
     step : (d : Doing) (note : Note) → Matches x v d → x.refusing ≡ false → IsCause o.setup.pool (suc i) d None (act_of (put_step c v) a) note
         → IsStep o (suc i) d p.words (length (own p.entries (suc i))) (step_record i (access i (act_of (put_step c v) a) false) None note)
@@ -173,7 +174,7 @@ module _ (o : Opening) (i : ℕ) (x : ClientState) (c n : Putting) (call : Call)
         access = access i so1.act true;
         entry = None;
         moved = moved1;
-        stands = stands_moved o i x (with_under x Nothing) p q _ None st moved1 (ap (λ (z : View). z.pass.role) same) (ap (λ (z : View). z.pass.names) same) (ap (λ (z : View). z.pass.stock) same ∙ st.stock) (number_same x.number (suc i) p.entries q.entries st.number moved1.entries) tt;
+        stands = stands_moved o i x (with_under x Nothing) p q _ None st moved1 (ap (λ (z : View). z.pass.pool) same) (ap (λ (z : View). z.pass.role) same) (ap (λ (z : View). z.pass.names) same) (ap (λ (z : View). z.pass.stock) same ∙ st.stock) (number_same x.number (suc i) p.entries q.entries st.number moved1.entries) tt;
         follows = λ d h.
             let u : UnderMatches (Write c call) v d = subst (λ (z : Underway). UnderMatches z v d) is h.under in
             (step_refused o i d p.words (length (own p.entries (suc i))) so1.act (Refused k why.Unreached) (ClientTask call u.0.0) u.0.1 (sym h.refusing ∙ exact_refused x.refusing Unreached f.exact (λ z. z)) so1.blank (λ j. Refused (sym seat j) (lost (sym u.1 j))), record { refusing = refl; under = refl });
@@ -220,7 +221,7 @@ module _ (o : Opening) (i : ℕ) (x : ClientState) (c n : Putting) (call : Call)
       since2 = ap (λ (y : View). y.pass.since) view2 ∙ so2.since ∙ ap (λ (b : Bool). cond b [] v.pass.since ++ act_of a found ∷ []) (sym later)
 
       stands2 : (y : ClientState) → y.number ≡ suc x.number → (view_at z i).pass.stock ≡ stock_at o.setup (suc i) y.taken → IsUnder o.setup.pool (view_at z i) y.under → Stands o z i y
-      stands2 y number stock h = stands_moved o i x y p z _ (Some entry) st moved2 role2 names2 stock (number ∙ number_more x.number (suc i) p.entries z.entries entry st.number (sym seat) moved2.entries) h
+      stands2 y number stock h = stands_moved o i x y p z _ (Some entry) st moved2 (ap (λ (s : View). s.pass.pool) view2 ∙ (stepped p.setup.pool a false v _ found w _ made).pool) role2 names2 stock (number ∙ number_more x.number (suc i) p.entries z.entries entry st.number (sym seat) moved2.entries) h
 
       step2 : (d : Doing) (note : Note) → Matches x v d → x.refusing ≡ false → IsCause o.setup.pool (suc i) d (Some entry) (act_of a found) note
           → IsStep o (suc i) d p.words (length (own p.entries (suc i))) (step_record i (access i (act_of a found) false) (Some entry) note)
@@ -441,7 +442,7 @@ module _ (o : Opening) (i : ℕ) (x : ClientState) (c n : Putting) (p q : Plain)
       access = access i (act_of raise m.0) false;
       entry = None;
       moved = moved5;
-      stands = stands_moved o i x (with_under x Nothing) p q _ None st moved5 (ap (λ (y : View). y.pass.role) so5.view ∙ role_kept raise false (history p) v5 m.0) (ap (λ (y : View). y.pass.names) so5.view ∙ names_kept raise false (history p) v5 m.0)
+      stands = stands_moved o i x (with_under x Nothing) p q _ None st moved5 (stepped p.setup.pool raise false v5 _ m.0 w5 _ made5).pool (ap (λ (y : View). y.pass.role) so5.view ∙ role_kept raise false (history p) v5 m.0) (ap (λ (y : View). y.pass.names) so5.view ∙ names_kept raise false (history p) v5 m.0)
         (ap (λ (y : View). y.pass.stock) so5.view ∙ stock_kept raise false (history p) v5 m.0 tt ∙ st.stock) (number_same x.number (suc i) p.entries q.entries st.number moved5.entries) tt;
       follows = λ d h.
           let u : UnderMatches (Raise c) v5 d = subst (λ (y : Underway). UnderMatches y v5 d) is h.under in
@@ -465,7 +466,7 @@ module _ (o : Opening) (i : ℕ) (x : ClientState) (c n : Putting) (p q : Plain)
         access = access i so6.act true;
         entry = None;
         moved = moved6;
-        stands = stands_moved o i x (with_under x Nothing) p q _ None st moved6 (ap (λ (z : View). z.pass.role) same) (ap (λ (z : View). z.pass.names) same) (ap (λ (z : View). z.pass.stock) same ∙ st.stock) (number_same x.number (suc i) p.entries q.entries st.number moved6.entries) tt;
+        stands = stands_moved o i x (with_under x Nothing) p q _ None st moved6 (ap (λ (z : View). z.pass.pool) same) (ap (λ (z : View). z.pass.role) same) (ap (λ (z : View). z.pass.names) same) (ap (λ (z : View). z.pass.stock) same ∙ st.stock) (number_same x.number (suc i) p.entries q.entries st.number moved6.entries) tt;
         follows = λ d h.
             let u : UnderMatches (Raise c) v5 d = subst (λ (z : Underway). UnderMatches z v5 d) is h.under in
             let told : why.Linked t ≡ lost d.decided = ap why.Linked e ∙ sym (lost_commit c.own (call_at c v5)) ∙ sym (ap lost u.1) in

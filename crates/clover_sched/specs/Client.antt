@@ -62,6 +62,7 @@ pub record Stands (o : Opening) (p : Plain) (i : ℕ) (x : ClientState) : Type 0
   pub entered : p.entries ≡ history p
   pub seat : suc i ≤ o.setup.clients
   pub seats : length p.views ≡ o.setup.clients
+  pub pool : (view_at p i).pass.pool ≡ o.setup.pool
   pub role : (view_at p i).pass.role ≡ ClientRole (suc i)
   pub names : (view_at p i).pass.names ≡ o.names
   pub stock : (view_at p i).pass.stock ≡ stock_at o.setup (suc i) x.taken
