@@ -5,5 +5,6 @@ pub mod Lines
 pub mod Text
 pub mod Client
 pub mod Writing
+pub mod Beginning
 pub mod Machine
 pub mod Kept
