@@ -102,8 +102,10 @@ module _ (o : Opening) (p : Plain) (i slot : ℕ) (x : ClientState) (idle : x.un
       where
         there : ltb o.setup.clients (suc i) ≡ false
         there = let a = st.seat in grind (arith, nat_tests)
+
         short : ltb (room o.setup) written ≡ false
         short = let a = fits in grind (arith, nat_tests)
+
         says : (d : Doing) → d.task ≡ None → Quiet ≡ begin_note o.setup d (suc i) (ClientTask call written)
         says d none = sym (ap (λ (t : Option Task). begin_note o.setup (record d { task = t }) (suc i) (ClientTask call written)) none ∙ ap (λ (b : Bool). if b then Missing (suc i) else (if ltb (room o.setup) written then Refused (suc i) (TooLong written (room o.setup)) else Quiet)) there ∙ ap (λ (b : Bool). if b then Refused (suc i) (TooLong written (room o.setup)) else Quiet) short)
 

@@ -88,6 +88,7 @@ stock_rest s c n t rest e = go (buffers_total s.pool - n) refl e
         → rest_of (cond b (tag_at s.pool (dealt_number s c n) ∷ dealt_from s c (suc n) m) []) ≡ stock_at s c (suc n)
     first true m em h = ap (dealt_from s c (suc n)) em
     first false m em h = absurd (nothing_here t rest h)
+
     go : (m : ℕ) → m ≡ buffers_total s.pool - n → dealt_from s c n m ≡ t ∷ rest → (rest_of (dealt_from s c n m) ≡ stock_at s c (suc n)) × (n < buffers_total s.pool)
     go zero em h = absurd (nothing_here t rest h)
     go (suc m) em h = (first (nat_lt (dealt_number s c n + s.pool.slots) (buffers_total s.pool)) m (omega arith) h, omega arith)
@@ -228,23 +229,23 @@ module _ (o : Opening) (i : ℕ) (x : ClientState) (c n : Putting) (call : Call)
       step2 d note m going cause =
           let u : UnderMatches (Write c call) v d = subst (λ (y : Underway). UnderMatches y v d) is m.under in
           step_made o i d p.words (length (own p.entries (suc i))) (act_of a found) (Some entry) note (ClientTask call u.0.0) u.0.1 (sym m.refusing ∙ going) (subst (λ (y : Setup). CameBack y.pool p.words (act_of a found)) st.setup so2.came)
-            (record {
-              access = access i (act_of a found) false;
-              last = refl;
-              made = refl;
-              written = u.0.0;
-              task = u.0.1;
-              first = u.1;
-              client = sym seat;
-              number = ap suc st.number;
-              decided = let e : w.pass.since ≡ d.since ++ act_of a found ∷ [] = so2.since ∙ ap (λ (b : Bool). cond b [] v.pass.since ++ act_of a found ∷ []) (sym later) ∙ ap (λ (l : List Act). l ++ act_of a found ∷ []) (sym u.2) in
+          (record {
+            access = access i (act_of a found) false;
+            last = refl;
+            made = refl;
+            written = u.0.0;
+            task = u.0.1;
+            first = u.1;
+            client = sym seat;
+            number = ap suc st.number;
+            decided = let e : w.pass.since ≡ d.since ++ act_of a found ∷ [] = so2.since ∙ ap (λ (b : Bool). cond b [] v.pass.since ++ act_of a found ∷ []) (sym later) ∙ ap (λ (l : List Act). l ++ act_of a found ∷ []) (sym u.2) in
                 subst (λ (y : Call). Decides o.setup.pool p.words o.names (d.since ++ act_of a found ∷ []) y r) (sym under.3)
                 (subst (λ (l : List Act). Decides o.setup.pool p.words o.names l (call_at c v) r) e
                 (subst (λ (l : List (ℕ × List ℕ)). Decides o.setup.pool p.words l w.pass.since (call_at c v) r) st.names
                 (subst (λ (l : List ℕ). Decides o.setup.pool l v.pass.names w.pass.since (call_at c v) r) words
                 (subst (λ (y : Setup). Decides y.pool ws v.pass.names w.pass.since (call_at c v) r) st.setup decides))));
-            })
-            (λ h. refl) cause
+          })
+          (λ h. refl) cause
 
   -- a last load that decided the call with this reply, which is no commit's
   module _ (r : Reply) (plain : IsCommit r ≡ false) (ended : Ended p.setup.pool (call_at c v) r v (Some (open_of p)) w (Some (open_of q))) (acc : Accessed i true p q) (later : c.walk.first ≡ false) where
@@ -322,8 +323,7 @@ module _ (o : Opening) (i : ℕ) (x : ClientState) (c n : Putting) (call : Call)
 
     pub commit_enters : (history q ≡ q.entries ++ next_entry k x.number call (reply_of (tag_number t) call) ∷ []) × (q.opened ≡ true) × (x.taken < 2 ^ 32 - 1)
     commit_enters =
-        let small = (stock_rest o.setup (suc i) x.taken c.own owns.0 has_stock).1 in let total = o.setup.pool.total_fits in
-        (
+        let small = (stock_rest o.setup (suc i) x.taken c.own owns.0 has_stock).1 in let total = o.setup.pool.total_fits in (
           to_enter link (unlinked tail) reply made3 f.accessed later3 link_adds f.step.decided.made.now.words link_words f.step.decided.decides ∙ ap (λ (e : Entry). q.entries ++ e ∷ []) entry_is,
           open_still link (unlinked tail) reply made3 f.accessed later3 link_adds f.step.decided.made.now.words link_words f.step.decided.decides,
           omega arith,
@@ -371,11 +371,12 @@ module _ (o : Opening) (i : ℕ) (x : ClientState) (c n : Putting) (call : Call)
             entry = Some (next_entry k x.number call reply);
             moved = moved2 link (unlinked tail) reply made3 f.accessed later3 link_adds f.step.decided.made.now.words link_words f.step.decided.decides z more3 kept;
             stands = stands2 link (unlinked tail) reply made3 f.accessed later3 link_adds f.step.decided.made.now.words link_words f.step.decided.decides z more3 kept y refl stock3
-              (tail, ap (λ (m : Putting). m.stage) stage_is, ap (λ (m : Putting). m.walk.pool) stage_is ∙ under.1, subst (PutHolds n) (sym view3) f.step.stands, wrote);
+                (tail, ap (λ (m : Putting). m.stage) stage_is, ap (λ (m : Putting). m.walk.pool) stage_is ∙ under.1, subst (PutHolds n) (sym view3) f.step.stands, wrote);
             follows = λ d h.
-                let u : UnderMatches (Write c call) v d = subst (λ (s : Underway). UnderMatches s v d) is h.under in
-                (step2 link (unlinked tail) reply made3 f.accessed later3 link_adds f.step.decided.made.now.words link_words f.step.decided.decides z more3 kept d Quiet h (exact_made x.refusing (Decided t) f.exact (λ s. s)) (commits_always c.own (call_at c v)),
-                record { refusing = refl; under = ((u.0.0, u.0.1 ∙ ap (λ (s : Call). Some (ClientTask s u.0.0)) (sym name4)), (λ j. Some (reply_of (sym own4 j) ((sym under.3 ∙ sym name4) j))), ap (λ (l : List Act). l ++ wrote_link tail c.own ∷ []) u.2 ∙ sym since4) });
+                let u : UnderMatches (Write c call) v d = subst (λ (s : Underway). UnderMatches s v d) is h.under in (
+                  step2 link (unlinked tail) reply made3 f.accessed later3 link_adds f.step.decided.made.now.words link_words f.step.decided.decides z more3 kept d Quiet h (exact_made x.refusing (Decided t) f.exact (λ s. s)) (commits_always c.own (call_at c v)),
+                  record { refusing = refl; under = ((u.0.0, u.0.1 ∙ ap (λ (s : Call). Some (ClientTask s u.0.0)) (sym name4)), (λ j. Some (reply_of (sym own4 j) ((sym under.3 ∙ sym name4) j))), ap (λ (l : List Act). l ++ wrote_link tail c.own ∷ []) u.2 ∙ sym since4) },
+                );
             longer = λ b. ap length since4 ∙ length_more (wrote_link tail c.own) (since_of (Write c call) v) ∙ ap (λ (l : List Act). suc (length l)) (sym is_since);
             spent = subst (λ (u : Underway). suc x.taken ≤ spent_by u x.taken) (sym is) (omega arith);
           }
@@ -443,7 +444,7 @@ module _ (o : Opening) (i : ℕ) (x : ClientState) (c n : Putting) (p q : Plain)
       entry = None;
       moved = moved5;
       stands = stands_moved o i x (with_under x Nothing) p q _ None st moved5 (stepped p.setup.pool raise false v5 _ m.0 w5 _ made5).pool (ap (λ (y : View). y.pass.role) so5.view ∙ role_kept raise false (history p) v5 m.0) (ap (λ (y : View). y.pass.names) so5.view ∙ names_kept raise false (history p) v5 m.0)
-        (ap (λ (y : View). y.pass.stock) so5.view ∙ stock_kept raise false (history p) v5 m.0 tt ∙ st.stock) (number_same x.number (suc i) p.entries q.entries st.number moved5.entries) tt;
+          (ap (λ (y : View). y.pass.stock) so5.view ∙ stock_kept raise false (history p) v5 m.0 tt ∙ st.stock) (number_same x.number (suc i) p.entries q.entries st.number moved5.entries) tt;
       follows = λ d h.
           let u : UnderMatches (Raise c) v5 d = subst (λ (y : Underway). UnderMatches y v5 d) is h.under in
           (step_made o i d p.words (length (own p.entries (suc i))) (act_of raise m.0) None (Answered k r) (ClientTask (call_at c v5) u.0.0) u.0.1 (sym h.refusing ∙ going) (subst (λ (y : Setup). CameBack y.pool p.words (act_of raise m.0)) st.setup so5.came) tt (λ z. absurd z) (sym seat, answers d u), record { refusing = refl; under = refl });

@@ -36,9 +36,14 @@ pub enum Underway {
         asked: Call,
     },
     /// A call that writes, before its exchange.
-    Write { call: PutCall, asked: Call },
+    Write {
+        call: PutCall,
+        asked: Call,
+    },
     /// A call that writes, behind its exchange.
-    Raise { call: PutCall },
+    Raise {
+        call: PutCall,
+    },
 }
 
 /// A client: what it has under way, whether its next access is refused, how many buffers of its stock it has

@@ -35,14 +35,7 @@ fn own_tag(setup: &Setup, client: u32, put: u32) -> Tag
 }
 
 // A call that writes these bytes, as yet without an access.
-fn put_call(
-    setup: &Setup,
-    slot: u32,
-    own: Tag,
-    job: Job,
-    flags: u32,
-    bytes: &[u8],
-) -> PutCall
+fn put_call(setup: &Setup, slot: u32, own: Tag, job: Job, flags: u32, bytes: &[u8]) -> PutCall
     requires slot { slot < setup.now.pool.slots }
     requires own { InRange setup.now.pool (tag_number own) }
     requires fits { length bytes.now ≤ 8 * setup.now.pool.words }

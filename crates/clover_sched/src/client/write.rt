@@ -46,7 +46,9 @@ fn committed(call: &Call, tag: Tag) -> Reply
 {
     match call {
         Call::Delete { .. } => Reply::Deleted { tag: tag.number() },
-        Call::Get { .. } | Call::Put { .. } | Call::Swap { .. } => Reply::Stored { tag: tag.number() },
+        Call::Get { .. } | Call::Put { .. } | Call::Swap { .. } => Reply::Stored {
+            tag: tag.number(),
+        },
     }
 }
 
