@@ -1,16 +1,13 @@
 // The steps of a call that writes: each is one access, before the exchange that links the call's version and behind
 // it. The exchange enters the call into the history, and the raise behind it answers.
 ghost use Prim.Native.Nat.{suc};
-ghost use Rattle.std.specs.Prelude.{◌≡◌, ◌≢◌, ◌<◌, ◌≤◌, ◌-◌, ◌+◌, ◌^◌, ◌++◌, ◌∷◌, [], ℕ, true, false, Some, IfOk, OnErr};
+ghost use Rattle.std.specs.Prelude.{◌≡◌, ◌≢◌, ◌<◌, ◌≤◌, ◌-◌, ◌+◌, ◌^◌, ◌++◌, ◌∷◌, [], ℕ, true, false, IfOk, OnErr};
 ghost use Rattle.clover_words.specs.Tag.{tag_number};
 ghost use Rattle.clover_map.specs.declared.call.Call.{Call as CallOf};
-ghost use Rattle.clover_map.specs.declared.call.Entry.{Entry as EntryOf};
 ghost use Rattle.clover_rule.specs.Steps.{reply_of};
-ghost use Rattle.clover_plain.specs.Plain.{Accessed, HasRoom, Kept, KeptButEntries, history, open_of, view_at};
-ghost use Rattle.clover_put.specs.Answering.{ExactPut};
+ghost use Rattle.clover_plain.specs.Plain.{HasRoom, Kept, KeptButEntries, history, view_at};
 ghost use Rattle.clover_put.specs.Holding.{PutHolds};
 ghost use Rattle.clover_put.specs.Putting.{Putting, Over};
-ghost use Rattle.clover_put.specs.Stepping.{PutStep};
 ghost use Rattle.clover_sched.specs.declared.client.Underway.TheVariants.{Nothing as IsNothing, Write as IsWrite, Raise as IsRaise};
 ghost use Rattle.clover_sched.specs.Client.{Stands, Went};
 ghost use Rattle.clover_sched.specs.Run.{Opening};
