@@ -2,16 +2,13 @@
 use Rattle.std.proofs.Common.{◌≡◌, ◌≢◌, ℕ, suc, ◌+◌, ◌-◌, ◌^◌, ◌<◌, ◌≤◌, ◌==◌, List, [], ◌∷◌, ◌++◌, length, Bool, true, false, cond, refl, sym, ap, ◌∙◌, subst, arith, eqb, eq-eqb, length-append}
 use Rattle.std.specs.Prelude.{Option, Some, None}
 use Rattle.clover_words.specs.declared.bytes.ValueBuf.{ValueBuf}
-use Rattle.clover_words.specs.declared.pool.Pool.{Pool}
 use Rattle.clover_words.specs.declared.setup.Setup.{Setup}
-use Rattle.clover_map.specs.declared.bytes.Value.{Value}
 use Rattle.clover_map.specs.declared.call.Call.{Call}
 use Rattle.clover_map.specs.declared.call.Call.TheVariants.{Get as GetOf}
 use Rattle.clover_map.specs.declared.call.Entry.{Entry}
 use Rattle.clover_map.specs.declared.call.Reply.{Reply}
 use Rattle.clover_map.specs.declared.call.Reply.TheVariants.{Found, Absent}
 use Rattle.clover_map.specs.History.{own}
-use Rattle.clover_script.specs.declared.line.Task.{Task}
 use Rattle.clover_script.specs.declared.line.Task.TheVariants.{Client as ClientTask}
 use Rattle.clover_rule.specs.Accesses.{CameBack, Decides}
 use Rattle.clover_rule.specs.Knowing.{link_entry}
@@ -19,26 +16,24 @@ use Rattle.clover_rule.specs.Memory.{Next, word, age}
 use Rattle.clover_rule.specs.Steps.{Step, DecideNext, act_of, turn_of, next_history, unlinked, client, number_of}
 use Rattle.clover_rule.specs.Words.{next_of, root_of}
 use Rattle.clover_rule.specs.declared.access.Act.{Act}
-use Rattle.clover_rule.specs.declared.view.Role.{Role}
 use Rattle.clover_rule.specs.declared.view.View.{View}
 use Rattle.clover_port.specs.Told.{Open, Made}
 use Rattle.clover_plain.specs.Plain.{Plain, Accessed, KeptButEntries, view_at, history, open_of, access}
 use Rattle.clover_walk.specs.Ending.{Ended}
-use Rattle.clover_walk.specs.Walking.{Walking, Stand, AtRoot, AtTag, AtLink, OnTail, Ended as StandEnded, IsOnWay, turned, hops, followed, rooted, goes_from, goes_on, key_at, budget, step_at}
+use Rattle.clover_walk.specs.Walking.{Walking, Stand, AtRoot, AtTag, AtLink, OnTail, Ended as StandEnded, IsOnWay, hops, followed, rooted, goes_from, goes_on, key_at, budget, step_at}
 use Rattle.clover_walk.proofs.Endings.{stepped as stepped_so}
-use Rattle.clover_get.specs.Getting.{Getting, Stage, Seeking, AtMeta, AtValue, AtFound, AtDead, AtBad, Over, IsOpen, getting, sought, step_from, get_step, GoesFrom, GoesOn, Reads, value_in}
-use Rattle.clover_get.specs.Going.{OneAccess, key_of}
+use Rattle.clover_get.specs.Getting.{Getting, Stage, Seeking, AtMeta, AtValue, AtFound, AtDead, AtBad, Over, IsOpen, getting, sought, step_from, get_step, GoesFrom, GoesOn, value_in}
+use Rattle.clover_get.specs.Going.{key_of}
 use Rattle.clover_get.specs.Holding.{GetHolds, StandsOn}
 use Rattle.clover_sched.specs.declared.client.ClientState.{ClientState}
 use Rattle.clover_sched.specs.declared.client.Underway.{Underway}
 use Rattle.clover_sched.specs.declared.client.Underway.TheVariants.{Nothing, Get}
 use Rattle.clover_sched.specs.declared.event.CallRefusal.TheVariants.{Unreached, Behind}
-use Rattle.clover_sched.specs.declared.event.Note.{Note}
 use Rattle.clover_sched.specs.declared.event.Note.TheVariants.{Quiet, Answered, Refused}
 use Rattle.clover_sched.specs.Client.{Stands, Moved, Went, Matches, UnderMatches, IsUnder, since_of, spent, spent_by}
-use Rattle.clover_sched.specs.Folds.{Doing, stepped, nothing}
-use Rattle.clover_sched.specs.Run.{Opening, IsStep, IsEntry, IsCommit, Wrote}
-use Rattle.clover_sched.proofs.Moving.{MadeSo, RefusedSo, IsNoLink, made_so, refused_so, names_kept, moved_quiet, moved_entered, moved_refused}
+use Rattle.clover_sched.specs.Folds.{Doing}
+use Rattle.clover_sched.specs.Run.{Opening, IsCommit, Wrote}
+use Rattle.clover_sched.proofs.Moving.{MadeSo, IsNoLink, made_so, refused_so, names_kept, moved_quiet, moved_entered, moved_refused}
 use Rattle.clover_sched.proofs.Stepping.{made_step, refused_step, stands_made, stands_entered, stands_refused}
 
 -- the walk is on the same slot of the same pool, and its call has made an access

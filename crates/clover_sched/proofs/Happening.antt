@@ -1,5 +1,5 @@
 -- What an event of an actor comes to, by what the machine's client of that number does.
-use Rattle.std.proofs.Common.{◌≡◌, ◌≢◌, ℕ, ◌-◌, ◌≤◌, ◌<◌, suc, length, set, get_or, List, [], ◌∷◌, ◌++◌, Bool, true, false, refl, sym, ap, ◌∙◌, subst, arith}
+use Rattle.std.proofs.Common.{◌≡◌, ◌≢◌, ℕ, ◌-◌, ◌≤◌, ◌<◌, suc, length, set, get_or, List, [], ◌∷◌, ◌++◌, Bool, true, refl, sym, ap, ◌∙◌, subst, arith}
 use Rattle.std.specs.Prelude.{Option, Some, None, Result, Ok, Err, IfOk, OnErr, slice_get, if◌then◌else◌}
 use Rattle.std.specs.FinMap as finite
 use Rattle.clover_map.specs.Legal.{Legal}
@@ -12,7 +12,6 @@ use Rattle.clover_walk.specs.Walking.{key_at}
 use Rattle.clover_rule.specs.Lists.{nth, Within}
 use Rattle.clover_rule.specs.Preset.{bindings_from}
 use Rattle.clover_rule.specs.Rule.{longest}
-use Rattle.clover_rule.specs.declared.access.Access.{Access}
 use Rattle.clover_rule.specs.declared.view.View.{View}
 use Rattle.clover_plain.specs.Plain.{Plain, Kept, Running, history, view_at, outset}
 use Rattle.clover_script.specs.Form.{call_in}
@@ -20,8 +19,8 @@ use Rattle.clover_script.specs.Lines.{takes}
 use Rattle.clover_script.specs.declared.line.Task.{Task}
 use Rattle.clover_script.specs.declared.line.Task.TheVariants.{Client as ClientTask}
 use Rattle.clover_sched.specs.Client.{Stands, Matches, Went, Begins, IsUnder, spent, spent_by, since_of, most_made}
-use Rattle.clover_sched.specs.Folds.{accesses_in, entries_in, doing}
-use Rattle.clover_sched.specs.Machine.{Parts, IsAt, IsBehind, IsClientAt, IsPoolAt, IsSame, IsBusy, IsFitting, HasCall, HasFor, MayCome, left, left_of, left_by}
+use Rattle.clover_sched.specs.Folds.{accesses_in, doing}
+use Rattle.clover_sched.specs.Machine.{Parts, IsAt, IsBehind, IsSame, IsBusy, IsFitting, HasCall, MayCome, left, left_of, left_by}
 use Rattle.clover_sched.specs.Record.{Record}
 use Rattle.clover_sched.specs.Run.{Opening}
 use Rattle.clover_sched.specs.declared.client.ClientState.{ClientState}
@@ -33,7 +32,7 @@ use Rattle.clover_sched.specs.declared.event.Note.{Note}
 use Rattle.clover_sched.specs.declared.event.Note.TheVariants.{Quiet, Busy, Missing}
 use Rattle.clover_sched.proofs.Busies.{busy_within, busy_here}
 use Rattle.clover_sched.proofs.Lefts.{since_few, left_less}
-use Rattle.clover_sched.proofs.Onward.{still, with_client, with_pool, refusing, begun_missing, begun_busy, begun_client, idled_far, idled_client, refused_client, refused_far, stepped_client}
+use Rattle.clover_sched.proofs.Onward.{with_client, with_pool, refusing, begun_missing, begun_busy, begun_client, idled_far, idled_client, refused_client, refused_far, stepped_client}
 use Rattle.clover_sched.proofs.Bound.{bound_within, bound_key}
 use Rattle.clover_sched.proofs.Places.{nth_here, nth_none, nth_get, nth_set, nth_within, set_same}
 
@@ -102,6 +101,7 @@ stands_kept o p q i x k s =
       entered = k.entries ∙ s.entered ∙ ap longest (sym k.views);
       seat = s.seat;
       seats = ap length k.views ∙ s.seats;
+      pool = ap (λ (v : View). v.pass.pool) same ∙ s.pool;
       role = ap (λ (v : View). v.pass.role) same ∙ s.role;
       names = ap (λ (v : View). v.pass.names) same ∙ s.names;
       stock = ap (λ (v : View). v.pass.stock) same ∙ s.stock;

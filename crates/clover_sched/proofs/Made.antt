@@ -1,6 +1,6 @@
 -- The machine as it is made: the preset pool, and clients that have done nothing.
-use Rattle.std.proofs.Common.{◌≡◌, ℕ, ◌≤◌, ◌<◌, ◌-◌, zero, suc, length, List, [], ◌∷◌, ◌++◌, Bool, true, false, replicate, refl, sym, ap, ◌∙◌, subst, arith, get_or}
-use Rattle.std.specs.Prelude.{Some, None, slice_get, if◌then◌else◌}
+use Rattle.std.proofs.Common.{◌≡◌, ℕ, ◌≤◌, ◌<◌, ◌-◌, zero, suc, length, List, [], Bool, true, false, replicate, refl, sym, ap, ◌∙◌, subst, arith}
+use Rattle.std.specs.Prelude.{Some, slice_get, if◌then◌else◌}
 use Rattle.clover_words.specs.Preset.{buffers_total}
 use Rattle.clover_words.specs.declared.setup.Setup.{Setup}
 use Rattle.clover_map.specs.History.{own}
@@ -11,7 +11,7 @@ use Rattle.clover_rule.specs.declared.access.Access.{Access}
 use Rattle.clover_rule.specs.declared.view.View.{View}
 use Rattle.clover_plain.specs.Plain.{Plain, view_at, history, outset}
 use Rattle.clover_plain.specs.Preset.{IsPreset, start_view, dealt_from, AreDistinct}
-use Rattle.clover_plain.proofs.Stepping.{default_nth, nth_default}
+use Rattle.clover_plain.proofs.Stepping.{nth_default}
 use Rattle.clover_sched.specs.Client.{Stands}
 use Rattle.clover_sched.specs.Machine.{Parts, IsAt, IsClientAt, IsOpening}
 use Rattle.clover_sched.specs.Run.{Opening}
@@ -90,6 +90,7 @@ made_at m s keys setup names slots fresh clients = record {
       entered = fresh.entries ∙ sym fresh.history;
       seat = omega arith;
       seats = fresh.seats;
+      pool = ap (λ (v : View). v.pass.pool) (view i below);
       role = ap (λ (v : View). v.pass.role) (view i below);
       names = ap (λ (v : View). v.pass.names) (view i below);
       stock = ap (λ (v : View). v.pass.stock) (view i below) ∙ ap (dealt_from s (suc i) 0) (whole (buffers_total s.pool));

@@ -1,5 +1,5 @@
 -- What one access of a client does to the pool: it was made, and is the step that its call says, or it was refused.
-use Rattle.std.proofs.Common.{◌≡◌, ◌≢◌, ℕ, zero, suc, ◌+◌, ◌-◌, ◌^◌, ◌<◌, ◌≤◌, min, List, [], ◌∷◌, ◌++◌, length, set, get_or, Bool, true, false, ◌&&◌, cond, eqb, if◌then◌else◌, refl, sym, ap, ◌∙◌, subst, ◌==◌, inl, inr, ◌⊎◌, arith, append-nil}
+use Rattle.std.proofs.Common.{◌≡◌, ◌≢◌, ℕ, suc, ◌-◌, ◌^◌, ◌<◌, List, [], ◌∷◌, ◌++◌, length, get_or, Bool, true, false, ◌&&◌, cond, eqb, if◌then◌else◌, refl, sym, ap, ◌∙◌, subst, ◌==◌, inl, inr, arith, append-nil}
 use Rattle.std.specs.Prelude.{Option, Some, None}
 use Rattle.std.proofs.lemmas.List.{get_or-set_other, get_or-set_same, length-set}
 use Rattle.clover_words.specs.declared.pool.Pool.{Pool}
@@ -20,10 +20,9 @@ use Rattle.clover_rule.specs.declared.view.Role.TheVariants.{Client as ClientRol
 use Rattle.clover_rule.specs.declared.view.View.{View}
 use Rattle.clover_rule.proofs.Accessing.{access_law}
 use Rattle.clover_port.specs.Told.{Open, Made}
-use Rattle.clover_plain.specs.Plain.{Plain, Stepped, Refused, Accessed, KeptButEntries, outset, view_at, history, open_of, grown, counted, access}
+use Rattle.clover_plain.specs.Plain.{Plain, Stepped, Accessed, KeptButEntries, outset, view_at, history, open_of, grown, access}
 use Rattle.clover_plain.proofs.Learned.{role_kept as role_stays}
 use Rattle.clover_sched.specs.Client.{Moved}
-use Rattle.clover_sched.specs.Folds.{listed, words_by, made_by}
 use Rattle.clover_sched.specs.Run.{IsBlank}
 
 -- the entries of a client, by either definition
@@ -48,9 +47,9 @@ one_last xs ys a b e = sym (last_snoc a xs a) ∙ ap (last_of a) e ∙ last_snoc
 pub role_kept : (a : Step) (b : Bool) (h : List Entry) (v : View) (x : ℕ) → (next_view b a h v x).pass.role ≡ v.pass.role
 role_kept a b h v x = role_stays a b h v x
 
--- what no step but by its access alone changes: the names, the acts of the call, and how many were made
-abbrev core : View → List (ℕ × List ℕ) × (List Act × ℕ)
-core v = (v.pass.names, (v.pass.since, v.pass.made))
+-- what no step but by its access alone changes: the pool, the names, the acts of the call, and how many were made
+abbrev core : View → Pool × (List (ℕ × List ℕ) × (List Act × ℕ))
+core v = (v.pass.pool, (v.pass.names, (v.pass.since, v.pass.made)))
 
 core_seen : (s t : ℕ) (v : View) (n : Next) → core (seen s t v n) ≡ core v
 core_seen s t v (word a None) = refl
@@ -79,13 +78,16 @@ core_learned ReadCount h v x = refl
 core_learned (AbsentCount c) h v x = core_choice (x == length v.pass.names) (missed v h c x) (counts v x) v refl refl
 
 pub names_kept : (a : Step) (b : Bool) (h : List Entry) (v : View) (x : ℕ) → (next_view b a h v x).pass.names ≡ v.pass.names
-names_kept a b h v x = ap (λ (c : List (ℕ × List ℕ) × (List Act × ℕ)). c.0) (core_learned a h v x)
+names_kept a b h v x = ap (λ (c : Pool × (List (ℕ × List ℕ) × (List Act × ℕ))). c.1.0) (core_learned a h v x)
+
+pub pool_kept : (a : Step) (b : Bool) (h : List Entry) (v : View) (x : ℕ) → (next_view b a h v x).pass.pool ≡ v.pass.pool
+pool_kept a b h v x = ap (λ (c : Pool × (List (ℕ × List ℕ) × (List Act × ℕ))). c.0) (core_learned a h v x)
 
 pub since_next : (a : Step) (b : Bool) (h : List Entry) (v : View) (x : ℕ) → (next_view b a h v x).pass.since ≡ cond b [] v.pass.since ++ act_of a x ∷ []
-since_next a b h v x = ap (λ (c : List (ℕ × List ℕ) × (List Act × ℕ)). cond b [] c.1.0 ++ act_of a x ∷ []) (core_learned a h v x)
+since_next a b h v x = ap (λ (c : Pool × (List (ℕ × List ℕ) × (List Act × ℕ))). cond b [] c.1.1.0 ++ act_of a x ∷ []) (core_learned a h v x)
 
 made_next : (a : Step) (b : Bool) (h : List Entry) (v : View) (x : ℕ) → (next_view b a h v x).pass.made ≡ suc v.pass.made
-made_next a b h v x = ap (λ (c : List (ℕ × List ℕ) × (List Act × ℕ)). suc c.1.1) (core_learned a h v x)
+made_next a b h v x = ap (λ (c : Pool × (List (ℕ × List ℕ) × (List Act × ℕ))). suc c.1.1.1) (core_learned a h v x)
 
 -- a step that commits nothing, whatever it finds
 abbrev pub IsNoLink : Step → Type 0

@@ -1,6 +1,6 @@
 -- The machine stands behind one record more: in general, and for each kind of event.
-use Rattle.std.proofs.Common.{◌≡◌, ◌≢◌, ℕ, ◌+◌, ◌≤◌, ◌<◌, suc, length, set, List, [], ◌∷◌, ◌++◌, Bool, true, false, refl, sym, ap, ◌∙◌, subst, arith, append-nil, ltb, cond, ne_eqb}
-use Rattle.std.specs.Prelude.{Option, Some, None, ◌==◌, if◌then◌else◌, filter, IfSome}
+use Rattle.std.proofs.Common.{◌≡◌, ◌≢◌, ℕ, ◌≤◌, ◌<◌, suc, length, set, List, [], ◌∷◌, ◌++◌, Bool, true, false, refl, sym, ap, ◌∙◌, subst, arith, append-nil, ltb, ne_eqb}
+use Rattle.std.specs.Prelude.{Option, Some, None, ◌==◌, if◌then◌else◌, IfSome}
 use Rattle.std.specs.FinMap as finite
 use Rattle.std.proofs.lemmas.Bool.{lt-ltb, le-ltb}
 use Rattle.std.proofs.lemmas.Option.{IfSome_then}
@@ -8,7 +8,6 @@ use Rattle.std.proofs.lemmas.List.{length-set}
 use Rattle.std.proofs.lemmas.List.Elements.{filter-append}
 use native.Mathlib.Decide.{ℕ_discrete}
 use mathlib.Core.Logic.{dite}
-use Rattle.clover_words.specs.declared.pool.Pool.{Pool}
 use Rattle.clover_words.specs.declared.setup.Setup.{Setup}
 use Rattle.clover_map.specs.History.{own}
 use Rattle.clover_map.specs.Legal.{Legal}
@@ -17,13 +16,11 @@ use Rattle.clover_rule.specs.Lists.{nth}
 use Rattle.clover_rule.specs.Preset.{bindings_from}
 use Rattle.clover_rule.specs.declared.access.Access.{Access}
 use Rattle.clover_rule.specs.declared.view.View.{View}
-use Rattle.clover_plain.specs.Plain.{Plain, view_at, history}
-use Rattle.clover_script.specs.Form.{call_in}
-use Rattle.clover_script.specs.Lines.{takes}
+use Rattle.clover_plain.specs.Plain.{Plain, view_at}
 use Rattle.clover_script.specs.declared.line.Task.{Task}
 use Rattle.clover_script.specs.declared.line.Task.TheVariants.{Client as ClientTask}
 use Rattle.clover_sched.specs.Client.{Stands, Matches, UnderMatches, Moved, Went, Begins, IsUnder, spent, step_record}
-use Rattle.clover_sched.specs.Folds.{listed, accesses_in, entries_in, words_by, words_after, made_by, made_in, Doing, actor_of, does, doing, begun}
+use Rattle.clover_sched.specs.Folds.{listed, accesses_in, entries_in, words_by, words_after, made_by, made_in, Doing, actor_of, does, doing}
 use Rattle.clover_sched.specs.Machine.{Parts, IsAt, IsPoolAt, IsClientAt, asked}
 use Rattle.clover_sched.specs.Record.{Record}
 use Rattle.clover_sched.specs.Run.{Opening, Follows, IsStep, IsEntry, begin_note}
@@ -33,7 +30,7 @@ use Rattle.clover_sched.specs.declared.client.Underway.TheVariants.{Nothing, Get
 use Rattle.clover_sched.specs.declared.event.Event.{Event}
 use Rattle.clover_sched.specs.declared.event.Event.TheVariants.{Begin, Step, Refuse}
 use Rattle.clover_sched.specs.declared.event.Note.{Note}
-use Rattle.clover_sched.specs.declared.event.Note.TheVariants.{Quiet, Answered, Refused, Busy, Missing}
+use Rattle.clover_sched.specs.declared.event.Note.TheVariants.{Quiet, Busy, Missing}
 use Rattle.clover_sched.proofs.Pasts.{accesses_more, entries_more, words_more, made_more, goes_more, doing_own, doing_other, asked_least, asked_own}
 use Rattle.clover_sched.proofs.Places.{nth_within, nth_set, nth_other}
 
@@ -215,7 +212,7 @@ module _ (o : Opening) (m : Parts) (rs : List Record) (at : IsAt o m rs) where
       let least = asked_least (suc i) rs (still (Refuse (suc i)) Quiet) in
       let few = was.spent in
       changed i x (refusing x) (Refuse (suc i)) Quiet here refl (refl, refl, refl)
-      (record { setup = s.setup; opened = s.opened; entered = s.entered; seat = s.seat; seats = s.seats; role = s.role; names = s.names; stock = s.stock; number = s.number; under = s.under })
+      (record { setup = s.setup; opened = s.opened; entered = s.entered; seat = s.seat; seats = s.seats; pool = s.pool; role = s.role; names = s.names; stock = s.stock; number = s.number; under = s.under })
       (record { refusing = refl; under = same (doing (suc i) rs) x.under was.matches.under }) (omega arith)
     where
       same : (d : Doing) (u : Underway) → UnderMatches u (view_at m.pool i) d → UnderMatches u (view_at m.pool i) (record { task = d.task; decided = d.decided; since = d.since; refusing = true })
@@ -244,6 +241,7 @@ stands_on o i j z x e p q apart is moved s =
       entered = moved.entered;
       seat = s.seat;
       seats = moved.seats ∙ s.seats;
+      pool = ap (λ (v : View). v.pass.pool) same ∙ s.pool;
       role = ap (λ (v : View). v.pass.role) same ∙ s.role;
       names = ap (λ (v : View). v.pass.names) same ∙ s.names;
       stock = ap (λ (v : View). v.pass.stock) same ∙ s.stock;

@@ -1,9 +1,8 @@
 -- What one access of a client is in a run, and where the client stands behind it.
-use Rattle.std.proofs.Common.{◌≡◌, ◌≢◌, ◌⊎◌, inl, inr, ℕ, suc, ◌+◌, ◌==◌, List, [], ◌∷◌, ◌++◌, length, get_or, filter, Bool, true, false, cond, if◌then◌else◌, refl, sym, ap, ◌∙◌, subst, arith, eq-eqb}
+use Rattle.std.proofs.Common.{◌≡◌, inl, inr, ℕ, suc, ◌+◌, ◌==◌, List, [], ◌∷◌, ◌++◌, length, get_or, Bool, true, false, cond, if◌then◌else◌, refl, sym, ap, ◌∙◌, subst, eq-eqb}
 use Rattle.std.specs.Prelude.{Option, Some, None, IfSome, IsSome}
 use Rattle.std.proofs.lemmas.List.Elements.{filter-append}
 use Rattle.std.proofs.Math.ListN.{length-append}
-use Rattle.clover_words.specs.declared.setup.Setup.{Setup}
 use Rattle.clover_map.specs.History.{own}
 use Rattle.clover_map.specs.declared.call.Entry.{Entry}
 use Rattle.clover_map.specs.declared.call.Reply.{Reply}
@@ -22,7 +21,7 @@ use Rattle.clover_sched.specs.declared.event.Note.TheVariants.{Refused}
 use Rattle.clover_sched.specs.Client.{stock_at, Stands, Moved, Went, Matches, IsUnder, since_of, step_record}
 use Rattle.clover_sched.specs.Folds.{Doing, listed, words_by, made_by}
 use Rattle.clover_sched.specs.Run.{Opening, IsStep, IsEntry, IsCause, IsBlank, Wrote, lost}
-use Rattle.clover_sched.proofs.Moving.{MadeSo, RefusedSo, IsNoLink, role_kept, names_kept, stock_kept}
+use Rattle.clover_sched.proofs.Moving.{MadeSo, RefusedSo, IsNoLink, role_kept, pool_kept, names_kept, stock_kept}
 
 pub some_is : {A : Type 0} (y z : A) → Some y ≡ Some z → y ≡ z
 some_is y z e = cc
@@ -44,6 +43,7 @@ stands_kept o p q i x k s =
       entered = k.entries ∙ s.entered ∙ sym (ap longest k.views);
       seat = s.seat;
       seats = ap length k.views ∙ s.seats;
+      pool = ap (λ (v : View). v.pass.pool) e ∙ s.pool;
       role = ap (λ (v : View). v.pass.role) e ∙ s.role;
       names = ap (λ (v : View). v.pass.names) e ∙ s.names;
       stock = ap (λ (v : View). v.pass.stock) e ∙ s.stock;
@@ -132,6 +132,7 @@ module _ (o : Opening) (i : ℕ) (p : Plain) (x y : ClientState) (s : Stands o p
     entered = m.entries ∙ s.entered ∙ sym same ∙ sym m.history;
     seat = s.seat;
     seats = m.seats ∙ s.seats;
+    pool = ap (λ (v : View). v.pass.pool) m.view ∙ pool_kept a b (history p) (view_at p i) n ∙ s.pool;
     role = ap (λ (v : View). v.pass.role) m.view ∙ role_kept a b (history p) (view_at p i) n ∙ s.role;
     names = ap (λ (v : View). v.pass.names) m.view ∙ names_kept a b (history p) (view_at p i) n ∙ s.names;
     stock = ap (λ (v : View). v.pass.stock) m.view ∙ stock_kept a b (history p) (view_at p i) n free ∙ s.stock ∙ ap (stock_at o.setup (suc i)) (sym taken);
@@ -150,6 +151,7 @@ module _ (o : Opening) (i : ℕ) (p : Plain) (x y : ClientState) (s : Stands o p
         entered = moved.entered;
         seat = s.seat;
         seats = moved.seats ∙ s.seats;
+        pool = ap (λ (v : View). v.pass.pool) (there ∙ m.view) ∙ pool_kept a b (history p) (view_at p i) n ∙ s.pool;
         role = ap (λ (v : View). v.pass.role) (there ∙ m.view) ∙ role_kept a b (history p) (view_at p i) n ∙ s.role;
         names = ap (λ (v : View). v.pass.names) (there ∙ m.view) ∙ names_kept a b (history p) (view_at p i) n ∙ s.names;
         stock = ap (λ (v : View). v.pass.stock) (there ∙ m.view) ∙ stock_kept a b (history p) (view_at p i) n free ∙ s.stock ∙ ap (stock_at o.setup (suc i)) (sym taken);
@@ -167,6 +169,7 @@ module _ (o : Opening) (i : ℕ) (p : Plain) (x y : ClientState) (s : Stands o p
         entered = r.entries ∙ s.entered ∙ sym r.history;
         seat = s.seat;
         seats = ap length r.views ∙ s.seats;
+        pool = ap (λ (v : View). v.pass.pool) there ∙ s.pool;
         role = ap (λ (v : View). v.pass.role) there ∙ s.role;
         names = ap (λ (v : View). v.pass.names) there ∙ s.names;
         stock = ap (λ (v : View). v.pass.stock) there ∙ s.stock ∙ ap (stock_at o.setup (suc i)) (sym taken);

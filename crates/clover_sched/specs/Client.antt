@@ -1,7 +1,6 @@
 -- A client of the machine: what it has under way and what it knows, that this is what the records say of it, and what one step of it does.
 use Prim.Native.Nat.{suc}
-use Rattle.std.specs.Prelude.{◌≡◌, ◌≢◌, ℕ, ◌+◌, ◌-◌, ◌*◌, ◌≤◌, ◌<◌, ◌^◌, min, List, [], ◌∷◌, ◌++◌, length, Bool, true, false, cond, if◌then◌else◌, Option, Some, None}
-use Rattle.clover_words.specs.declared.bytes.ValueBuf.{ValueBuf}
+use Rattle.std.specs.Prelude.{◌≡◌, ◌≢◌, ℕ, ◌+◌, ◌-◌, ◌*◌, ◌≤◌, ◌<◌, ◌^◌, min, List, [], ◌∷◌, ◌++◌, length, true, cond, if◌then◌else◌, Option, Some, None}
 use Rattle.clover_words.specs.declared.pool.Pool.{Pool}
 use Rattle.clover_words.specs.declared.setup.Setup.{Setup}
 use Rattle.clover_words.specs.Preset.{buffers_total}
@@ -27,7 +26,7 @@ use Rattle.clover_get.specs.Getting.{IsOpen}
 use Rattle.clover_get.specs.Holding.{GetHolds}
 use Rattle.clover_put.specs.Answering.{IsBefore}
 use Rattle.clover_put.specs.Holding.{PutHolds}
-use Rattle.clover_put.specs.Putting.{Putting, AtRaise, call_at}
+use Rattle.clover_put.specs.Putting.{AtRaise, call_at}
 use Rattle.clover_sched.specs.declared.client.ClientState.{ClientState}
 use Rattle.clover_sched.specs.declared.client.Underway.{Underway}
 use Rattle.clover_sched.specs.declared.client.Underway.TheVariants.{Nothing, Get, Write, Raise}
@@ -62,6 +61,7 @@ pub record Stands (o : Opening) (p : Plain) (i : ℕ) (x : ClientState) : Type 0
   pub entered : p.entries ≡ history p
   pub seat : suc i ≤ o.setup.clients
   pub seats : length p.views ≡ o.setup.clients
+  pub pool : (view_at p i).pass.pool ≡ o.setup.pool
   pub role : (view_at p i).pass.role ≡ ClientRole (suc i)
   pub names : (view_at p i).pass.names ≡ o.names
   pub stock : (view_at p i).pass.stock ≡ stock_at o.setup (suc i) x.taken

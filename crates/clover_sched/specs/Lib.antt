@@ -4,5 +4,7 @@ pub mod Run
 pub mod Lines
 pub mod Text
 pub mod Client
+pub mod Writing
+pub mod Beginning
 pub mod Machine
 pub mod Kept

@@ -1,6 +1,6 @@
 -- What contracts see of a machine, and that it stands where some records lead.
 use Prim.Native.Nat.{suc}
-use Rattle.std.specs.Prelude.{◌≡◌, ◌≢◌, ℕ, ◌+◌, ◌-◌, ◌<◌, ◌≤◌, ◌==◌, List, [], ◌∷◌, ◌++◌, length, Contains, Bool, true, if◌then◌else◌, Option, Some, None}
+use Rattle.std.specs.Prelude.{◌≡◌, ◌≢◌, ℕ, ◌+◌, ◌-◌, ◌<◌, ◌≤◌, ◌==◌, List, [], length, Contains, true, if◌then◌else◌, Option, Some, None}
 use Rattle.std.specs.FinMap as finite
 use Rattle.clover_words.specs.declared.pool.Pool.{Pool}
 use Rattle.clover_words.specs.declared.setup.Setup.{Setup}
@@ -9,7 +9,6 @@ use Rattle.clover_map.specs.Legal.{Legal}
 use Rattle.clover_map.specs.History.{key_of}
 use Rattle.clover_map.specs.declared.call.Call.{Call}
 use Rattle.clover_script.specs.Lines.{takes}
-use Rattle.clover_script.specs.declared.line.Task.{Task}
 use Rattle.clover_script.specs.declared.line.Task.TheVariants.{Client as ClientTask}
 use Rattle.clover_rule.specs.Lists.{nth}
 use Rattle.clover_rule.specs.Preset.{bindings_from}

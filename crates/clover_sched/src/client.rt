@@ -12,7 +12,9 @@ ghost use Rattle.clover_sched.specs.declared.client.Underway.TheVariants.{Nothin
 ghost use Rattle.clover_sched.specs.Client.{IsTask, Stands, Begins, Went};
 ghost use Rattle.clover_sched.specs.Run.{Opening};
 
+mod begin;
 mod get;
+mod write;
 
 use crate::event::{CallRefusal, Note};
 use clover_get::GetCall;
@@ -84,9 +86,17 @@ impl ClientState {
         requires stock { takes (call_in task) ≡ 1 → HasDealt setup.now client self.old.taken }
         ensures begun { (o : Opening) (p : Plain) (i : ℕ) → suc i ≡ client → o.setup ≡ setup.now → Within (slot, key_of (call_in task)) o.names → key_at o.names slot ≡ key_of (call_in task) → Stands o p i self.old → Begins o p i self.old self.new task result }
     {
-        let Task::Client { call: _, written } = task;
-        let _ = (slot, setup.clients);
-        Note::Refused { client, refusal: CallRefusal::TooLong { length: u64::from(written), room: 0 } }
+        let Task::Client { call, written } = task;
+        let length = u64::from(written);
+        let room = 8 * u64::from(setup.pool.words);
+        if length > room {
+            return Note::Refused {
+                client,
+                refusal: CallRefusal::TooLong { length, room },
+            };
+        }
+        self.under = begin::under_for(setup, slot, client, self.taken, call);
+        Note::Quiet
     }
 
     /// Makes the next access of what the client has under way, and answers what it came to.
@@ -106,8 +116,8 @@ impl ClientState {
         match &self.under {
             Underway::Nothing => unreachable!(),
             Underway::Get { .. } => self.step_get(alloc, pool, client),
-            Underway::Write { .. } => Err(OutOfMemory),
-            Underway::Raise { .. } => Err(OutOfMemory),
+            Underway::Write { .. } => self.step_write(pool, client),
+            Underway::Raise { .. } => self.step_raise(pool, client),
         }
     }
 }

@@ -139,10 +139,10 @@ impl ClientState {
             GetTurn::More => Ok(Note::Quiet),
             GetTurn::Found { tag, flags: _ } => {
                 let (entered, noted) = replies_of(tag, copies);
-                Ok(self.answer(pool, client, entered, noted))
+                Ok(self.answer_get(pool, client, entered, noted))
             }
             GetTurn::Absent { tail: _ } => {
-                Ok(self.answer(pool, client, Reply::Absent, Reply::Absent))
+                Ok(self.answer_get(pool, client, Reply::Absent, Reply::Absent))
             }
             GetTurn::Behind { turns } => { Ok(self.give_up(client, CallRefusal::Behind { turns })) }
             GetTurn::Unreached => Ok(self.give_up(client, CallRefusal::Unreached)),
@@ -150,7 +150,13 @@ impl ClientState {
     }
 
     // Enters the entry of the get, and answers it.
-    fn answer(&mut self, pool: &mut PlainPool, client: u32, entered: Reply, noted: Reply) -> Note
+    fn answer_get(
+        &mut self,
+        pool: &mut PlainPool,
+        client: u32,
+        entered: Reply,
+        noted: Reply,
+    ) -> Note
         requires getting { (g : Getting) × (room : Buf) × (asked : Asked) × (self.old.under ≡ IsGet g room asked) }
         requires number { self.old.number < 2 ^ 64 - 1 }
         requires opened { pool.old.opened ≡ true }

@@ -48,26 +48,26 @@ copied (Some c) g into t f e m =
     let same : m.1 ≡ f = (let h : AtFound t f ≡ AtFound m.0 m.1 = sym e ∙ m.2 in cc) in
     (c, refl, m.3 ∙ ap (λ (k : ℕ). value_in k into) same, m.4 ∙ ap (λ (k : ℕ). value_in k into) same)
 
-pub answer-requires-clause-getting : goal.answer-requires-clause-getting
-answer-requires-clause-getting c = (c.access-turn.new.call, c.access-turn.new.room, c.in-Get.asked, refl)
+pub answer_get-requires-clause-getting : goal.answer_get-requires-clause-getting
+answer_get-requires-clause-getting c = (c.access-turn.new.call, c.access-turn.new.room, c.in-Get.asked, refl)
 
-pub answer-requires-in-Absent-clause-getting : goal.answer-requires-in-Absent-clause-getting
-answer-requires-in-Absent-clause-getting c = (c.access-turn.new.call, c.access-turn.new.room, c.in-Get.asked, refl)
+pub answer_get-requires-in-Absent-clause-getting : goal.answer_get-requires-in-Absent-clause-getting
+answer_get-requires-in-Absent-clause-getting c = (c.access-turn.new.call, c.access-turn.new.room, c.in-Get.asked, refl)
 
-pub answer-requires-clause-opened : goal.answer-requires-clause-opened
-answer-requires-clause-opened c = let s = c.requires.stands in (room_left s.1 c.reserve.new.self c.access-turn.new.pool (c.in-Found.ensures.accessed s.1 s.2)).1 ∙ c.in_ok-reserve.ensures.same.opened ∙ s.3.opened
+pub answer_get-requires-clause-opened : goal.answer_get-requires-clause-opened
+answer_get-requires-clause-opened c = let s = c.requires.stands in (room_left s.1 c.reserve.new.self c.access-turn.new.pool (c.in-Found.ensures.accessed s.1 s.2)).1 ∙ c.in_ok-reserve.ensures.same.opened ∙ s.3.opened
 
-pub answer-requires-in-Absent-clause-opened : goal.answer-requires-in-Absent-clause-opened
-answer-requires-in-Absent-clause-opened c = let s = c.requires.stands in (room_left s.1 c.reserve.new.self c.access-turn.new.pool (c.in-Absent.ensures.accessed s.1 s.2)).1 ∙ c.in_ok-reserve.ensures.same.opened ∙ s.3.opened
+pub answer_get-requires-in-Absent-clause-opened : goal.answer_get-requires-in-Absent-clause-opened
+answer_get-requires-in-Absent-clause-opened c = let s = c.requires.stands in (room_left s.1 c.reserve.new.self c.access-turn.new.pool (c.in-Absent.ensures.accessed s.1 s.2)).1 ∙ c.in_ok-reserve.ensures.same.opened ∙ s.3.opened
 
-pub answer-requires-clause-room : goal.answer-requires-clause-room
-answer-requires-clause-room c = let s = c.requires.stands in subst (λ (n : ℕ). 1 ≤ n) (sym (room_left s.1 c.reserve.new.self c.access-turn.new.pool (c.in-Found.ensures.accessed s.1 s.2)).0) c.in_ok-reserve.ensures.room.entry
+pub answer_get-requires-clause-room : goal.answer_get-requires-clause-room
+answer_get-requires-clause-room c = let s = c.requires.stands in subst (λ (n : ℕ). 1 ≤ n) (sym (room_left s.1 c.reserve.new.self c.access-turn.new.pool (c.in-Found.ensures.accessed s.1 s.2)).0) c.in_ok-reserve.ensures.room.entry
 
-pub answer-requires-in-Absent-clause-room : goal.answer-requires-in-Absent-clause-room
-answer-requires-in-Absent-clause-room c = let s = c.requires.stands in subst (λ (n : ℕ). 1 ≤ n) (sym (room_left s.1 c.reserve.new.self c.access-turn.new.pool (c.in-Absent.ensures.accessed s.1 s.2)).0) c.in_ok-reserve.ensures.room.entry
+pub answer_get-requires-in-Absent-clause-room : goal.answer_get-requires-in-Absent-clause-room
+answer_get-requires-in-Absent-clause-room c = let s = c.requires.stands in subst (λ (n : ℕ). 1 ≤ n) (sym (room_left s.1 c.reserve.new.self c.access-turn.new.pool (c.in-Absent.ensures.accessed s.1 s.2)).0) c.in_ok-reserve.ensures.room.entry
 
-pub answer-requires-clause-entry : goal.answer-requires-clause-entry
-answer-requires-clause-entry c = λ g1 r1 a1 same.
+pub answer_get-requires-clause-entry : goal.answer_get-requires-clause-entry
+answer_get-requires-clause-entry c = λ g1 r1 a1 same.
     let (o, i, e, s) = c.requires.stands in
     let k = c.in_ok-reserve.ensures.same in
     let x = c.args.self.now in
@@ -85,8 +85,8 @@ answer-requires-clause-entry c = λ g1 r1 a1 same.
     (subst (λ (r : Reply). history q ≡ q.entries ++ record { client = c.args.client; number = x.number + 1; call = c.in-Get.asked; reply = r } ∷ []) (sym reply)
     (enters o i p1 x c.in-Get.call c.in-Get.room c.in-Get.asked s1 c.in-Get.is few q m.0 m.1 (h.accessed i e) c.args.client (Found t (value_in c.in-Found.flags c.in-Get.room)) e found.0))
 
-pub answer-requires-in-Absent-clause-entry : goal.answer-requires-in-Absent-clause-entry
-answer-requires-in-Absent-clause-entry c = λ g1 r1 a1 same.
+pub answer_get-requires-in-Absent-clause-entry : goal.answer_get-requires-in-Absent-clause-entry
+answer_get-requires-in-Absent-clause-entry c = λ g1 r1 a1 same.
     let (o, i, e, s) = c.requires.stands in
     let k = c.in_ok-reserve.ensures.same in
     let x = c.args.self.now in
@@ -118,7 +118,7 @@ returns-in-Found-clause-went c = λ o i e s.
     let x = c.args.self.now in
     let p1 = c.reserve.new.self in
     let q = c.access-turn.new.pool in
-    let r = c.answer.new.pool in
+    let r = c.answer_get.new.pool in
     let h = c.in-Found.ensures in
     let t = tag_number c.in-Found.tag in
     let m = h.made i e in
@@ -128,13 +128,13 @@ returns-in-Found-clause-went c = λ o i e s.
     let value : Reply = Found t (value_in c.in-Found.flags c.in-Get.room) in
     let replies = c.replies_of-entered.ensures taken.0 taken.1 in
     let entered : c.replies_of-entered.result.0 ≡ value = replies.0 ∙ ap (λ v. Found t v) taken.2 in
-    let noted : c.answer.result ≡ Answered c.args.client value = c.answer.ensures.answer ∙ ap (λ (z : Reply). Answered c.args.client z) (replies.1 ∙ ap (λ v. Found t v) taken.3) in
+    let noted : c.answer_get.result ≡ Answered c.args.client value = c.answer_get.ensures.answer ∙ ap (λ (z : Reply). Answered c.args.client z) (replies.1 ∙ ap (λ v. Found t v) taken.3) in
     let found = subst (λ (b : ValueBuf). FoundAt p1.setup.pool c.in-Get.call t (value_in c.in-Found.flags b) (view_at p1 i) (Some (open_of p1)) (view_at q i) (Some (open_of q))) h.at.1 (h.found i e) in
-    let entries = subst (λ (z : Reply). r.entries ≡ q.entries ++ record { client = c.args.client; number = x.number + 1; call = c.in-Get.asked; reply = z } ∷ []) entered (c.answer.ensures.entries _ _ c.in-Get.asked refl) in
-    subst (λ (n : Note). Went o i x c.answer.new.self c.args.pool.now r n) (sym noted)
-    (subst (λ (y : ClientState). Went o i x y c.args.pool.now r (Answered c.args.client value)) (sym c.answer.ensures.client)
+    let entries = subst (λ (z : Reply). r.entries ≡ q.entries ++ record { client = c.args.client; number = x.number + 1; call = c.in-Get.asked; reply = z } ∷ []) entered (c.answer_get.ensures.entries _ _ c.in-Get.asked refl) in
+    subst (λ (n : Note). Went o i x c.answer_get.new.self c.args.pool.now r n) (sym noted)
+    (subst (λ (y : ClientState). Went o i x y c.args.pool.now r (Answered c.args.client value)) (sym c.answer_get.ensures.client)
     (went_kept o i x (answered x) c.args.pool.now p1 r (Answered c.args.client value) k
-    (went_answered o i p1 x c.in-Get.call c.in-Get.room c.in-Get.asked s1 c.in-Get.is few q m.0 m.1 (h.accessed i e) c.args.client value e found.0 r (free_of x.refusing _ (λ z. z) h.exact) refl entries c.answer.ensures.same)))
+    (went_answered o i p1 x c.in-Get.call c.in-Get.room c.in-Get.asked s1 c.in-Get.is few q m.0 m.1 (h.accessed i e) c.args.client value e found.0 r (free_of x.refusing _ (λ z. z) h.exact) refl entries c.answer_get.ensures.same)))
 
 pub returns-in-Absent-clause-went : goal.returns-in-Absent-clause-went
 returns-in-Absent-clause-went c = λ o i e s.
@@ -142,15 +142,15 @@ returns-in-Absent-clause-went c = λ o i e s.
     let x = c.args.self.now in
     let p1 = c.reserve.new.self in
     let q = c.access-turn.new.pool in
-    let r = c.answer-in-Absent.new.pool in
+    let r = c.answer_get-in-Absent.new.pool in
     let h = c.in-Absent.ensures in
     let m = h.made i e in
     let few = few_made c.args.pool.now p1 c.made.result k c.made.ensures.value c.made.type_inv c.if-made-eq18446744073709551615.false in
     let s1 = stands_kept o c.args.pool.now p1 i x k s in
-    subst (λ (n : Note). Went o i x c.answer-in-Absent.new.self c.args.pool.now r n) (sym c.answer-in-Absent.ensures.answer)
-    (subst (λ (y : ClientState). Went o i x y c.args.pool.now r (Answered c.args.client Absent)) (sym c.answer-in-Absent.ensures.client)
+    subst (λ (n : Note). Went o i x c.answer_get-in-Absent.new.self c.args.pool.now r n) (sym c.answer_get-in-Absent.ensures.answer)
+    (subst (λ (y : ClientState). Went o i x y c.args.pool.now r (Answered c.args.client Absent)) (sym c.answer_get-in-Absent.ensures.client)
     (went_kept o i x (answered x) c.args.pool.now p1 r (Answered c.args.client Absent) k
-    (went_answered o i p1 x c.in-Get.call c.in-Get.room c.in-Get.asked s1 c.in-Get.is few q m.0 m.1 (h.accessed i e) c.args.client Absent e (h.absent i e).0 r (free_of x.refusing _ (λ z. z) h.exact) refl (c.answer-in-Absent.ensures.entries _ _ c.in-Get.asked refl) c.answer-in-Absent.ensures.same)))
+    (went_answered o i p1 x c.in-Get.call c.in-Get.room c.in-Get.asked s1 c.in-Get.is few q m.0 m.1 (h.accessed i e) c.args.client Absent e (h.absent i e).0 r (free_of x.refusing _ (λ z. z) h.exact) refl (c.answer_get-in-Absent.ensures.entries _ _ c.in-Get.asked refl) c.answer_get-in-Absent.ensures.same)))
 
 pub returns-in-Behind-clause-went : goal.returns-in-Behind-clause-went
 returns-in-Behind-clause-went c = λ o i e s.

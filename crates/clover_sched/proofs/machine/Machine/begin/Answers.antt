@@ -1,10 +1,10 @@
-use Rattle.std.proofs.Common.{◌≡◌, ◌≢◌, ◌-◌, ◌<◌, ◌≤◌, ◌∙◌, length, sym, ap, subst, arith, true, false}
+use Rattle.std.proofs.Common.{◌≡◌, ◌-◌, ◌≤◌, ◌∙◌, length, sym, ap, subst, arith}
 use Rattle.std.specs.Prelude.{Some, slice_get}
 use Rattle.clover_map.specs.History.{key_of}
 use Rattle.clover_script.specs.Form.{call_in}
 use Rattle.clover_rule.specs.Lists.{nth}
 use Rattle.clover_sched.specs.Kept.{meaning}
-use Rattle.clover_sched.specs.Machine.{Parts, IsAt, IsBehind, IsBusy, MayCome}
+use Rattle.clover_sched.specs.Machine.{Parts, IsAt, MayCome}
 use Rattle.clover_sched.specs.declared.client.ClientState.{ClientState}
 use Rattle.clover_sched.specs.declared.client.Underway.TheVariants.{Nothing}
 use Rattle.clover_sched.specs.declared.event.Event.TheVariants.{Begin}

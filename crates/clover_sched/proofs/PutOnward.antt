@@ -1,0 +1,270 @@
+-- How a call that writes goes on: what stays of it, and which accesses neither commit nor end it.
+use Rattle.std.proofs.Common.{◌≡◌, ℕ, ◌==◌, List, [], ◌∷◌, ◌++◌, Bool, true, false, cond, eqb, refl, sym, ap, ◌∙◌, subst, eqb-true, eq-eqb}
+use Rattle.std.specs.Prelude.{Option, Some, None}
+use Rattle.clover_map.specs.declared.call.Entry.{Entry}
+use Rattle.clover_map.specs.declared.call.Reply.TheVariants.{Absent, Differs}
+use Rattle.clover_rule.specs.Memory.{Next, word, age}
+use Rattle.clover_rule.specs.Steps.{ReadRoot, LoadNext, RaiseNext, DecideNext, act_of, next_view, next_history, unlinked}
+use Rattle.clover_rule.specs.Words.{next_of, root_of}
+use Rattle.clover_rule.specs.declared.view.View.{View}
+use Rattle.clover_walk.specs.Walking.{Walking, Stand, AtRoot, AtTag, AtLink as OnLink, OnTail, Ended, goes_on, goes_from, followed, hops, turned, rooted, step_at}
+use Rattle.clover_put.specs.Answering.{IsBefore}
+use Rattle.clover_put.specs.Holding.{PutHolds, Fills, Looks}
+use Rattle.clover_put.specs.Putting.{Putting, Stage, Storing, Flushing, Seeking, AtMeta, AtLink, AtDead, AtOther, AtBad, AtRaise, Over, put_step, put_on, call_at, staged, walked, unless_left, reached, at_tail}
+use Rattle.clover_put.specs.declared.job.Job.{Job}
+use Rattle.clover_put.specs.declared.job.Job.TheVariants.{Put, Delete, Swap}
+use Rattle.clover_sched.specs.Run.{Wrote}
+use Rattle.clover_sched.proofs.Moving.{stock_kept, stock_missed}
+
+-- the walk keeps its pool and slot, and has made an access
+pub record OnWalk (w n : Walking) : Type 0 where
+  pub pool : n.pool ≡ w.pool
+  pub slot : n.slot ≡ w.slot
+  pub first : w.first ≡ false → n.first ≡ false
+
+hops_keep : (w : Walking) (t : ℕ) (l : Option ℕ) → OnWalk w (hops w t l)
+hops_keep w t None = record { pool = refl; slot = refl; first = λ e. refl }
+hops_keep w t (Some u) = record { pool = refl; slot = refl; first = λ e. refl }
+
+followed_keep : (w : Walking) (t : ℕ) (n : Next) → OnWalk w (followed w t n)
+followed_keep w t (word a l) = go (eqb a (age t))
+  where
+    go : (b : Bool) → OnWalk w (cond b (hops w t l) (turned w (Rattle.clover_walk.specs.Walking.next_start w.start) (Rattle.clover_walk.specs.Walking.begins (Rattle.clover_walk.specs.Walking.next_start w.start))))
+    go true = hops_keep w t l
+    go false = record { pool = refl; slot = refl; first = λ e. refl }
+
+rooted_keep : (w : Walking) (o : Option ℕ) → OnWalk w (rooted w o)
+rooted_keep w None = record { pool = refl; slot = refl; first = λ e. refl }
+rooted_keep w (Some t) = record { pool = refl; slot = refl; first = λ e. refl }
+
+goes_keep : (at : Stand) (w : Walking) (x : ℕ) → OnWalk w (goes_from at w x)
+goes_keep AtRoot w x = rooted_keep w (root_of x)
+goes_keep (AtTag t) w x = followed_keep w t (next_of x)
+goes_keep (OnLink t u) w x = record { pool = refl; slot = refl; first = λ e. refl }
+goes_keep (OnTail t) w x = followed_keep w t (next_of x)
+goes_keep Ended w x = record { pool = refl; slot = refl; first = λ e. e }
+
+-- what stays of a call over an access
+pub record SameCall (c n : Putting) : Type 0 where
+  pub pool : n.walk.pool ≡ c.walk.pool
+  pub slot : n.walk.slot ≡ c.walk.slot
+  pub job : n.job ≡ c.job
+  pub own : n.own ≡ c.own
+  pub value : n.value ≡ c.value
+
+walked_keep : (c : Putting) (x : ℕ) → SameCall c (walked c (goes_on c.walk x))
+walked_keep c x = let k = goes_keep c.walk.stand c.walk x in record { pool = k.pool; slot = k.slot; job = refl; own = refl; value = refl }
+
+left_keep : (c : Putting) (u : ℕ) (at : Stage) (x : ℕ) → SameCall c (unless_left c u at x)
+left_keep c u at x = go (x == unlinked u)
+  where
+    go : (b : Bool) → SameCall c (cond b (staged c at) (walked c (goes_on c.walk x)))
+    go true = record { pool = refl; slot = refl; job = refl; own = refl; value = refl }
+    go false = walked_keep c x
+
+on_keep : (s : Stage) (c : Putting) (x : ℕ) → SameCall c (put_on (record c { stage = s }) x)
+on_keep (Storing j) c x = record { pool = refl; slot = refl; job = refl; own = refl; value = refl }
+on_keep (Flushing j) c x = record { pool = refl; slot = refl; job = refl; own = refl; value = refl }
+on_keep Seeking c x = walked_keep c x
+on_keep (AtMeta u) c x = record { pool = refl; slot = refl; job = refl; own = refl; value = refl }
+on_keep (AtLink u) c x = left_keep c u (AtRaise u) x
+on_keep (AtDead u) c x = left_keep c u Over x
+on_keep (AtOther u) c x = left_keep c u Over x
+on_keep (AtBad u) c x = walked_keep c x
+on_keep (AtRaise u) c x = record { pool = refl; slot = refl; job = refl; own = refl; value = refl }
+on_keep Over c x = record { pool = refl; slot = refl; job = refl; own = refl; value = refl }
+
+pub same_call : (c : Putting) (x : ℕ) → SameCall c (put_on c x)
+same_call c x = on_keep c.stage c x
+
+walked_later : (c : Putting) (x : ℕ) → c.walk.first ≡ false → (walked c (goes_on c.walk x)).walk.first ≡ false
+walked_later c x e = (goes_keep c.walk.stand c.walk x).first e
+
+left_later : (c : Putting) (u : ℕ) (at : Stage) (x : ℕ) → c.walk.first ≡ false → (unless_left c u at x).walk.first ≡ false
+left_later c u at x e = go (x == unlinked u)
+  where
+    go : (b : Bool) → (cond b (staged c at) (walked c (goes_on c.walk x))).walk.first ≡ false
+    go true = e
+    go false = walked_later c x e
+
+on_later : (s : Stage) (c : Putting) (v : View) (x : ℕ) → Fills s c v → (put_on (record c { stage = s }) x).walk.first ≡ false
+on_later (Storing j) c v x f = refl
+on_later (Flushing j) c v x f = refl
+on_later Seeking c v x f = walked_later c x f.1
+on_later (AtMeta u) c v x f = f.1
+on_later (AtLink u) c v x f = left_later c u (AtRaise u) x f.1
+on_later (AtDead u) c v x f = left_later c u Over x f.1
+on_later (AtOther u) c v x f = left_later c u Over x f.1
+on_later (AtBad u) c v x f = walked_later c x f.1
+on_later (AtRaise u) c v x f = f
+on_later Over c v x f = absurd f
+
+-- a call that has made an access makes no first one
+pub later_call : (c : Putting) (v : View) (x : ℕ) → PutHolds c v → (put_on c x).walk.first ≡ false
+later_call c v x h = on_later c.stage c v x h.fills
+
+-- the number that an access found neither commits nor ends the call
+abbrev pub Misses : Stage → ℕ → Type 0
+Misses (AtLink u) x = (x == unlinked u) ≡ false
+Misses (AtDead u) x = (x == unlinked u) ≡ false
+Misses (AtOther u) x = (x == unlinked u) ≡ false
+Misses _ x = Unit {0}
+
+walk_quiet : (s : ℕ) (at : Stand) (h : List Entry) (v : View) (x : ℕ) → next_history (step_at s at) h v x ≡ h
+walk_quiet s AtRoot h v x = refl
+walk_quiet s (AtTag t) h v x = refl
+walk_quiet s (OnLink t u) h v x = refl
+walk_quiet s (OnTail t) h v x = refl
+walk_quiet s Ended h v x = refl
+
+none_more : (b : Bool) (h : List Entry) (e : Entry) → b ≡ false → cond b (h ++ e ∷ []) h ≡ h
+none_more b h e m = ap (λ (z : Bool). cond z (h ++ e ∷ []) h) m
+
+on_quiet : (s : Stage) (c : Putting) (u : View) (h : List Entry) (v : View) (x : ℕ) → Misses s x → next_history (put_step (record c { stage = s }) u) h v x ≡ h
+on_quiet (Storing j) c u h v x m = refl
+on_quiet (Flushing j) c u h v x m = refl
+on_quiet Seeking c u h v x m = walk_quiet c.walk.slot c.walk.stand h v x
+on_quiet (AtMeta t) c u h v x m = refl
+on_quiet (AtLink t) c u h v x m = none_more (x == unlinked t) h _ m
+on_quiet (AtDead t) c u h v x m = none_more (x == unlinked t) h _ m
+on_quiet (AtOther t) c u h v x m = none_more (x == unlinked t) h _ m
+on_quiet (AtBad t) c u h v x m = refl
+on_quiet (AtRaise t) c u h v x m = refl
+on_quiet Over c u h v x m = walk_quiet c.walk.slot c.walk.stand h v x
+
+pub quiet_history : (c : Putting) (u : View) (h : List Entry) (v : View) (x : ℕ) → Misses c.stage x → next_history (put_step c u) h v x ≡ h
+quiet_history c u h v x m = on_quiet c.stage c u h v x m
+
+walk_stock : (s : ℕ) (at : Stand) (b : Bool) (h : List Entry) (v : View) (x : ℕ) → (next_view b (step_at s at) h v x).pass.stock ≡ v.pass.stock
+walk_stock s AtRoot b h v x = stock_kept (ReadRoot s) b h v x tt
+walk_stock s (AtTag t) b h v x = stock_kept (LoadNext s t) b h v x tt
+walk_stock s (OnLink t u) b h v x = stock_kept (RaiseNext (record { slot = s; from = t; to = u })) b h v x tt
+walk_stock s (OnTail t) b h v x = stock_kept (LoadNext s t) b h v x tt
+walk_stock s Ended b h v x = stock_kept (ReadRoot s) b h v x tt
+
+on_stock : (s : Stage) (c : Putting) (u : View) (b : Bool) (h : List Entry) (v : View) (x : ℕ) → Misses s x → (next_view b (put_step (record c { stage = s }) u) h v x).pass.stock ≡ v.pass.stock
+on_stock (Storing j) c u b h v x m = refl
+on_stock (Flushing j) c u b h v x m = refl
+on_stock Seeking c u b h v x m = walk_stock c.walk.slot c.walk.stand b h v x
+on_stock (AtMeta t) c u b h v x m = refl
+on_stock (AtLink t) c u b h v x m = stock_missed c.walk.slot t c.own (call_at c u) b h v x m
+on_stock (AtDead t) c u b h v x m = stock_kept (DecideNext c.walk.slot t (call_at c u) Absent) b h v x tt
+on_stock (AtOther t) c u b h v x m = stock_kept (DecideNext c.walk.slot t (call_at c u) (Differs t)) b h v x tt
+on_stock (AtBad t) c u b h v x m = stock_kept (LoadNext c.walk.slot t) b h v x tt
+on_stock (AtRaise t) c u b h v x m = refl
+on_stock Over c u b h v x m = walk_stock c.walk.slot c.walk.stand b h v x
+
+pub quiet_stock : (c : Putting) (u : View) (b : Bool) (h : List Entry) (v : View) (x : ℕ) → Misses c.stage x → (next_view b (put_step c u) h v x).pass.stock ≡ v.pass.stock
+quiet_stock c u b h v x m = on_stock c.stage c u b h v x m
+
+walk_writes : (s : ℕ) (at : Stand) (x : ℕ) → Wrote (act_of (step_at s at) x) → ⊥
+walk_writes s AtRoot x w = w
+walk_writes s (AtTag t) x w = w
+walk_writes s (OnLink t u) x w = w
+walk_writes s (OnTail t) x w = w
+walk_writes s Ended x w = w
+
+on_writes : (s : Stage) (c : Putting) (u : View) (x : ℕ) → Misses s x → Wrote (act_of (put_step (record c { stage = s }) u) x) → ⊥
+on_writes (Storing j) c u x m w = w
+on_writes (Flushing j) c u x m w = w
+on_writes Seeking c u x m w = walk_writes c.walk.slot c.walk.stand x w
+on_writes (AtMeta t) c u x m w = w
+on_writes (AtLink t) c u x m w = absurd (let y = eq-eqb x (unlinked t) w in cc)
+on_writes (AtDead t) c u x m w = w
+on_writes (AtOther t) c u x m w = w
+on_writes (AtBad t) c u x m w = w
+on_writes (AtRaise t) c u x m w = w
+on_writes Over c u x m w = walk_writes c.walk.slot c.walk.stand x w
+
+pub quiet_writes : (c : Putting) (u : View) (x : ℕ) → Misses c.stage x → Wrote (act_of (put_step c u) x) → ⊥
+quiet_writes c u x m w = on_writes c.stage c u x m w
+
+on_before : (s : Stage) (c : Putting) (x : ℕ) → IsBefore (put_on (record c { stage = s }) x).stage → Misses s x
+on_before (Storing j) c x b = tt
+on_before (Flushing j) c x b = tt
+on_before Seeking c x b = tt
+on_before (AtMeta u) c x b = tt
+on_before (AtLink u) c x b = go (x == unlinked u) b
+  where
+    go : (k : Bool) → IsBefore (cond k (staged c (AtRaise u)) (walked c (goes_on c.walk x))).stage → k ≡ false
+    go true h = absurd h
+    go false h = refl
+on_before (AtDead u) c x b = go (x == unlinked u) b
+  where
+    go : (k : Bool) → IsBefore (cond k (staged c Over) (walked c (goes_on c.walk x))).stage → k ≡ false
+    go true h = absurd h
+    go false h = refl
+on_before (AtOther u) c x b = go (x == unlinked u) b
+  where
+    go : (k : Bool) → IsBefore (cond k (staged c Over) (walked c (goes_on c.walk x))).stage → k ≡ false
+    go true h = absurd h
+    go false h = refl
+on_before (AtBad u) c x b = tt
+on_before (AtRaise u) c x b = tt
+on_before Over c x b = tt
+
+-- a call that goes on has found no tail unlinked
+pub before_misses : (c : Putting) (x : ℕ) → IsBefore (put_on c x).stage → Misses c.stage x
+before_misses c x b = on_before c.stage c x b
+
+abbrev IsTailOf : Stand → Type 0
+IsTailOf (OnTail t) = Unit {0}
+IsTailOf _ = ⊥
+
+no_end : (at : Stand) (u : ℕ) → at ≡ OnTail u → at ≡ Ended → ⊥
+no_end at u e f = subst IsTailOf (sym e ∙ f) tt
+
+on_behind : (s : Stage) (c : Putting) (v : View) (x : ℕ) → Looks s c v → (put_on (record c { stage = s }) x).stage ≡ Over → (put_on (record c { stage = s }) x).walk.stand ≡ Ended → Misses s x
+on_behind (Storing j) c v x l o e = tt
+on_behind (Flushing j) c v x l o e = tt
+on_behind Seeking c v x l o e = tt
+on_behind (AtMeta u) c v x l o e = tt
+on_behind (AtLink u) c v x l o e = go (x == unlinked u) e
+  where
+    go : (k : Bool) → (cond k (staged c (AtRaise u)) (walked c (goes_on c.walk x))).walk.stand ≡ Ended → k ≡ false
+    go true h = absurd (no_end c.walk.stand u l.0.0 h)
+    go false h = refl
+on_behind (AtDead u) c v x l o e = go (x == unlinked u) e
+  where
+    go : (k : Bool) → (cond k (staged c Over) (walked c (goes_on c.walk x))).walk.stand ≡ Ended → k ≡ false
+    go true h = absurd (no_end c.walk.stand u l.0.0 h)
+    go false h = refl
+on_behind (AtOther u) c v x l o e = go (x == unlinked u) e
+  where
+    go : (k : Bool) → (cond k (staged c Over) (walked c (goes_on c.walk x))).walk.stand ≡ Ended → k ≡ false
+    go true h = absurd (no_end c.walk.stand u l.0.0 h)
+    go false h = refl
+on_behind (AtBad u) c v x l o e = tt
+on_behind (AtRaise u) c v x l o e = tt
+on_behind Over c v x l o e = tt
+
+-- nor has one that has fallen behind
+pub behind_misses : (c : Putting) (v : View) (x : ℕ) → PutHolds c v → (put_on c x).stage ≡ Over → (put_on c x).walk.stand ≡ Ended → Misses c.stage x
+behind_misses c v x h o e = on_behind c.stage c v x h.looks o e
+
+abbrev IsRaiseOf : Stage → Type 0
+IsRaiseOf (AtRaise u) = Unit {0}
+IsRaiseOf _ = ⊥
+
+tail_raises : (j : Job) (t : ℕ) → IsRaiseOf (at_tail j t) → ⊥
+tail_raises Put t h = h
+tail_raises Delete t h = h
+tail_raises (Swap e) t h = h
+
+reached_raises : (j : Job) (at : Stand) → IsRaiseOf (reached j at) → ⊥
+reached_raises j AtRoot h = h
+reached_raises j (AtTag t) h = h
+reached_raises j (OnLink t s) h = h
+reached_raises j (OnTail t) h = tail_raises j t h
+reached_raises j Ended h = h
+
+no_raise : (j : Job) (at : Stand) (u : ℕ) → reached j at ≡ AtRaise u → ⊥
+no_raise j at u e = reached_raises j at (subst IsRaiseOf (sym e) tt)
+
+-- the exchange of a call that is to raise found the tail unlinked
+pub linked_hit : (c : Putting) (u x : ℕ) → c.stage ≡ AtLink u → staged c (AtRaise u) ≡ put_on c x → x ≡ unlinked u
+linked_hit c u x at e = go (x == unlinked u) refl (ap (λ (z : Putting). z.stage) (e ∙ ap (λ (s : Stage). put_on (record c { stage = s }) x) at))
+  where
+    go : (b : Bool) → (x == unlinked u) ≡ b → AtRaise u ≡ (cond b (staged c (AtRaise u)) (walked c (goes_on c.walk x))).stage → x ≡ unlinked u
+    go true q h = eqb-true x (unlinked u) q
+    go false q h = absurd (no_raise c.job (goes_on c.walk x).stand u (sym h))

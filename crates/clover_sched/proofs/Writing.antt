@@ -1,0 +1,473 @@
+-- What each turn of a call that writes comes to: a step of the run, behind which the client stands.
+use Prim.Native.Nat.{zero, suc}
+use Rattle.std.proofs.Common.{◌≡◌, ℕ, nat_lt, ◌+◌, ◌-◌, ◌*◌, ◌^◌, ◌<◌, ◌≤◌, List, [], ◌∷◌, ◌++◌, length, get_or, Bool, true, false, cond, refl, sym, ap, ◌∙◌, subst, arith, eq-eqb}
+use Rattle.std.specs.Prelude.{Some, None}
+use Rattle.clover_words.specs.Tag.{TagParts, tag_number}
+use Rattle.clover_words.specs.declared.setup.Setup.{Setup}
+use Rattle.clover_words.specs.Preset.{buffers_total, dealt_number}
+use Rattle.clover_map.specs.History.{own}
+use Rattle.clover_map.specs.declared.call.Call.TheVariants.{Get as GetCall, Put as PutCall, Delete as DeleteCall, Swap as SwapCall}
+use Rattle.clover_plain.specs.Preset.{dealt_from, tag_at}
+use Rattle.clover_map.specs.declared.bytes.Value.{Value}
+use Rattle.clover_map.specs.declared.call.Call.{Call}
+use Rattle.clover_map.specs.declared.call.Entry.{Entry}
+use Rattle.clover_map.specs.declared.call.Reply.{Reply}
+use Rattle.clover_map.specs.declared.call.Reply.TheVariants.{Stored as StoredAs, Deleted as DeletedAs}
+use Rattle.clover_script.specs.declared.line.Task.TheVariants.{Client as ClientTask}
+use Rattle.clover_rule.specs.Accesses.{CameBack, Decides, wrote_link}
+use Rattle.clover_rule.specs.Lists.{Within}
+use Rattle.clover_rule.specs.Steps.{Step, DecideNext, LinkNext, RaiseNext, act_of, next_view, next_history, unlinked, reply_of, client, number_of, rest_of, seen}
+use Rattle.clover_rule.specs.Words.{next_of}
+use Rattle.clover_rule.specs.Knowing.{link_entry, link_view}
+use Rattle.clover_rule.specs.declared.access.Act.{Act}
+use Rattle.clover_rule.specs.declared.view.View.{View}
+use Rattle.clover_port.specs.Told.{Open, Made}
+use Rattle.clover_plain.specs.Plain.{Plain, Accessed, KeptButEntries, view_at, history, open_of, access, outset}
+use Rattle.clover_walk.specs.Ending.{Ended}
+use Rattle.clover_walk.specs.Walking.{key_at}
+use Rattle.clover_walk.proofs.Endings.{stepped}
+use Rattle.clover_put.specs.Answering.{IsBefore, Stores, Deletes, ExactPut, OnReached, OnRefused}
+use Rattle.clover_put.specs.Holding.{PutHolds}
+use Rattle.clover_put.specs.Putting.{Putting, AtLink, AtRaise, call_of, call_at, put_step, put_on, staged}
+use Rattle.clover_put.specs.declared.job.Job.{Job}
+use Rattle.clover_put.specs.declared.job.Job.TheVariants.{Put, Delete, Swap}
+use Rattle.clover_put.proofs.Known.{length_more, within_last}
+use Rattle.clover_put.proofs.Done.{at_stage, at_step}
+use Rattle.clover_put.specs.declared.turn.PutTurn.{PutTurn}
+use Rattle.clover_put.specs.declared.turn.PutTurn.TheVariants.{More, Decided, Behind, Unreached}
+use Rattle.clover_sched.specs.declared.client.ClientState.{ClientState}
+use Rattle.clover_sched.specs.declared.client.Underway.{Underway}
+use Rattle.clover_sched.specs.declared.client.Underway.TheVariants.{Nothing, Write, Raise}
+use Rattle.clover_sched.specs.declared.event.CallRefusal.TheVariants as why
+use Rattle.clover_sched.specs.declared.event.Note.{Note}
+use Rattle.clover_sched.specs.declared.event.Note.TheVariants.{Quiet, Answered, Refused}
+use Rattle.clover_sched.specs.Client.{Stands, Moved, Matches, UnderMatches, Went, IsUnder, stock_at, step_record, since_of, spent_by}
+use Rattle.clover_sched.specs.Folds.{Doing}
+use Rattle.clover_sched.specs.Run.{Opening, IsStep, IsCause, IsAnswer, IsCommit, Flushes, lost}
+use Rattle.clover_sched.specs.Writing.{PutAccess, next_entry}
+use Rattle.clover_sched.proofs.Going.{step_made, step_refused, seat_below, stands_moved, number_same, number_more}
+use Rattle.clover_sched.proofs.Moving.{MadeSo, made_so, RefusedSo, refused_so, role_kept, names_kept, stock_kept, moved_quiet, moved_entered, moved_refused}
+use Rattle.clover_sched.proofs.PutOnward.{SameCall, same_call, later_call, Misses, quiet_history, quiet_stock, quiet_writes, before_misses, behind_misses, linked_hit}
+
+-- the client with this under way, and as it was but for the refusal to come
+abbrev pub with_under : ClientState → Underway → ClientState
+with_under x u = record { under = u; refusing = false; taken = x.taken; number = x.number }
+
+-- the call keeps its name over an access
+call_stays : (c n : Putting) (v w : View) → SameCall c n → w.pass.names ≡ v.pass.names → call_at n w ≡ call_at c v
+call_stays c n v w s e = λ j. call_of (s.job j) (key_at (e j) (s.slot j)) (s.value j)
+
+-- an access was refused exactly where that was asked for
+pub exact_made : (z : Bool) (r : PutTurn) → ExactPut (Some z) r → (OnReached r ⊥ → ⊥) → z ≡ false
+exact_made true r e h = absurd (h e)
+exact_made false r e h = refl
+
+pub exact_refused : (z : Bool) (r : PutTurn) → ExactPut (Some z) r → (OnRefused r ⊥ → ⊥) → z ≡ true
+exact_refused true r e h = refl
+exact_refused false r e h = absurd (h e)
+
+-- a commit's reply is one
+commits_always : (t : ℕ) (call : Call) → IsCommit (reply_of t call) ≡ true
+commits_always t (GetCall key) = refl
+commits_always t (PutCall key x) = refl
+commits_always t (DeleteCall key) = refl
+commits_always t (SwapCall key e x) = refl
+
+nothing_here : (t : ℕ) (rest : List ℕ) → [] ≡ t ∷ rest → ⊥
+nothing_here t rest e = let q : 0 ≡ suc (length rest) = ap length e in absurd (omega arith)
+
+-- behind the first tag of a stock is that of the next put
+stock_rest : (s : Setup) (c n t : ℕ) (rest : List ℕ) → stock_at s c n ≡ t ∷ rest → (rest_of (stock_at s c n) ≡ stock_at s c (suc n)) × (n < buffers_total s.pool)
+stock_rest s c n t rest e = go (buffers_total s.pool - n) refl e
+  where
+    first : (b : Bool) (m : ℕ) → m ≡ buffers_total s.pool - suc n → cond b (tag_at s.pool (dealt_number s c n) ∷ dealt_from s c (suc n) m) [] ≡ t ∷ rest
+        → rest_of (cond b (tag_at s.pool (dealt_number s c n) ∷ dealt_from s c (suc n) m) []) ≡ stock_at s c (suc n)
+    first true m em h = ap (dealt_from s c (suc n)) em
+    first false m em h = absurd (nothing_here t rest h)
+
+    go : (m : ℕ) → m ≡ buffers_total s.pool - n → dealt_from s c n m ≡ t ∷ rest → (rest_of (dealt_from s c n m) ≡ stock_at s c (suc n)) × (n < buffers_total s.pool)
+    go zero em h = absurd (nothing_here t rest h)
+    go (suc m) em h = (first (nat_lt (dealt_number s c n + s.pool.slots) (buffers_total s.pool)) m (omega arith) h, omega arith)
+
+-- The accesses of a call that writes, before its exchange.
+module _ (o : Opening) (i : ℕ) (x : ClientState) (c n : Putting) (call : Call) (p q : Plain) (k : ℕ) (seat : suc i ≡ k) (is : x.under ≡ Write c call) (st : Stands o p i x) (few : p.made < 2 ^ 64 - 1) where
+  abbrev v : View
+  v = view_at p i
+
+  abbrev w : View
+  w = view_at q i
+
+  under : IsBefore c.stage × (c.walk.pool ≡ o.setup.pool) × PutHolds c v × (call ≡ call_at c v)
+  under = subst (IsUnder o.setup.pool v) is st.under
+
+  -- an access that was made and found no end
+  module _ (a : ℕ) (made : Made p.setup.pool (put_step c v) c.walk.first v (Some (open_of p)) a w (Some (open_of q))) (on : n ≡ put_on c a) (acc : Accessed i true p q) (miss : Misses c.stage a) where
+    so : MadeSo i p q (put_step c v) c.walk.first a
+    so = made_so i p q (put_step c v) c.walk.first a few (seat_below o p i x st) st.role st.entered made acc
+
+    moved : Moved i (access i (act_of (put_step c v) a) false) None p q
+    moved = moved_quiet i p q (put_step c v) c.walk.first a so st.entered (quiet_history c v (history p) v a miss)
+
+    names : w.pass.names ≡ v.pass.names
+    names = ap (λ (z : View). z.pass.names) so.view ∙ names_kept (put_step c v) c.walk.first (history p) v a
+
+    role : w.pass.role ≡ v.pass.role
+    role = ap (λ (z : View). z.pass.role) so.view ∙ role_kept (put_step c v) c.walk.first (history p) v a
+
+    stock : w.pass.stock ≡ stock_at o.setup (suc i) x.taken
+    stock = ap (λ (z : View). z.pass.stock) so.view ∙ quiet_stock c v c.walk.first (history p) v a miss ∙ st.stock
+
+    stands : (u : Underway) → IsUnder o.setup.pool w u → Stands o q i (with_under x u)
+    stands u h = stands_moved o i x (with_under x u) p q _ None st moved (stepped p.setup.pool (put_step c v) c.walk.first v _ a w _ made).pool role names stock (number_same x.number (suc i) p.entries q.entries st.number moved.entries) h
+
+    step : (d : Doing) (note : Note) → Matches x v d → x.refusing ≡ false → IsCause o.setup.pool (suc i) d None (act_of (put_step c v) a) note
+        → IsStep o (suc i) d p.words (length (own p.entries (suc i))) (step_record i (access i (act_of (put_step c v) a) false) None note)
+    step d note m going cause =
+        let u : UnderMatches (Write c call) v d = subst (λ (z : Underway). UnderMatches z v d) is m.under in
+        step_made o i d p.words (length (own p.entries (suc i))) (act_of (put_step c v) a) None note (ClientTask call u.0.0) u.0.1 (sym m.refusing ∙ going) (subst (λ (z : Setup). CameBack z.pool p.words (act_of (put_step c v) a)) st.setup so.came) tt (λ h. absurd (quiet_writes c v a miss h)) cause
+
+  pub went_more : PutAccess i x.refusing c n p q More → Went o i x (with_under x (Write n call)) p q Quiet
+  went_more f =
+      let m = f.step.made in
+      let miss : Misses c.stage m.0 = before_misses c m.0 (subst (λ (z : Putting). IsBefore z.stage) m.2 f.step.answer.1) in
+      let so1 = so m.0 m.1 m.2 f.accessed miss in
+      let same : SameCall c n = subst (SameCall c) (sym m.2) (same_call c m.0) in
+      let later : n.walk.first ≡ false = ap (λ (z : Putting). z.walk.first) m.2 ∙ later_call c v m.0 under.2 in
+      let since : since_of (Write n call) w ≡ since_of (Write c call) v ++ act_of (put_step c v) m.0 ∷ [] = ap (λ (b : Bool). cond b [] w.pass.since) later ∙ so1.since in
+      let is_since : since_of x.under v ≡ since_of (Write c call) v = ap (λ (u : Underway). since_of u v) is in
+      record {
+        access = access i (act_of (put_step c v) m.0) false;
+        entry = None;
+        moved = moved m.0 m.1 m.2 f.accessed miss;
+        stands = stands m.0 m.1 m.2 f.accessed miss (Write n call) (f.step.answer.1, same.pool ∙ under.1, f.step.stands, under.3 ∙ sym (call_stays c n v w same (names m.0 m.1 m.2 f.accessed miss)));
+        follows = λ d h.
+            let u : UnderMatches (Write c call) v d = subst (λ (z : Underway). UnderMatches z v d) is h.under in
+            (step m.0 m.1 m.2 f.accessed miss d Quiet h (exact_made x.refusing More f.exact (λ z. z)) tt, record { refusing = refl; under = (u.0, u.1, ap (λ (l : List Act). l ++ act_of (put_step c v) m.0 ∷ []) u.2 ∙ sym since) });
+        longer = λ b. ap length since ∙ length_more (act_of (put_step c v) m.0) (since_of (Write c call) v) ∙ ap (λ (l : List Act). suc (length l)) (sym is_since);
+        spent = subst (λ (u : Underway). suc x.taken ≤ spent_by u x.taken) (sym is) (omega arith);
+      }
+
+  pub went_behind : (turns : ℕ) → PutAccess i x.refusing c n p q (Behind turns) → Went o i x (with_under x Nothing) p q (Refused k (why.Behind turns))
+  went_behind turns f =
+      let m = f.step.made in
+      let miss : Misses c.stage m.0 = behind_misses c v m.0 under.2 (ap (λ (z : Putting). z.stage) (sym m.2) ∙ f.step.answer.1) (ap (λ (z : Putting). z.walk.stand) (sym m.2) ∙ f.step.answer.2) in
+      let count : turns ≡ o.setup.pool.nodes * o.setup.pool.buffers + 2 = f.step.behind.0 ∙ ap (λ (z : Setup). z.pool.nodes * z.pool.buffers + 2) st.setup in
+      record {
+        access = access i (act_of (put_step c v) m.0) false;
+        entry = None;
+        moved = moved m.0 m.1 m.2 f.accessed miss;
+        stands = stands m.0 m.1 m.2 f.accessed miss Nothing tt;
+        follows = λ d h. (step m.0 m.1 m.2 f.accessed miss d (Refused k (why.Behind turns)) h (exact_made x.refusing (Behind turns) f.exact (λ z. z)) (sym seat, count, refl), record { refusing = refl; under = refl });
+        longer = λ b. absurd (b refl);
+        spent = subst (λ (u : Underway). x.taken ≤ spent_by u x.taken) (sym is) (omega arith);
+      }
+
+  pub went_unreached : PutAccess i x.refusing c n p q Unreached → Went o i x (with_under x Nothing) p q (Refused k why.Unreached)
+  went_unreached f =
+      let same : w ≡ v = f.step.refused.1 in
+      let so1 : RefusedSo i p q = refused_so i p q (seat_below o p i x st) same f.accessed in
+      let moved1 = moved_refused i p q so1 st.entered in
+      record {
+        access = access i so1.act true;
+        entry = None;
+        moved = moved1;
+        stands = stands_moved o i x (with_under x Nothing) p q _ None st moved1 (ap (λ (z : View). z.pass.pool) same) (ap (λ (z : View). z.pass.role) same) (ap (λ (z : View). z.pass.names) same) (ap (λ (z : View). z.pass.stock) same ∙ st.stock) (number_same x.number (suc i) p.entries q.entries st.number moved1.entries) tt;
+        follows = λ d h.
+            let u : UnderMatches (Write c call) v d = subst (λ (z : Underway). UnderMatches z v d) is h.under in
+            (step_refused o i d p.words (length (own p.entries (suc i))) so1.act (Refused k why.Unreached) (ClientTask call u.0.0) u.0.1 (sym h.refusing ∙ exact_refused x.refusing Unreached f.exact (λ z. z)) so1.blank (λ j. Refused (sym seat j) (lost (sym u.1 j))), record { refusing = refl; under = refl });
+        longer = λ b. absurd (b refl);
+        spent = subst (λ (u : Underway). x.taken ≤ spent_by u x.taken) (sym is) (omega arith);
+      }
+
+  -- where the call was decided with a reply by a step that found this number: the entry that this adds
+  module _ (a : Step) (found : ℕ) (r : Reply) (made : Made p.setup.pool a false v (Some (open_of p)) found w (Some (open_of q))) (acc : Accessed i true p q) (later : c.walk.first ≡ false)
+      (adds : next_history a (history p) v found ≡ history p ++ link_entry v (client v) (call_at c v) r ∷ []) (ws : List ℕ) (words : ws ≡ p.words) (decides : Decides p.setup.pool ws v.pass.names w.pass.since (call_at c v) r) where
+    so2 : MadeSo i p q a false found
+    so2 = made_so i p q a false found few (seat_below o p i x st) st.role st.entered made acc
+
+    abbrev entry : Entry
+    entry = next_entry k x.number call r
+
+    is_entry : link_entry v (client v) (call_at c v) r ≡ entry
+    is_entry = λ j. record { client = (ap number_of st.role ∙ seat) j; number = suc ((so2.number ∙ sym st.number) j); call = sym under.3 j; reply = r }
+
+    adds_it : next_history a (history p) v found ≡ history p ++ entry ∷ []
+    adds_it = adds ∙ ap (λ (e : Entry). history p ++ e ∷ []) is_entry
+
+    pub to_enter : history q ≡ q.entries ++ entry ∷ []
+    to_enter = so2.history ∙ adds_it ∙ ap (λ (l : List Entry). l ++ entry ∷ []) (sym (so2.entries ∙ st.entered))
+
+    pub open_still : q.opened ≡ true
+    open_still = so2.opened ∙ st.opened
+
+    -- and behind its entering
+    module _ (z : Plain) (more : z.entries ≡ q.entries ++ entry ∷ []) (kept : KeptButEntries q z) where
+      moved2 : Moved i (access i (act_of a found) false) (Some entry) p z
+      moved2 = moved_entered i p q z a false found entry so2 st.entered adds_it more kept
+
+      view2 : view_at z i ≡ w
+      view2 = λ j. get_or (kept.views j) i (outset (kept.setup j))
+
+      names2 : (view_at z i).pass.names ≡ v.pass.names
+      names2 = ap (λ (y : View). y.pass.names) (view2 ∙ so2.view) ∙ names_kept a false (history p) v found
+
+      role2 : (view_at z i).pass.role ≡ v.pass.role
+      role2 = ap (λ (y : View). y.pass.role) (view2 ∙ so2.view) ∙ role_kept a false (history p) v found
+
+      since2 : (view_at z i).pass.since ≡ since_of (Write c call) v ++ act_of a found ∷ []
+      since2 = ap (λ (y : View). y.pass.since) view2 ∙ so2.since ∙ ap (λ (b : Bool). cond b [] v.pass.since ++ act_of a found ∷ []) (sym later)
+
+      stands2 : (y : ClientState) → y.number ≡ suc x.number → (view_at z i).pass.stock ≡ stock_at o.setup (suc i) y.taken → IsUnder o.setup.pool (view_at z i) y.under → Stands o z i y
+      stands2 y number stock h = stands_moved o i x y p z _ (Some entry) st moved2 (ap (λ (s : View). s.pass.pool) view2 ∙ (stepped p.setup.pool a false v _ found w _ made).pool) role2 names2 stock (number ∙ number_more x.number (suc i) p.entries z.entries entry st.number (sym seat) moved2.entries) h
+
+      step2 : (d : Doing) (note : Note) → Matches x v d → x.refusing ≡ false → IsCause o.setup.pool (suc i) d (Some entry) (act_of a found) note
+          → IsStep o (suc i) d p.words (length (own p.entries (suc i))) (step_record i (access i (act_of a found) false) (Some entry) note)
+      step2 d note m going cause =
+          let u : UnderMatches (Write c call) v d = subst (λ (y : Underway). UnderMatches y v d) is m.under in
+          step_made o i d p.words (length (own p.entries (suc i))) (act_of a found) (Some entry) note (ClientTask call u.0.0) u.0.1 (sym m.refusing ∙ going) (subst (λ (y : Setup). CameBack y.pool p.words (act_of a found)) st.setup so2.came)
+          (record {
+            access = access i (act_of a found) false;
+            last = refl;
+            made = refl;
+            written = u.0.0;
+            task = u.0.1;
+            first = u.1;
+            client = sym seat;
+            number = ap suc st.number;
+            decided = let e : w.pass.since ≡ d.since ++ act_of a found ∷ [] = so2.since ∙ ap (λ (b : Bool). cond b [] v.pass.since ++ act_of a found ∷ []) (sym later) ∙ ap (λ (l : List Act). l ++ act_of a found ∷ []) (sym u.2) in
+                subst (λ (y : Call). Decides o.setup.pool p.words o.names (d.since ++ act_of a found ∷ []) y r) (sym under.3)
+                (subst (λ (l : List Act). Decides o.setup.pool p.words o.names l (call_at c v) r) e
+                (subst (λ (l : List (ℕ × List ℕ)). Decides o.setup.pool p.words l w.pass.since (call_at c v) r) st.names
+                (subst (λ (l : List ℕ). Decides o.setup.pool l v.pass.names w.pass.since (call_at c v) r) words
+                (subst (λ (y : Setup). Decides y.pool ws v.pass.names w.pass.since (call_at c v) r) st.setup decides))));
+          })
+          (λ h. refl) cause
+
+  -- a last load that decided the call with this reply, which is no commit's
+  module _ (r : Reply) (plain : IsCommit r ≡ false) (ended : Ended p.setup.pool (call_at c v) r v (Some (open_of p)) w (Some (open_of q))) (acc : Accessed i true p q) (later : c.walk.first ≡ false) where
+    abbrev last : Step
+    last = DecideNext ended.slot ended.tag (call_at c v) r
+
+    last_adds : next_history last (history p) v (unlinked ended.tag) ≡ history p ++ link_entry v (client v) (call_at c v) r ∷ []
+    last_adds = ap (λ (b : Bool). cond b (history p ++ link_entry v (client v) (call_at c v) r ∷ []) (history p)) (eq-eqb (unlinked ended.tag) (unlinked ended.tag) refl)
+
+    last_words : ended.made.now.words ≡ p.words
+    last_words = ap (λ (z : Open). z.words) (sym ended.made.tells.0)
+
+    pub last_enters : (history q ≡ q.entries ++ next_entry k x.number call r ∷ []) × (q.opened ≡ true)
+    last_enters = (to_enter last (unlinked ended.tag) r ended.made acc later last_adds ended.made.now.words last_words ended.decides, open_still last (unlinked ended.tag) r ended.made acc later last_adds ended.made.now.words last_words ended.decides)
+
+    pub went_answered : (z : Plain) → z.entries ≡ q.entries ++ next_entry k x.number call r ∷ [] → KeptButEntries q z → x.refusing ≡ false
+        → Went o i x (record { under = Nothing; refusing = false; taken = x.taken; number = suc x.number }) p z (Answered k r)
+    went_answered z more kept going =
+        let y : ClientState = record { under = Nothing; refusing = false; taken = x.taken; number = suc x.number } in
+        let so3 = so2 last (unlinked ended.tag) r ended.made acc later last_adds ended.made.now.words last_words ended.decides in
+        let stock : (view_at z i).pass.stock ≡ stock_at o.setup (suc i) x.taken = ap (λ (s : View). s.pass.stock) (view2 last (unlinked ended.tag) r ended.made acc later last_adds ended.made.now.words last_words ended.decides z more kept ∙ so3.view) ∙ stock_kept last false (history p) v (unlinked ended.tag) tt ∙ st.stock in
+        record {
+          access = access i (act_of last (unlinked ended.tag)) false;
+          entry = Some (next_entry k x.number call r);
+          moved = moved2 last (unlinked ended.tag) r ended.made acc later last_adds ended.made.now.words last_words ended.decides z more kept;
+          stands = stands2 last (unlinked ended.tag) r ended.made acc later last_adds ended.made.now.words last_words ended.decides z more kept y refl stock tt;
+          follows = λ d h. (step2 last (unlinked ended.tag) r ended.made acc later last_adds ended.made.now.words last_words ended.decides z more kept d (Answered k r) h going (sym seat, (plain, refl)), record { refusing = refl; under = refl });
+          longer = λ b. absurd (b refl);
+          spent = subst (λ (u : Underway). x.taken ≤ spent_by u x.taken) (sym is) (omega arith);
+        }
+
+  -- the exchange that linked the own tag
+  module _ (t : TagParts) (f : PutAccess i x.refusing c n p q (Decided t)) where
+    abbrev tail : ℕ
+    tail = f.step.answer.0
+
+    abbrev link : Step
+    link = LinkNext c.walk.slot tail c.own (call_at c v)
+
+    later3 : c.walk.first ≡ false
+    later3 = (at_stage c (AtLink tail) v f.step.answer.1 under.2).1.1
+
+    hit : f.step.made.0 ≡ unlinked tail
+    hit = linked_hit c tail f.step.made.0 f.step.answer.1 (sym f.step.answer.2 ∙ f.step.made.2)
+
+    made3 : Made p.setup.pool link false v (Some (open_of p)) (unlinked tail) w (Some (open_of q))
+    made3 =
+        subst (λ (a : ℕ). Made p.setup.pool link false v (Some (open_of p)) a w (Some (open_of q))) hit
+        (subst (λ (b : Bool). Made p.setup.pool link b v (Some (open_of p)) f.step.made.0 w (Some (open_of q))) later3
+        (subst (λ (a : Step). Made p.setup.pool a c.walk.first v (Some (open_of p)) f.step.made.0 w (Some (open_of q))) (at_step c (AtLink tail) v f.step.answer.1) f.step.made.1))
+
+    own_is : tag_number t ≡ c.own
+    own_is = f.step.answer.3
+
+    abbrev reply : Reply
+    reply = reply_of c.own (call_at c v)
+
+    reply_is : reply ≡ reply_of (tag_number t) call
+    reply_is = λ j. reply_of (sym own_is j) (sym under.3 j)
+
+    link_adds : next_history link (history p) v (unlinked tail) ≡ history p ++ link_entry v (client v) (call_at c v) reply ∷ []
+    link_adds = ap (λ (b : Bool). cond b (history p ++ link_entry v (client v) (call_at c v) reply ∷ []) (history p)) (eq-eqb (unlinked tail) (unlinked tail) refl)
+
+    link_words : f.step.decided.made.now.words ≡ p.words
+    link_words = ap (λ (z : Open). z.words) (sym f.step.decided.made.tells.0)
+
+    owns : (rest : List ℕ) × (v.pass.stock ≡ c.own ∷ rest)
+    owns = (at_stage c (AtLink tail) v f.step.answer.1 under.2).0
+
+    has_stock : stock_at o.setup (suc i) x.taken ≡ c.own ∷ owns.0
+    has_stock = sym st.stock ∙ owns.1
+
+    entry_is : next_entry k x.number call reply ≡ next_entry k x.number call (reply_of (tag_number t) call)
+    entry_is = ap (next_entry k x.number call) reply_is
+
+    pub commit_enters : (history q ≡ q.entries ++ next_entry k x.number call (reply_of (tag_number t) call) ∷ []) × (q.opened ≡ true) × (x.taken < 2 ^ 32 - 1)
+    commit_enters =
+        let small = (stock_rest o.setup (suc i) x.taken c.own owns.0 has_stock).1 in let total = o.setup.pool.total_fits in (
+          to_enter link (unlinked tail) reply made3 f.accessed later3 link_adds f.step.decided.made.now.words link_words f.step.decided.decides ∙ ap (λ (e : Entry). q.entries ++ e ∷ []) entry_is,
+          open_still link (unlinked tail) reply made3 f.accessed later3 link_adds f.step.decided.made.now.words link_words f.step.decided.decides,
+          omega arith,
+        )
+
+    module _ (z : Plain) (enters : z.entries ≡ q.entries ++ next_entry k x.number call (reply_of (tag_number t) call) ∷ []) (kept : KeptButEntries q z) where
+      more3 : z.entries ≡ q.entries ++ next_entry k x.number call reply ∷ []
+      more3 = enters ∙ ap (λ (e : Entry). q.entries ++ e ∷ []) (sym entry_is)
+
+      view3 : view_at z i ≡ w
+      view3 = λ j. get_or (kept.views j) i (outset (kept.setup j))
+
+      view4 : view_at z i ≡ next_view false link (history p) v (unlinked tail)
+      view4 = view3 ∙ (so2 link (unlinked tail) reply made3 f.accessed later3 link_adds f.step.decided.made.now.words link_words f.step.decided.decides).view
+
+      stock3 : (view_at z i).pass.stock ≡ stock_at o.setup (suc i) (suc x.taken)
+      stock3 = ap (λ (s : View). s.pass.stock) view4 ∙ ap (λ (b : Bool). (cond b (link_view v (history p) (client v) c.walk.slot tail c.own (call_at c v) reply (rest_of v.pass.stock)) (seen c.walk.slot tail v (next_of (unlinked tail)))).pass.stock) (eq-eqb (unlinked tail) (unlinked tail) refl)
+          ∙ ap rest_of st.stock ∙ (stock_rest o.setup (suc i) x.taken c.own owns.0 has_stock).0
+
+      since3 : (view_at z i).pass.since ≡ since_of (Write c call) v ++ wrote_link tail c.own ∷ []
+      since3 = since2 link (unlinked tail) reply made3 f.accessed later3 link_adds f.step.decided.made.now.words link_words f.step.decided.decides z more3 kept
+
+      stage_is : n ≡ staged c (AtRaise tail)
+      stage_is = f.step.answer.2
+
+      later4 : n.walk.first ≡ false
+      later4 = ap (λ (m : Putting). m.walk.first) stage_is ∙ later3
+
+      since4 : since_of (Raise n) (view_at z i) ≡ since_of (Write c call) v ++ wrote_link tail c.own ∷ []
+      since4 = ap (λ (b : Bool). cond b [] (view_at z i).pass.since) later4 ∙ since3
+
+      name4 : call_at n (view_at z i) ≡ call
+      name4 = (λ j. call_at (stage_is j) (view_at z i)) ∙ ap (λ (l : List (ℕ × List ℕ)). call_of c.job (key_at l c.walk.slot) c.value) (names2 link (unlinked tail) reply made3 f.accessed later3 link_adds f.step.decided.made.now.words link_words f.step.decided.decides z more3 kept) ∙ sym under.3
+
+      own4 : n.own ≡ c.own
+      own4 = ap (λ (m : Putting). m.own) stage_is
+
+      pub went_decided : Went o i x (record { under = Raise n; refusing = false; taken = suc x.taken; number = suc x.number }) p z Quiet
+      went_decided =
+          let y : ClientState = record { under = Raise n; refusing = false; taken = suc x.taken; number = suc x.number } in
+          let wrote : Within (wrote_link tail n.own) (view_at z i).pass.since = subst (λ (s : ℕ). Within (wrote_link tail s) (view_at z i).pass.since) (sym own4) (subst (Within (wrote_link tail c.own)) (sym since3) (within_last (wrote_link tail c.own) (since_of (Write c call) v))) in
+          let is_since : since_of x.under v ≡ since_of (Write c call) v = ap (λ (u : Underway). since_of u v) is in
+          record {
+            access = access i (act_of link (unlinked tail)) false;
+            entry = Some (next_entry k x.number call reply);
+            moved = moved2 link (unlinked tail) reply made3 f.accessed later3 link_adds f.step.decided.made.now.words link_words f.step.decided.decides z more3 kept;
+            stands = stands2 link (unlinked tail) reply made3 f.accessed later3 link_adds f.step.decided.made.now.words link_words f.step.decided.decides z more3 kept y refl stock3
+                (tail, ap (λ (m : Putting). m.stage) stage_is, ap (λ (m : Putting). m.walk.pool) stage_is ∙ under.1, subst (PutHolds n) (sym view3) f.step.stands, wrote);
+            follows = λ d h.
+                let u : UnderMatches (Write c call) v d = subst (λ (s : Underway). UnderMatches s v d) is h.under in (
+                  step2 link (unlinked tail) reply made3 f.accessed later3 link_adds f.step.decided.made.now.words link_words f.step.decided.decides z more3 kept d Quiet h (exact_made x.refusing (Decided t) f.exact (λ s. s)) (commits_always c.own (call_at c v)),
+                  record { refusing = refl; under = ((u.0.0, u.0.1 ∙ ap (λ (s : Call). Some (ClientTask s u.0.0)) (sym name4)), (λ j. Some (reply_of (sym own4 j) ((sym under.3 ∙ sym name4) j))), ap (λ (l : List Act). l ++ wrote_link tail c.own ∷ []) u.2 ∙ sym since4) },
+                );
+            longer = λ b. ap length since4 ∙ length_more (wrote_link tail c.own) (since_of (Write c call) v) ∙ ap (λ (l : List Act). suc (length l)) (sym is_since);
+            spent = subst (λ (u : Underway). suc x.taken ≤ spent_by u x.taken) (sym is) (omega arith);
+          }
+
+-- the reply of a commit by its job
+stores_reply : (j : Job) (t : ℕ) (key : List ℕ) (y : Value) → Stores j → reply_of t (call_of j key y) ≡ StoredAs t
+stores_reply Put t key y h = refl
+stores_reply Delete t key y h = absurd h
+stores_reply (Swap e) t key y h = refl
+
+deletes_reply : (j : Job) (t : ℕ) (key : List ℕ) (y : Value) → Deletes j → reply_of t (call_of j key y) ≡ DeletedAs t
+deletes_reply Put t key y h = absurd h
+deletes_reply Delete t key y h = refl
+deletes_reply (Swap e) t key y h = absurd h
+
+lost_commit : (t : ℕ) (call : Call) → lost (Some (reply_of t call)) ≡ why.Linked t
+lost_commit t (GetCall key) = refl
+lost_commit t (PutCall key x) = refl
+lost_commit t (DeleteCall key) = refl
+lost_commit t (SwapCall key e x) = refl
+
+-- The access of a call that writes, behind its exchange.
+module _ (o : Opening) (i : ℕ) (x : ClientState) (c n : Putting) (p q : Plain) (k : ℕ) (seat : suc i ≡ k) (is : x.under ≡ Raise c) (st : Stands o p i x) (few : p.made < 2 ^ 64 - 1) where
+  abbrev v5 : View
+  v5 = view_at p i
+
+  abbrev w5 : View
+  w5 = view_at q i
+
+  under5 : (u : ℕ) × (c.stage ≡ AtRaise u) × (c.walk.pool ≡ o.setup.pool) × PutHolds c v5 × Within (wrote_link u c.own) v5.pass.since
+  under5 = subst (IsUnder o.setup.pool v5) is st.under
+
+  abbrev raise : Step
+  raise = RaiseNext (record { slot = c.walk.slot; from = under5.0; to = c.own })
+
+  later5 : c.walk.first ≡ false
+  later5 = (at_stage c (AtRaise under5.0) v5 under5.1 under5.3).1
+
+  -- the raise was made, and the answer is that of the reply that was decided
+  module _ (m : (a : ℕ) × Made p.setup.pool (put_step c v5) c.walk.first v5 (Some (open_of p)) a w5 (Some (open_of q)) × (n ≡ put_on c a)) (acc : Accessed i true p q) (going : x.refusing ≡ false) where
+    made5 : Made p.setup.pool raise false v5 (Some (open_of p)) m.0 w5 (Some (open_of q))
+    made5 =
+        subst (λ (b : Bool). Made p.setup.pool raise b v5 (Some (open_of p)) m.0 w5 (Some (open_of q))) later5
+        (subst (λ (a : Step). Made p.setup.pool a c.walk.first v5 (Some (open_of p)) m.0 w5 (Some (open_of q))) (at_step c (AtRaise under5.0) v5 under5.1) m.1)
+
+    so5 : MadeSo i p q raise false m.0
+    so5 = made_so i p q raise false m.0 few (seat_below o p i x st) st.role st.entered made5 acc
+
+    moved5 : Moved i (access i (act_of raise m.0) false) None p q
+    moved5 = moved_quiet i p q raise false m.0 so5 st.entered refl
+
+    flushes : (d : Doing) → d.since ≡ since_of (Raise c) v5 → Flushes c.own (d.since ++ act_of raise m.0 ∷ [])
+    flushes d e = record {
+      from = under5.0;
+      old = m.0;
+      before = d.since;
+      after = [];
+      all = refl;
+      wrote = subst (Within (wrote_link under5.0 c.own)) (sym (e ∙ ap (λ (b : Bool). cond b [] v5.pass.since) later5)) under5.4;
+    }
+
+    went_raised : (r : Reply) → ((d : Doing) → UnderMatches (Raise c) v5 d → IsAnswer d None (act_of raise m.0) r) → Went o i x (with_under x Nothing) p q (Answered k r)
+    went_raised r answers = record {
+      access = access i (act_of raise m.0) false;
+      entry = None;
+      moved = moved5;
+      stands = stands_moved o i x (with_under x Nothing) p q _ None st moved5 (stepped p.setup.pool raise false v5 _ m.0 w5 _ made5).pool (ap (λ (y : View). y.pass.role) so5.view ∙ role_kept raise false (history p) v5 m.0) (ap (λ (y : View). y.pass.names) so5.view ∙ names_kept raise false (history p) v5 m.0)
+          (ap (λ (y : View). y.pass.stock) so5.view ∙ stock_kept raise false (history p) v5 m.0 tt ∙ st.stock) (number_same x.number (suc i) p.entries q.entries st.number moved5.entries) tt;
+      follows = λ d h.
+          let u : UnderMatches (Raise c) v5 d = subst (λ (y : Underway). UnderMatches y v5 d) is h.under in
+          (step_made o i d p.words (length (own p.entries (suc i))) (act_of raise m.0) None (Answered k r) (ClientTask (call_at c v5) u.0.0) u.0.1 (sym h.refusing ∙ going) (subst (λ (y : Setup). CameBack y.pool p.words (act_of raise m.0)) st.setup so5.came) tt (λ z. absurd z) (sym seat, answers d u), record { refusing = refl; under = refl });
+      longer = λ b. absurd (b refl);
+      spent = subst (λ (u : Underway). x.taken ≤ spent_by u x.taken) (sym is) (omega arith);
+    }
+
+    pub went_stored : (t : ℕ) → t ≡ c.own → Stores c.job → Went o i x (with_under x Nothing) p q (Answered k (StoredAs t))
+    went_stored t e j = subst (λ (s : ℕ). Went o i x (with_under x Nothing) p q (Answered k (StoredAs s))) (sym e) (went_raised (StoredAs c.own) (λ d u. (u.1 ∙ ap (λ (r : Reply). Some r) (stores_reply c.job c.own (key_at v5.pass.names c.walk.slot) c.value j), flushes d u.2)))
+
+    pub went_deleted : (t : ℕ) → t ≡ c.own → Deletes c.job → Went o i x (with_under x Nothing) p q (Answered k (DeletedAs t))
+    went_deleted t e j = subst (λ (s : ℕ). Went o i x (with_under x Nothing) p q (Answered k (DeletedAs s))) (sym e) (went_raised (DeletedAs c.own) (λ d u. (u.1 ∙ ap (λ (r : Reply). Some r) (deletes_reply c.job c.own (key_at v5.pass.names c.walk.slot) c.value j), flushes d u.2)))
+
+  -- the raise was refused
+  pub went_linked : (t : ℕ) → t ≡ c.own → w5 ≡ v5 → Accessed i true p q → x.refusing ≡ true → Went o i x (with_under x Nothing) p q (Refused k (why.Linked t))
+  went_linked t e same acc refused =
+      let so6 : RefusedSo i p q = refused_so i p q (seat_below o p i x st) same acc in
+      let moved6 = moved_refused i p q so6 st.entered in
+      record {
+        access = access i so6.act true;
+        entry = None;
+        moved = moved6;
+        stands = stands_moved o i x (with_under x Nothing) p q _ None st moved6 (ap (λ (z : View). z.pass.pool) same) (ap (λ (z : View). z.pass.role) same) (ap (λ (z : View). z.pass.names) same) (ap (λ (z : View). z.pass.stock) same ∙ st.stock) (number_same x.number (suc i) p.entries q.entries st.number moved6.entries) tt;
+        follows = λ d h.
+            let u : UnderMatches (Raise c) v5 d = subst (λ (z : Underway). UnderMatches z v5 d) is h.under in
+            let told : why.Linked t ≡ lost d.decided = ap why.Linked e ∙ sym (lost_commit c.own (call_at c v5)) ∙ sym (ap lost u.1) in
+            (step_refused o i d p.words (length (own p.entries (suc i))) so6.act (Refused k (why.Linked t)) (ClientTask (call_at c v5) u.0.0) u.0.1 (sym h.refusing ∙ refused) so6.blank (λ j. Refused (sym seat j) (told j)), record { refusing = refl; under = refl });
+        longer = λ b. absurd (b refl);
+        spent = subst (λ (u : Underway). x.taken ≤ spent_by u x.taken) (sym is) (omega arith);
+      }
