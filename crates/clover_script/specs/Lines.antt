@@ -1,14 +1,12 @@
--- which texts are scripts of clients' lines, and which line of a text that is none is the first that is
--- not built
+-- which texts are scripts, and which line of a text that is none is the first that is not built
 use Rattle.std.specs.Prelude.{◌≡◌, ℕ, ◌+◌, ◌<◌, ◌≤◌, ◌==◌, ◌⊎◌, if◌then◌else◌, List, [], ◌∷◌, ◌++◌, length, flat_map, All, Contains}
 use Rattle.clover_words.specs.declared.setup.Setup.{Setup}
 use Rattle.clover_words.specs.Preset.{buffers_total, HasDealt}
 use Rattle.clover_map.specs.declared.call.Call.{Call}
 use Rattle.clover_map.specs.declared.call.Call.TheVariants.{Get, Put, Delete, Swap}
 use Rattle.clover_map.specs.History.{key_of}
-use Rattle.clover_script.specs.Line.{lines_of, pool_line, numbers_of, IsIgnored, Asked, client, Spoken, says_begin, says_step, says_finish, says_call, says_refuse, IsSpoken, line_text}
+use Rattle.clover_script.specs.Line.{lines_of, pool_line, numbers_of, IsPoolLine, IsBadPool, IsIgnored, Asked, client, Spoken, says_begin, says_step, says_finish, says_call, says_refuse, IsSpoken, line_text}
 use Rattle.clover_script.specs.Naming.{Names}
-use Rattle.clover_script.specs.Script.{IsPoolLine, IsBadPool}
 
 -- the calls that a line asks for: one or none
 abbrev pub asked_calls : Asked → List Call

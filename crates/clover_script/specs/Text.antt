@@ -61,10 +61,6 @@ call_text (Put k v) = codes "put " ++ coded k ++ codes " " ++ value_text v
 call_text (Delete k) = codes "delete " ++ coded k
 call_text (Swap k e v) = codes "swap " ++ coded k ++ codes " " ++ tag_text e ++ codes " " ++ value_text v
 
--- the line of a client's answer
-abbrev pub answer_line : Entry → List ℕ
-answer_line e = decimal e.client ++ codes " " ++ reply_text e.reply ++ codes "\n"
-
 -- the line of an entry of the first run, which stands
 abbrev pub entry_line : Entry → List ℕ
 entry_line e = codes "h 1 " ++ decimal e.client ++ codes " " ++ decimal e.number ++ codes " " ++ call_text e.call ++ codes " " ++ reply_text e.reply ++ codes "\n"

@@ -6,9 +6,9 @@ ghost use Rattle.clover_map.specs.declared.call.Call.{Call};
 ghost use Rattle.clover_script.specs.Lines.{takes};
 
 use crate::check::Outline;
-use crate::form::pool_line_of;
 use crate::keys::{Names, key_in};
 use crate::line::{Line, Task};
+use crate::pool_line::pool_line_of;
 use crate::reader::{is_ignored, line_of};
 use clover_map::{Call, OutOfMemory};
 use clover_words::{Setup, dealt};
