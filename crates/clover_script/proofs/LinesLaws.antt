@@ -1,6 +1,6 @@
 -- scripts are read in one way
 use Rattle.std.proofs.Common.{◌≡◌, ◌<◌, ◌≤◌, ◌+◌, ◌⊎◌, ℕ, List, [], ◌∷◌, ◌++◌, length, refl, sym, ap, subst, ◌∙◌, inl, inr, arith, append_assoc}
-use Rattle.std.proofs.lemmas.List.Elements.{All-nil, All-cons, All-head, All-tail}
+use Rattle.std.proofs.lemmas.List.Elements.{All-head, All-tail}
 use Rattle.std.proofs.lemmas.Bool.Decides.{leb_tells}
 use Rattle.std.specs.Prelude.{All, flat_map}
 use Rattle.clover_words.specs.declared.setup.Setup.{Setup}
@@ -45,16 +45,14 @@ say_split (l ∷ xs) ys said (inr (s, rest, is, e, f, h)) =
     let r = say_split xs ys rest h in
     (s ∷ r.0, r.1, f ∙ ap (λ (m : List Spoken). s ∷ m) r.2, inr (s, r.0, is, e, refl, r.3), r.4)
 
+-- lists that are equal have equal parts
 same_parts : {A : Type 0} (x y : A) (xs ys : List A) → x ∷ xs ≡ y ∷ ys → (x ≡ y) × (xs ≡ ys)
 same_parts x y xs ys e = let a : x ≡ y = cc in let b : xs ≡ ys = cc in (a, b)
 
+-- what holds of all holds of one
 all_at : {A : Type 0} (P : A → Type 0) (xs : List A) (x : A) (ys : List A) → All P (xs ++ x ∷ ys) → P x
 all_at P [] x ys h = All-head P x ys h
 all_at P (z ∷ zs) x ys h = all_at P zs x ys (All-tail P z (zs ++ x ∷ ys) h)
-
-all_front : {A : Type 0} (P : A → Type 0) (xs ys : List A) → All P (xs ++ ys) → All P xs
-all_front P [] ys h = All-nil P
-all_front P (x ∷ xs) ys h = All-cons P x xs (All-head P x (xs ++ ys) h) (all_front P xs ys (All-tail P x (xs ++ ys) h))
 
 -- the first pool line behind lines that are passed over stands at one place
 same_opening : (a b : List (List ℕ)) (p q : List ℕ) (x y : List (List ℕ)) → All IsIgnored a → All IsIgnored b → IsPoolLine p → IsPoolLine q

@@ -11,7 +11,7 @@ use Rattle.clover_script.specs.declared.line.PoolLine.{PoolLine}
 use Rattle.clover_script.specs.Line.{pool_line, numbers_of, AreNumbers, HasBadNumbers}
 use Rattle.clover_script.specs.Split.{EndsNumber}
 use Rattle.clover_script.proofs.NumberLemmas.{one_number}
-use Rattle.clover_script.proofs.FormLemmas.{after_same}
+use Rattle.clover_script.proofs.SpellingLemmas.{after_same}
 
 -- what stands behind each number of a pool line
 abbrev pub batch_on : PoolLine → List ℕ

@@ -10,7 +10,7 @@ use Rattle.clover_script.specs.Line.{IsActor, AreTimes, pool_line, IsPoolLine, A
 use Rattle.clover_script.specs.Text.{call_text}
 use Rattle.clover_script.specs.Spelling.{SpellsCall, SpellsNoCall, SpellsAsked, SpellsNothingAsked}
 use Rattle.clover_script.proofs.PartLemmas.{number_split}
-use Rattle.clover_script.proofs.FormLemmas.{after_same, apart, one_client_call}
+use Rattle.clover_script.proofs.SpellingLemmas.{after_same, apart, one_client_call}
 use Rattle.clover_script.proofs.PoolLineLemmas.{pool_parts, nodes_on}
 
 one_asked : (s t : Asked) (a b : ℕ) → IsAsked a s → IsAsked b t → asked_text s ≡ asked_text t → s ≡ t

@@ -64,6 +64,7 @@ HasBadNumbers n =
 abbrev pub IsBadPool : List ℕ → Type 0
 IsBadPool line = (n : PoolLine) × AreNumbers n × (line ≡ pool_line n) × HasBadNumbers n
 
+-- a key as a script may have it: 1 to 250 bytes
 abbrev pub IsKey : List ℕ → Type 0
 IsKey k = (1 ≤ length k) × (length k ≤ 250) × AreBytes k
 
@@ -89,6 +90,7 @@ written (Swap k e v) = length v.bytes
 abbrev pub cut_value : Value → Value
 cut_value v = record { flags = v.flags; bytes = take 1024 v.bytes }
 
+-- a call whose value is cut so
 abbrev pub cut_call : Call → Call
 cut_call (Get k) = Get k
 cut_call (Put k v) = Put k (cut_value v)
@@ -115,6 +117,7 @@ pub data Asked : Type 0 where
 abbrev pub IsAsked : ℕ → Asked → Type 0
 IsAsked a (client call) = IsActor a × IsClientCall call
 
+-- the text of a task
 abbrev pub asked_text : Asked → List ℕ
 asked_text (client call) = call_text call
 

@@ -1,4 +1,4 @@
-// What the check of clients' lines keeps of the lines so far, and whether one more may stand behind them.
+// What the check of a script keeps of the lines so far, and whether one more may stand behind them.
 // Kept are the keys that they name, and how many buffers they take of each client's stock.
 ghost use Rattle.std.specs.Prelude.{◌≡◌, ◌+◌, ℕ, [], false, IsTrue, IfOk, slice_index, slice_set};
 ghost use Rattle.clover_words.specs.Preset.{HasDealt};
