@@ -1,5 +1,5 @@
 -- coded texts
-use Rattle.std.proofs.Common.{suc, get_or, ◌≡◌, ◌/◌, ◌%◌, ◌<◌, ℕ, Bool, true, false, List, [], ◌∷◌, ◌++◌, length, cond, refl, ap, subst, sym, ◌∙◌, arith}
+use Rattle.std.proofs.Common.{◌≡◌, ◌/◌, ◌%◌, ◌<◌, ℕ, Bool, true, false, List, [], ◌∷◌, ◌++◌, length, cond, refl, ap, subst, sym, ◌∙◌, arith}
 use Rattle.std.proofs.lemmas.Bool.{false≢true}
 use Rattle.std.proofs.lemmas.Bool.Decides.{nat_tests}
 use Rattle.clover_script.specs.Coded.{AreBytes, coded, coded_byte, hex_digit, is_plain}
@@ -51,10 +51,6 @@ one_front b after (c ∷ cs) h are e = (cs, are.1, (one_byte b c after (coded cs
 pub nowhere : (rest more : List ℕ) → AreBytes more → rest ≡ coded more → 0 < length rest → ((b : ℕ) (x : List ℕ) → b < 256 → rest ≡ coded_byte b ++ x → ⊥) → ⊥
 nowhere rest [] are e some none = omega (arith, ap length e)
 nowhere rest (b ∷ bs) are e some none = none b (coded bs) are.0 e
-
-pub are_bytes : (xs : List ℕ) → ((i : ℕ) → get_or xs i 0 < 256) → AreBytes xs
-are_bytes [] h = tt
-are_bytes (x ∷ xs) h = (h 0, are_bytes xs (λ i. h (suc i)))
 
 -- a coded text stands for one list of bytes
 pub one_text : (xs ys : List ℕ) → AreBytes xs → AreBytes ys → coded xs ≡ coded ys → xs ≡ ys

@@ -32,12 +32,6 @@ pub lacks_all : (b : ℕ) (text : List ℕ) → ((k : ℕ) → k < length text �
 lacks_all b [] none = tt
 lacks_all b (x ∷ xs) none = (none 0 (omega arith), lacks_all b xs (λ k l. none (suc k) (omega arith)))
 
--- a text is what stands before a place, the byte there, and what stands behind it
-pub cut_at : (text : List ℕ) (at : ℕ) → at < length text → text ≡ take at text ++ get_or text at 0 ∷ drop (suc at) text
-cut_at [] at h = absurd (omega arith)
-cut_at (x ∷ xs) zero h = refl
-cut_at (x ∷ xs) (suc n) h = ap (λ l. x ∷ l) (cut_at xs n (omega arith))
-
 -- a fact that holds anyway holds where there is nothing
 pub if_none : {A P : Type 0} (o : Option A) → P → IfNone o P
 if_none None p = p

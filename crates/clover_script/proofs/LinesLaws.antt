@@ -1,19 +1,18 @@
--- the lines of clients' scripts are read in one way
-use Rattle.std.proofs.Common.{zero, suc, ◌≡◌, ◌<◌, ◌≤◌, ◌+◌, ◌⊎◌, ℕ, Bool, true, false, List, [], ◌∷◌, ◌++◌, length, map, cond, refl, sym, ap, subst, ◌∙◌, inl, inr, arith, append_assoc}
-use Rattle.std.proofs.lemmas.List.Elements.{All-nil, All-cons, All-head, All-tail}
-use Rattle.std.proofs.lemmas.Bool.Decides.{nat_tests, leb_tells}
-use Rattle.std.specs.Prelude.{All, flat_map, nat_eq}
+-- scripts are read in one way
+use Rattle.std.proofs.Common.{◌≡◌, ◌<◌, ◌≤◌, ◌+◌, ◌⊎◌, ℕ, List, [], ◌∷◌, ◌++◌, length, refl, sym, ap, subst, ◌∙◌, inl, inr, arith, append_assoc}
+use Rattle.std.proofs.lemmas.List.Elements.{All-head, All-tail}
+use Rattle.std.proofs.lemmas.Bool.Decides.{leb_tells}
+use Rattle.std.specs.Prelude.{All, flat_map}
 use Rattle.clover_words.specs.declared.setup.Setup.{Setup}
-use Rattle.clover_words.specs.Preset.{HasDealt, buffers_total}
+use Rattle.clover_words.specs.Preset.{buffers_total}
 use Rattle.clover_map.specs.declared.call.Call.{Call}
-use Rattle.clover_map.specs.declared.call.Call.TheVariants.{Get, Put, Delete, Swap}
 use Rattle.clover_script.specs.declared.line.PoolLine.{PoolLine}
-use Rattle.clover_script.specs.Line.{pool_line, numbers_of, call_line, IsCall, IsIgnored, client, Spoken, says_call, IsSpoken, line_text}
-use Rattle.clover_script.specs.Naming.{Names, puts}
-use Rattle.clover_script.specs.Script.{IsPoolLine, HasBadNumbers, IsScript}
-use Rattle.clover_script.specs.Lines.{calls_in, takes, taken_by, taken, Supplies, Say, Opens, Before, unopened, begun, IsBefore, IsLinesOf, IsClientLine, IsUnbuiltLine, without_shape, too_early, bad_opening, second_opening, too_many_keys, too_many_taken, IsFirstUnbuiltLine, IsRefusedLine}
-use Rattle.clover_script.proofs.SpokenLemmas.{one_spoken, no_pool, not_ignored, pool_stays, first_text, first_spoken}
-use Rattle.clover_script.proofs.ScriptLaws.{one_pool, are_numbers, none_bad, same_parts, all_at, dealt_also, one_names, names_split, key_next, puts_first}
+use Rattle.clover_script.specs.Line.{pool_line, numbers_of, IsPoolLine, HasBadNumbers, IsIgnored, Spoken, IsSpoken, line_text}
+use Rattle.clover_script.specs.Naming.{Names}
+use Rattle.clover_script.specs.Lines.{calls_in, taken_by, taken, Supplies, Say, Opens, Before, unopened, begun, IsBefore, IsLinesOf, IsClientLine, IsUnbuiltLine, without_shape, too_early, bad_opening, second_opening, too_many_keys, too_many_taken, IsFirstUnbuiltLine, IsRefusedLine}
+use Rattle.clover_script.proofs.SpokenLemmas.{one_spoken, no_pool, not_ignored, pool_stays}
+use Rattle.clover_script.proofs.PoolLineLemmas.{one_pool, are_numbers, none_bad, dealt_also}
+use Rattle.clover_script.proofs.NamingLemmas.{one_names, names_split, key_next}
 
 not_over : (line : List ℕ) → IsClientLine line → IsIgnored line → ⊥
 not_over line (s, is, e) over = not_ignored s (subst IsIgnored e over)
@@ -46,9 +45,14 @@ say_split (l ∷ xs) ys said (inr (s, rest, is, e, f, h)) =
     let r = say_split xs ys rest h in
     (s ∷ r.0, r.1, f ∙ ap (λ (m : List Spoken). s ∷ m) r.2, inr (s, r.0, is, e, refl, r.3), r.4)
 
-all_front : {A : Type 0} (P : A → Type 0) (xs ys : List A) → All P (xs ++ ys) → All P xs
-all_front P [] ys h = All-nil P
-all_front P (x ∷ xs) ys h = All-cons P x xs (All-head P x (xs ++ ys) h) (all_front P xs ys (All-tail P x (xs ++ ys) h))
+-- lists that are equal have equal parts
+same_parts : {A : Type 0} (x y : A) (xs ys : List A) → x ∷ xs ≡ y ∷ ys → (x ≡ y) × (xs ≡ ys)
+same_parts x y xs ys e = let a : x ≡ y = cc in let b : xs ≡ ys = cc in (a, b)
+
+-- what holds of all holds of one
+all_at : {A : Type 0} (P : A → Type 0) (xs : List A) (x : A) (ys : List A) → All P (xs ++ x ∷ ys) → P x
+all_at P [] x ys h = All-head P x ys h
+all_at P (z ∷ zs) x ys h = all_at P zs x ys (All-tail P z (zs ++ x ∷ ys) h)
 
 -- the first pool line behind lines that are passed over stands at one place
 same_opening : (a b : List (List ℕ)) (p q : List ℕ) (x y : List (List ℕ)) → All IsIgnored a → All IsIgnored b → IsPoolLine p → IsPoolLine q
@@ -198,60 +202,3 @@ one_saying text s t said other keys names a b =
     let told = one_say b.0.rest said other (subst (λ (l : List (List ℕ)). Say l said) same.1 a.0.say) b.0.say in
     let named : Names [] (flat_map calls_in other) keys = subst (λ (l : List Spoken). Names [] (flat_map calls_in l) keys) told a.1.named in
     (one_pool (numbers_of s) (numbers_of t) (are_numbers s) (are_numbers t) same.0, told, one_names [] (flat_map calls_in other) keys names named b.1.named)
-
-abbrev first_says : Call → Spoken
-first_says call = says_call 1 (client call)
-
--- the lines of calls that are built so far
-say_calls : (calls : List Call) → All IsCall calls → Say (map call_line calls) (map first_says calls)
-say_calls [] all = refl
-say_calls (c ∷ cs) all =
-    inr (first_says c, map first_says cs, first_spoken c (All-head IsCall c cs all), first_text c, refl, say_calls cs (All-tail IsCall c cs all))
-
-calls_back : (calls : List Call) → flat_map calls_in (map first_says calls) ≡ calls
-calls_back [] = refl
-calls_back (c ∷ cs) = ap (λ (l : List Call). c ∷ l) (calls_back cs)
-
-one_taken : (b : Bool) (call : Call) → IsCall call → cond b (takes call) 0 ≤ puts (call ∷ [])
-one_taken true (Get k) is = omega arith
-one_taken true (Put k v) is = omega arith
-one_taken true (Delete k) is = absurd is
-one_taken true (Swap k e v) is = absurd is
-one_taken false call is = omega arith
-
-taken_puts : (c : ℕ) (calls : List Call) → All IsCall calls → taken c (map first_says calls) ≤ puts calls
-taken_puts c [] all = omega arith
-taken_puts c (d ∷ ds) all =
-    let here = one_taken (nat_eq 1 c) d (All-head IsCall d ds all) in
-    let rest = taken_puts c ds (All-tail IsCall d ds all) in
-    omega (arith, here, rest, puts_first d ds)
-
-not_one : (c k : ℕ) → (1 ≡ c → ⊥) → cond (nat_eq 1 c) k 0 ≡ 0
-not_one c k h = grind (arith, nat_tests)
-
-none_taken : (c : ℕ) (calls : List Call) → (1 ≡ c → ⊥) → taken c (map first_says calls) ≡ 0
-none_taken c [] h = refl
-none_taken c (d ∷ ds) h = let r = none_taken c ds h in let q = not_one c (takes d) h in omega (arith, r, q)
-
-first_stock : (s : Setup) (calls : List Call) → All IsCall calls → ((put : ℕ) → put < puts calls → HasDealt s 1 put) → (c n : ℕ) → n < taken c (map first_says calls) → HasDealt s c n
-first_stock s calls all stock zero n lt = absurd (omega (arith, none_taken 0 calls (λ e. omega (arith, e))))
-first_stock s calls all stock (suc zero) n lt = stock n (omega (arith, taken_puts 1 calls all))
-first_stock s calls all stock (suc (suc c)) n lt = absurd (omega (arith, none_taken (suc (suc c)) calls (λ e. omega (arith, e))))
-
--- a script of the calls of client 1 is one of clients' lines
-pub script_lines : (text : List ℕ) (s : Setup) (calls : List Call) (keys : List (List ℕ)) → IsScript text s calls keys → IsLinesOf text s (map first_says calls) keys
-script_lines text s calls keys script = (
-  record {
-    over = [];
-    rest = map call_line calls;
-    parts = script.lines;
-    ignored = All-nil IsIgnored;
-    say = say_calls calls script.start.1.each;
-    enough = script.start.0;
-  },
-  record {
-    named = subst (λ (l : List Call). Names [] l keys) (sym (calls_back calls)) script.start.1.named;
-    slots = script.start.1.slots;
-    stock = first_stock s calls script.start.1.each script.start.1.stock;
-  },
-)

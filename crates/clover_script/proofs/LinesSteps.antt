@@ -1,4 +1,4 @@
--- one more line of a script of clients' lines, for a check that reads them one behind the other
+-- one more line of a script, for a check that reads them one behind the other
 use Rattle.std.proofs.Common.{◌≡◌, ◌<◌, ◌≤◌, ◌+◌, ℕ, Bool, true, false, List, [], ◌∷◌, ◌++◌, length, cond, refl, sym, ap, subst, ◌∙◌, inl, inr, arith, append_assoc, append-nil}
 use Rattle.std.proofs.lemmas.List.Elements.{All-nil, All-cons, All-append}
 use Rattle.std.proofs.lemmas.Bool.Decides.{leb_tells}
@@ -7,11 +7,11 @@ use Rattle.clover_words.specs.declared.setup.Setup.{Setup}
 use Rattle.clover_words.specs.Preset.{HasDealt, buffers_total}
 use Rattle.clover_map.specs.declared.call.Call.{Call}
 use Rattle.clover_map.specs.declared.call.Call.TheVariants.{Get, Put, Delete, Swap}
-use Rattle.clover_map.specs.History.{key_of}
 use Rattle.clover_script.specs.Line.{pool_line, numbers_of, IsIgnored, Asked, client, Spoken, says_begin, says_step, says_finish, says_call, says_refuse, IsSpoken, line_text}
 use Rattle.clover_script.specs.Naming.{Names}
 use Rattle.clover_script.specs.Lines.{calls_in, takes, asked_takes, taken_by, taken, Say, Opens, unopened, begun, IsBefore}
 use Rattle.clover_script.proofs.LinesLaws.{calls_append, taken_append}
+use Rattle.clover_script.proofs.NamingLemmas.{names_append}
 
 -- a line that is passed over changes nothing
 say_over : (lines : List (List ℕ)) (said : List Spoken) (l : List ℕ) → Say lines said → IsIgnored l → Say (lines ++ l ∷ []) said
@@ -50,11 +50,6 @@ before_first lines s l all e enough = (
   record { over = lines; rest = []; parts = ap (λ (p : List ℕ). lines ++ p ∷ []) e; ignored = all; say = refl; enough = enough },
   record { named = refl; slots = omega arith; stock = λ c n lt. absurd (omega (arith, lt)) },
 )
-
-names_append : (before : List (List ℕ)) (xs ys : List Call) (between after : List (List ℕ)) → Names before xs between → Names between ys after → Names before (xs ++ ys) after
-names_append before [] ys between after h k = subst (λ (b : List (List ℕ)). Names b ys after) h k
-names_append before (c ∷ cs) ys between after (inl h) k = inl (h.0, names_append before cs ys between after h.1 k)
-names_append before (c ∷ cs) ys between after (inr h) k = inr (h.0, names_append (before ++ key_of c ∷ []) cs ys between after h.1 k)
 
 takes_most : (b : Bool) (call : Call) → cond b (takes call) 0 ≤ 1
 takes_most true (Get k) = omega arith

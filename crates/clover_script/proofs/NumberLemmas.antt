@@ -1,5 +1,5 @@
 -- numbers at the front of a text
-use Rattle.std.proofs.Common.{zero, suc, ◌≡◌, ◌<◌, ◌+◌, ◌%◌, ◌^◌, ℕ, List, [], ◌∷◌, ◌++◌, length, get_or, take, drop, refl, arith}
+use Rattle.std.proofs.Common.{zero, suc, ◌≡◌, ◌<◌, ◌+◌, ◌%◌, ◌^◌, ℕ, List, [], ◌∷◌, ◌++◌, length, get_or, take, refl, arith}
 use Rattle.std.specs.Fmt.{decimal}
 use Rattle.std.proofs.lemmas.Fmt.{decimal_by_steps, decimal_injective}
 use Rattle.clover_script.specs.Split.{IsDigit, AreDigits, EndsNumber}
@@ -21,11 +21,6 @@ digits_front_of (x ∷ xs) (suc n) all = (all 0 (omega arith), digits_front_of x
 pub digits_all : (text : List ℕ) → ((k : ℕ) → k < length text → IsDigit (get_or text k 0)) → AreDigits text
 digits_all [] all = tt
 digits_all (x ∷ xs) all = (all 0 (omega arith), digits_all xs (λ k l. all (suc k) (omega arith)))
-
-pub ends_at : (text : List ℕ) (at : ℕ) → at < length text → (IsDigit (get_or text at 0) → ⊥) → EndsNumber (drop at text)
-ends_at [] at h none = absurd (omega arith)
-ends_at (x ∷ xs) zero h none = none
-ends_at (x ∷ xs) (suc n) h none = ends_at xs n (omega arith) none
 
 -- a text is in one way some digits and what no digit begins
 pub one_cut : (d e x y : List ℕ) → AreDigits d → AreDigits e → EndsNumber x → EndsNumber y → d ++ x ≡ e ++ y → (d ≡ e) × (x ≡ y)

@@ -1,20 +1,17 @@
 -- the lines of clients, as they are written and as they are kept
-use Rattle.std.proofs.Common.{◌≡◌, ◌<◌, ◌≤◌, ◌^◌, ℕ, Option, Some, None, List, ◌∷◌, ◌++◌, length, sym, ap, subst, ◌∙◌, inl, inr, arith}
-use Rattle.std.specs.Prelude.{decimal, codes, IfSome, IfNone}
-use Rattle.std.proofs.lemmas.Fmt.{decimal_digit, decimal_injective}
-use Rattle.clover_map.specs.declared.call.Call.{Call}
-use Rattle.clover_map.specs.declared.call.Call.TheVariants.{Get, Put, Delete, Swap}
+use Rattle.std.proofs.Common.{◌≡◌, ◌<◌, ◌^◌, ℕ, Option, Some, None, List, ◌∷◌, ◌++◌, length, sym, ap, subst, ◌∙◌, inl, inr, arith}
+use Rattle.std.specs.Prelude.{decimal, codes, IfSome}
+use Rattle.std.proofs.lemmas.Fmt.{decimal_injective}
 use Rattle.clover_script.specs.declared.line.PoolLine.{PoolLine}
 use Rattle.clover_script.specs.declared.line.Line.{Line}
 use Rattle.clover_script.specs.declared.line.Line.TheVariants as kept
-use Rattle.clover_script.specs.declared.line.Form.TheVariants.{Calls}
 use Rattle.clover_script.specs.declared.line.Task.{Task}
-use Rattle.clover_script.specs.Line.{IsActor, AreTimes, IsFormOf, pool_line, IsCall, IsClientCall, call_line, written, cut_call, task_of, Asked, client, IsAsked, asked_text, Spoken, says_begin, says_step, says_finish, says_call, says_refuse, IsSpoken, line_text, kept_line, IsLineOf, IsNoLine, IsIgnored}
+use Rattle.clover_script.specs.Line.{IsActor, AreTimes, pool_line, IsPoolLine, Asked, client, IsAsked, asked_text, Spoken, says_begin, says_step, says_finish, says_call, says_refuse, IsSpoken, line_text, kept_line, IsLineOf, IsIgnored}
 use Rattle.clover_script.specs.Text.{call_text}
-use Rattle.clover_script.specs.Form.{SpellsCall, SpellsNoCall, SpellsAsked, SpellsNothingAsked, IsBuilt, IsBuiltTask, call_in}
-use Rattle.clover_script.specs.Script.{IsPoolLine, IsCallLine}
+use Rattle.clover_script.specs.Spelling.{SpellsCall, SpellsNoCall, SpellsAsked, SpellsNothingAsked}
 use Rattle.clover_script.proofs.PartLemmas.{number_split}
-use Rattle.clover_script.proofs.FormLemmas.{after_same, apart, pool_parts, nodes_on, one_client_call, one_call, client_of, whole_call}
+use Rattle.clover_script.proofs.SpellingLemmas.{after_same, apart, one_client_call}
+use Rattle.clover_script.proofs.PoolLineLemmas.{pool_parts, nodes_on}
 
 one_asked : (s t : Asked) (a b : ℕ) → IsAsked a s → IsAsked b t → asked_text s ≡ asked_text t → s ≡ t
 one_asked (client c) (client d) a b p q e = ap client (one_client_call c d p.1 q.1 e)
@@ -98,68 +95,6 @@ apart_lines text = (
   λ line of. (λ pool. no_pool of.0 pool.0 (sym of.2 ∙ pool.2), λ over. not_ignored of.0 (subst IsIgnored of.2 over)),
   λ pool over. pool_stays pool.0 (subst IsIgnored pool.2 over),
 )
-
--- the line of a call that is built so far is one of client 1
-pub first_text : (call : Call) → call_line call ≡ line_text (says_call 1 (client call))
-first_text call = ap (λ (l : List ℕ). codes "call " ++ (l ++ 32 ∷ call_text call)) (sym (decimal_digit 1 (omega arith)))
-
-pub first_spoken : (call : Call) → IsCall call → IsSpoken (says_call 1 (client call))
-first_spoken call is = ((omega arith, omega arith), client_of call is)
-
-pub no_call_line : (text : List ℕ) → IsNoLine text → IsCallLine text → ⊥
-no_call_line text none (call, is, e) = none (says_call 1 (client call)) (first_spoken call is) (e ∙ first_text call)
-
--- so the reader keeps it
-pub first_kept : (text : List ℕ) (l : Line) (call : Call) → IsCall call → text ≡ call_line call → IsLineOf text l → l ≡ kept.Call 1 (task_of call)
-first_kept text l call is e (s, p, f, l_is) =
-    l_is ∙ ap kept_line (one_spoken s (says_call 1 (client call)) p (first_spoken call is) (sym f ∙ e ∙ first_text call))
-
-pub built_call : (call : Call) → IsCall call → IsBuiltTask (task_of call)
-built_call (Get k) is = tt
-built_call (Put k v) is = tt
-built_call (Delete k) is = is
-built_call (Swap k e v) is = is
-
-is_call : (call : Call) → IsClientCall call → IsBuilt (cut_call call) → IsCall call
-is_call (Get k) is built = is
-is_call (Put k v) is built = is
-is_call (Delete k) is built = absurd built
-is_call (Swap k e v) is built = absurd built
-
-same_actor : (a b : ℕ) (s t : Task) → kept.Call a s ≡ kept.Call b t → a ≡ b
-same_actor a b s t e = cc
-
-same_task : (a b : ℕ) (s t : Task) → kept.Call a s ≡ kept.Call b t → s ≡ t
-same_task a b s t e = cc
-
--- a line that is kept as a task of client 1 that is built so far
-pub built_form : (text : List ℕ) (l : Line) (task : Task) → IsLineOf text l → l ≡ kept.Call 1 task → IsBuiltTask task → IsFormOf text (Calls task)
-built_form text l task (says_call a (client call), is, e, l_is) same built =
-    let both : kept.Call a (task_of call) ≡ kept.Call 1 task = sym l_is ∙ same in
-    let one = same_actor a 1 (task_of call) task both in
-    let own = same_task a 1 (task_of call) task both in
-    let here : text ≡ line_text (says_call 1 (client call)) = e ∙ ap (λ (n : ℕ). line_text (says_call n (client call))) one in
-    (call, is_call call is.1 (subst IsBuiltTask (sym own) built), here ∙ sym (first_text call), sym own)
-built_form text l task (says_begin a x, is, e, l_is) same built = absurd (cc)
-built_form text l task (says_step a n, is, e, l_is) same built = absurd (cc)
-built_form text l task (says_finish a, is, e, l_is) same built = absurd (cc)
-built_form text l task (says_refuse a, is, e, l_is) same built = absurd (cc)
-
--- a task of a line that is one short call's has that call
-pub called : (line : List ℕ) (task : Task) (call : Call) → IsCall call → written call ≤ 1024 → line ≡ call_line call → IsFormOf line (Calls task)
-    → IsCall (call_in task) × (line ≡ call_line (call_in task))
-called line task call is short spelled (d, is_d, spelled_d, task_is) =
-    let same = one_call d call is_d is (sym spelled_d ∙ spelled) in
-    let own : call_in task ≡ call = ap call_in task_is ∙ ap cut_call same ∙ whole_call call short in
-    (subst IsCall (sym own) is, spelled ∙ ap call_line (sym own))
-
-pub first_found : (text : List ℕ) (l : Line) (o : Option Task) → IsLineOf text l → IfSome o (λ task. (l ≡ kept.Call 1 task) × IsBuiltTask task) → IfSome o (λ task. IsFormOf text (Calls task))
-first_found text l None is h = tt
-first_found text l (Some task) is h = built_form text l task is h.0 h.1
-
-pub first_none : (text : List ℕ) (l : Line) (o : Option Task) → IsLineOf text l → IfNone o ((task : Task) → IsBuiltTask task → l ≡ kept.Call 1 task → ⊥) → IfNone o (IsCallLine text → ⊥)
-first_none text l None is h = λ line. h (task_of line.0) (built_call line.0 line.1) (first_kept text l line.0 line.1 line.2 is)
-first_none text l (Some task) is h = tt
 
 -- the lines that the reader finds
 pub step_line : (line words : List ℕ) (o : Option Line) → line ≡ codes "step " ++ words

@@ -1,4 +1,4 @@
--- the lines of clients that are checked so far
+-- the lines of a script that are checked so far
 use Rattle.std.proofs.Common.{◌≡◌, ◌≤◌, ◌+◌, ℕ, Bool, false, Option, Some, None, Result, Ok, Err, List, [], ◌∷◌, ◌++◌, length, cond, refl, sym, ap, subst, ◌∙◌, inl, inr, arith, append_assoc, append-nil}
 use Rattle.std.proofs.lemmas.List.{length-append}
 use Rattle.std.proofs.lemmas.Bool.Decides.{nat_tests}
@@ -11,8 +11,7 @@ use Rattle.clover_script.specs.declared.check.Outline.{Outline}
 use Rattle.clover_script.specs.declared.line.Line.{Line}
 use Rattle.clover_script.specs.declared.line.PoolLine.{PoolLine}
 use Rattle.clover_script.specs.declared.tally.Tally.{Tally}
-use Rattle.clover_script.specs.Line.{AreNumbers, lines_of, pool_line, numbers_of, cut_call, IsActor, IsIgnored, client, Spoken, says_begin, says_step, says_finish, says_call, says_refuse, IsSpoken, line_text, kept_line, IsLineOf}
-use Rattle.clover_script.specs.Script.{HasBadNumbers}
+use Rattle.clover_script.specs.Line.{AreNumbers, lines_of, pool_line, numbers_of, HasBadNumbers, cut_call, IsActor, IsIgnored, client, Spoken, says_begin, says_step, says_finish, says_call, says_refuse, IsSpoken, line_text, kept_line, IsLineOf}
 use Rattle.clover_script.specs.Lines.{calls_in, takes, taken_by, taken, begun, unopened, IsBefore, IsLinesOf, IsUnbuiltLine, bad_opening, too_many_keys, too_many_taken}
 use Rattle.clover_script.specs.Tally.{Counts, AdmitsCall, BarsCall, AdmitsLine, BarsLine, Adds, Follows, FollowsNot}
 use Rattle.clover_script.proofs.LinesLaws.{taken_append}

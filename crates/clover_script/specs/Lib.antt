@@ -4,9 +4,8 @@ pub mod Laws
 pub mod Line
 pub mod Lines
 pub mod Naming
-pub mod Progress
-pub mod Script
 pub mod Slots
+pub mod Spelling
 pub mod Split
 pub mod Tally
 pub mod Text

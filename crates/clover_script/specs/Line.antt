@@ -1,6 +1,7 @@
--- the lines of a script: the pool line, the lines of clients, and the calls of client 1
-use Rattle.std.specs.Prelude.{◌≡◌, ℕ, ◌^◌, ◌<◌, ◌≤◌, ◌==◌, ◌⊎◌, if◌then◌else◌, List, [], ◌∷◌, ◌++◌, length, take, decimal, codes}
+-- the lines of a script: the pool line, and the lines of clients
+use Rattle.std.specs.Prelude.{◌≡◌, ℕ, ◌*◌, ◌^◌, ◌<◌, ◌≤◌, ◌==◌, ◌⊎◌, if◌then◌else◌, List, [], ◌∷◌, ◌++◌, length, take, decimal, codes, IsSome}
 use Rattle.clover_words.specs.declared.setup.Setup.{Setup}
+use Rattle.clover_words.specs.Range.{first_fault, first_setup_fault}
 use Rattle.clover_map.specs.declared.bytes.Value.{Value}
 use Rattle.clover_map.specs.declared.call.Call.{Call}
 use Rattle.clover_map.specs.declared.call.Call.TheVariants.{Get, Put, Delete, Swap}
@@ -9,8 +10,6 @@ use Rattle.clover_script.specs.declared.line.Task.{Task}
 use Rattle.clover_script.specs.declared.line.Task.TheVariants.{Client}
 use Rattle.clover_script.specs.declared.line.Line.{Line}
 use Rattle.clover_script.specs.declared.line.Line.TheVariants as kept
-use Rattle.clover_script.specs.declared.line.Form.{Form}
-use Rattle.clover_script.specs.declared.line.Form.TheVariants.{Pool, Calls}
 use Rattle.clover_script.specs.Coded.{AreBytes}
 use Rattle.clover_script.specs.Text.{call_text}
 
@@ -52,6 +51,20 @@ numbers_of s = record {
   batch = s.batch;
 }
 
+-- the text is a pool line, whether or not its numbers are in their ranges
+abbrev pub IsPoolLine : List ℕ → Type 0
+IsPoolLine line = (n : PoolLine) × AreNumbers n × (line ≡ pool_line n)
+
+-- a number of the pool line is out of range, or there are fewer buffers than slots
+abbrev pub HasBadNumbers : PoolLine → Type 0
+HasBadNumbers n =
+    IsSome (first_fault n.nodes n.buffers n.slots n.words n.wear) ⊎ (IsSome (first_setup_fault n.clients n.batch) ⊎ (n.nodes * n.buffers < n.slots))
+
+-- the text is a pool line that opens no script
+abbrev pub IsBadPool : List ℕ → Type 0
+IsBadPool line = (n : PoolLine) × AreNumbers n × (line ≡ pool_line n) × HasBadNumbers n
+
+-- a key as a script may have it: 1 to 250 bytes
 abbrev pub IsKey : List ℕ → Type 0
 IsKey k = (1 ≤ length k) × (length k ≤ 250) × AreBytes k
 
@@ -66,17 +79,6 @@ IsClientCall (Put k v) = IsKey k × IsWritten v
 IsClientCall (Delete k) = IsKey k
 IsClientCall (Swap k e v) = IsKey k × (e < 2 ^ 42) × IsWritten v
 
--- a call that is built so far: a get or a put
-abbrev pub IsCall : Call → Type 0
-IsCall (Get k) = IsKey k
-IsCall (Put k v) = IsKey k × IsWritten v
-IsCall (Delete k) = ⊥
-IsCall (Swap k e v) = ⊥
-
--- the line of a call that is built so far, which client 1 makes
-abbrev pub call_line : Call → List ℕ
-call_line call = codes "call 1 " ++ call_text call
-
 -- the length of the value that a call writes
 abbrev pub written : Call → ℕ
 written (Get k) = 0
@@ -88,6 +90,7 @@ written (Swap k e v) = length v.bytes
 abbrev pub cut_value : Value → Value
 cut_value v = record { flags = v.flags; bytes = take 1024 v.bytes }
 
+-- a call whose value is cut so
 abbrev pub cut_call : Call → Call
 cut_call (Get k) = Get k
 cut_call (Put k v) = Put k (cut_value v)
@@ -114,6 +117,7 @@ pub data Asked : Type 0 where
 abbrev pub IsAsked : ℕ → Asked → Type 0
 IsAsked a (client call) = IsActor a × IsClientCall call
 
+-- the text of a task
 abbrev pub asked_text : Asked → List ℕ
 asked_text (client call) = call_text call
 
@@ -164,8 +168,3 @@ IsNoLine text = (spoken : Spoken) → IsSpoken spoken → text ≡ line_text spo
 -- a line that is passed over: it is empty, or begins with the byte of a hash
 abbrev pub IsIgnored : List ℕ → Type 0
 IsIgnored line = (line ≡ []) ⊎ ((rest : List ℕ) × (line ≡ 35 ∷ rest))
-
--- what a line says that is built so far
-abbrev pub IsFormOf : List ℕ → Form → Type 0
-IsFormOf line (Pool n) = AreNumbers n × (line ≡ pool_line n)
-IsFormOf line (Calls task) = (call : Call) × IsCall call × (line ≡ call_line call) × (task ≡ task_of call)

@@ -1,19 +1,18 @@
--- which texts are scripts of clients' lines, and which line of a text that is none is the first that is
--- not built
+-- which texts are scripts, and which line of a text that is none is the first that is not built
 use Rattle.std.specs.Prelude.{◌≡◌, ℕ, ◌+◌, ◌<◌, ◌≤◌, ◌==◌, ◌⊎◌, if◌then◌else◌, List, [], ◌∷◌, ◌++◌, length, flat_map, All, Contains}
 use Rattle.clover_words.specs.declared.setup.Setup.{Setup}
 use Rattle.clover_words.specs.Preset.{buffers_total, HasDealt}
 use Rattle.clover_map.specs.declared.call.Call.{Call}
 use Rattle.clover_map.specs.declared.call.Call.TheVariants.{Get, Put, Delete, Swap}
 use Rattle.clover_map.specs.History.{key_of}
-use Rattle.clover_script.specs.Line.{lines_of, pool_line, numbers_of, IsIgnored, Asked, client, Spoken, says_begin, says_step, says_finish, says_call, says_refuse, IsSpoken, line_text}
+use Rattle.clover_script.specs.Line.{lines_of, pool_line, numbers_of, IsPoolLine, IsBadPool, IsIgnored, Asked, client, Spoken, says_begin, says_step, says_finish, says_call, says_refuse, IsSpoken, line_text}
 use Rattle.clover_script.specs.Naming.{Names}
-use Rattle.clover_script.specs.Script.{IsPoolLine, IsBadPool}
 
--- the calls that a line asks for: one or none
+-- the one call of a task
 abbrev pub asked_calls : Asked → List Call
 asked_calls (client call) = call ∷ []
 
+-- the calls that a line asks for: one or none
 abbrev pub calls_in : Spoken → List Call
 calls_in (says_begin a asked) = asked_calls asked
 calls_in (says_step a n) = []
@@ -28,10 +27,11 @@ takes (Put k v) = 1
 takes (Delete k) = 1
 takes (Swap k e v) = 1
 
--- how many buffers of client c a line takes, whether or not its call comes to write
+-- how many buffers of client c a task of client a takes, whether or not its call comes to write
 abbrev pub asked_takes : ℕ → ℕ → Asked → ℕ
 asked_takes c a (client call) = if a == c then takes call else 0
 
+-- how many buffers of client c a line takes
 abbrev pub taken_by : ℕ → Spoken → ℕ
 taken_by c (says_begin a asked) = asked_takes c a asked
 taken_by c (says_step a n) = 0
@@ -39,6 +39,7 @@ taken_by c (says_finish a) = 0
 taken_by c (says_call a asked) = asked_takes c a asked
 taken_by c (says_refuse a) = 0
 
+-- and how many some lines take
 abbrev pub taken : ℕ → List Spoken → ℕ
 taken c [] = 0
 taken c (s ∷ ss) = taken_by c s + taken c ss
@@ -72,6 +73,7 @@ pub data Before : Type 0 where
   unopened : Before
   begun : Setup → List Spoken → List (List ℕ) → Before
 
+-- The lines are what stands before: all are passed over, or they open and go on so.
 abbrev pub IsBefore : List (List ℕ) → Before → Type 0
 IsBefore lines unopened = All IsIgnored lines
 IsBefore lines (begun s said keys) = Opens lines s said × Supplies s said keys
@@ -82,6 +84,7 @@ IsLinesOf text s said keys = IsBefore (lines_of text) (begun s said keys)
 
 -- The six things that make a line one that is not built.
 
+-- it is a client's
 abbrev pub IsClientLine : List ℕ → Type 0
 IsClientLine line = (s : Spoken) × IsSpoken s × (line ≡ line_text s)
 
@@ -118,6 +121,7 @@ TakesTooMany unopened line = ⊥
 TakesTooMany (begun s said keys) line =
     (t : Spoken) × IsSpoken t × (line ≡ line_text t) × (c : ℕ) × (taken_by c t ≡ 1) × (HasDealt s c (taken c said) → ⊥)
 
+-- The line is not built behind what stands before it, for one of the six.
 pub data IsUnbuiltLine (before : Before) (line : List ℕ) : Type 0 where
   without_shape : HasNoShape line → IsUnbuiltLine before line
   too_early : IsTooEarly before line → IsUnbuiltLine before line

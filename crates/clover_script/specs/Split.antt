@@ -6,9 +6,11 @@ abbrev pub Lacks : ℕ → List ℕ → Type 0
 Lacks b [] = Unit {0}
 Lacks b (x ∷ xs) = (x ≢ b) × Lacks b xs
 
+-- the byte is a decimal digit
 abbrev pub IsDigit : ℕ → Type 0
 IsDigit b = (48 ≤ b) × (b ≤ 57)
 
+-- every byte is a decimal digit
 abbrev pub AreDigits : List ℕ → Type 0
 AreDigits [] = Unit {0}
 AreDigits (b ∷ bs) = IsDigit b × AreDigits bs

@@ -1,4 +1,4 @@
--- what the check of clients' lines keeps of the lines so far, and how one more line changes it
+-- what the check of a script keeps of the lines so far, and how one more line changes it
 use Rattle.std.specs.Prelude.{◌≡◌, ℕ, ◌+◌, ◌≤◌, ◌⊎◌, List, length, Contains, slice_index}
 use Rattle.clover_words.specs.Preset.{HasDealt}
 use Rattle.clover_map.specs.declared.call.Call.{Call}

@@ -45,9 +45,11 @@ side_text Flushed = codes "f"
 abbrev pub copy_text : Word → Side → List ℕ
 copy_text w side = side_text side ++ word_text w
 
+-- a value: an equals sign, and its bytes as a coded text
 abbrev pub value_text : Value → List ℕ
 value_text v = codes "=" ++ coded v.bytes
 
+-- a reply: what it is, its tag, and the value that was found
 abbrev pub reply_text : Reply → List ℕ
 reply_text (Stored t) = codes "stored " ++ tag_text t
 reply_text (Found t v) = codes "found " ++ tag_text t ++ codes " " ++ value_text v
@@ -55,15 +57,12 @@ reply_text Absent = codes "absent"
 reply_text (Deleted t) = codes "deleted " ++ tag_text t
 reply_text (Differs t) = codes "differs " ++ tag_text t
 
+-- a call: what it is, its key, the tag that it expects, and its value
 abbrev pub call_text : Call → List ℕ
 call_text (Get k) = codes "get " ++ coded k
 call_text (Put k v) = codes "put " ++ coded k ++ codes " " ++ value_text v
 call_text (Delete k) = codes "delete " ++ coded k
 call_text (Swap k e v) = codes "swap " ++ coded k ++ codes " " ++ tag_text e ++ codes " " ++ value_text v
-
--- the line of a client's answer
-abbrev pub answer_line : Entry → List ℕ
-answer_line e = decimal e.client ++ codes " " ++ reply_text e.reply ++ codes "\n"
 
 -- the line of an entry of the first run, which stands
 abbrev pub entry_line : Entry → List ℕ

@@ -4,14 +4,12 @@
 
 mod check;
 mod coded;
-mod form;
 mod keys;
 mod laws;
 mod line;
-mod lines;
 mod number;
 mod part;
-mod progress;
+mod pool_line;
 mod reader;
 mod split;
 mod tally;
@@ -22,20 +20,17 @@ mod text;
 mod told;
 mod word_name;
 
-pub use check::{Outline, ScriptFault, check_script};
+pub use check::{Outline, ScriptFault, check_lines};
 use clover_list::ItemList;
-pub use form::{call_on, form_of};
 pub use keys::Names;
 pub use laws::{
-    a_line_has_one_call, a_refusal_has_one_line, a_script_has_one_reading, a_script_is_lines,
     a_text_has_one_line, lines_are_apart, lines_are_refused_at_one, lines_have_one_reading,
-    no_lines_are_refused, no_script_is_refused,
+    no_lines_are_refused,
 };
-pub use line::{Form, Line, LineFault, PoolLine, Task};
-pub use lines::check_lines;
+pub use line::{Line, LineFault, PoolLine, Task};
 pub use reader::{is_ignored, line_of};
 pub use split::first_line;
-pub use text::{push_answer, push_call, push_entry, push_number, push_reply, push_tag};
+pub use text::{push_call, push_entry, push_number, push_reply, push_tag};
 pub use told::{push_behind, push_busy, push_linked, push_none, push_too_long, push_unreached};
 pub use word_name::{push_hex, push_word};
 

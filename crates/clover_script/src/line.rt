@@ -36,13 +36,6 @@ pub enum Line {
     Refuse { actor: u32 },
 }
 
-/// What one line says: the numbers of a pool, or a call of client 1.
-#[derive(Drop)]
-pub enum Form {
-    Pool(PoolLine),
-    Calls(Task),
-}
-
 /// What is wrong with a line: it is none of those that are built so far.
 #[derive(Clone, Copy, Debug, PartialEq, Eq)]
 pub enum LineFault {

@@ -1,7 +1,7 @@
 // What a line behind the pool line says. Takes memory for the bytes of a key and a value alone.
 ghost use Rattle.std.specs.Prelude.{◌≡◌, ◌↔◌, ℕ, List, ◌∷◌, ◌++◌, decimal, IsTrue, IfOk, IfSome, IfNone};
 ghost use Rattle.clover_script.specs.Line.{IsActor, AreTimes, IsLineOf, IsNoLine, IsIgnored};
-ghost use Rattle.clover_script.specs.Form.{IsNoTasklessLine};
+ghost use Rattle.clover_script.specs.Spelling.{IsNoTasklessLine};
 
 use crate::line::Line;
 use crate::part::{actor_front, actor_of, times_of};

@@ -1,4 +1,4 @@
-// What the check of clients' lines keeps of the lines so far, and whether one more may stand behind them.
+// What the check of a script keeps of the lines so far, and whether one more may stand behind them.
 // Kept are the keys that they name, and how many buffers they take of each client's stock.
 ghost use Rattle.std.specs.Prelude.{◌≡◌, ◌+◌, ℕ, [], false, IsTrue, IfOk, slice_index, slice_set};
 ghost use Rattle.clover_words.specs.Preset.{HasDealt};
@@ -6,9 +6,9 @@ ghost use Rattle.clover_map.specs.declared.call.Call.{Call};
 ghost use Rattle.clover_script.specs.Lines.{takes};
 
 use crate::check::Outline;
-use crate::form::pool_line_of;
 use crate::keys::{Names, key_in};
 use crate::line::{Line, Task};
+use crate::pool_line::pool_line_of;
 use crate::reader::{is_ignored, line_of};
 use clover_map::{Call, OutOfMemory};
 use clover_words::{Setup, dealt};

@@ -5,7 +5,7 @@ ghost use Rattle.clover_map.specs.declared.call.Call.{Call};
 ghost use Rattle.clover_script.specs.Coded.{coded};
 ghost use Rattle.clover_script.specs.Text.{tag_text, value_text};
 ghost use Rattle.clover_script.specs.Line.{IsKey, IsWritten};
-ghost use Rattle.clover_script.specs.Form.{SpellsValue, SpellsPut, SpellsSwap, SpellsCall, SpellsNoCall, SpellsAsked, SpellsNothingAsked};
+ghost use Rattle.clover_script.specs.Spelling.{SpellsValue, SpellsPut, SpellsSwap, SpellsCall, SpellsNoCall, SpellsAsked, SpellsNothingAsked};
 
 use crate::coded::decode;
 use crate::line::Task;

@@ -3,34 +3,15 @@
 
 use crate::number::number_of;
 use crate::{
-    Form, Line, LineFault, Outline, ScriptFault, Task, call_on, check_lines, check_script,
-    first_line, form_of, line_of, push_answer, push_behind, push_busy, push_call, push_entry,
-    push_hex, push_linked, push_none, push_number, push_tag, push_too_long, push_unreached,
-    push_word,
+    Line, LineFault, Outline, ScriptFault, Task, check_lines, first_line, line_of, push_behind,
+    push_busy, push_call, push_entry, push_hex, push_linked, push_none, push_number, push_reply,
+    push_tag, push_too_long, push_unreached, push_word,
 };
 use clover_map::{Bytes, Call, Entry, Key, Reply, Value};
 use clover_words::{Buffer, Side, Word};
 use std::alloc::Global;
 use std::process::Abort;
 use std::test::Fail;
-
-/// Four buffers, two slots, room for 16 bytes: client 1 has two buffers.
-const POOL: &[u8] = b"pool nodes=1 buffers=4 slots=2 words=2 wear=3 clients=1 batch=2\n";
-
-/// Asserts which line of the text is refused, where 0 is none.
-fn assert_refused(
-    rt: &impl Abort,
-    alloc: Global,
-    first: &[u8],
-    others: &[u8],
-    want: u64,
-) -> Result<(), Fail> {
-    let mut text = first.to_vec(alloc)?;
-    text.extend_from_slice(others)?;
-    assert!(rt; text.len() <= 16_777_216);
-    assert_eq!(rt; bad_line(check_script(alloc, &text))?, want);
-    Ok(())
-}
 
 /// The line that is refused, or 0 where the text is a script.
 fn bad_line(checked: Result<Outline, ScriptFault>) -> Result<u64, Fail> {
@@ -47,16 +28,11 @@ fn bad_line(checked: Result<Outline, ScriptFault>) -> Result<u64, Fail> {
 }
 
 /// Eight buffers, two slots and two clients: each client has three buffers.
-const PAIR: &[u8] = b"pool nodes=1 buffers=8 slots=2 words=2 wear=3 clients=2 batch=2\n";
+const POOL: &[u8] = b"pool nodes=1 buffers=8 slots=2 words=2 wear=3 clients=2 batch=2\n";
 
 /// Asserts which line of these lines behind the pool line is refused, where 0 is none.
-fn assert_lines_refused(
-    rt: &impl Abort,
-    alloc: Global,
-    others: &[u8],
-    want: u64,
-) -> Result<(), Fail> {
-    let mut text = PAIR.to_vec(alloc)?;
+fn assert_refused(rt: &impl Abort, alloc: Global, others: &[u8], want: u64) -> Result<(), Fail> {
+    let mut text = POOL.to_vec(alloc)?;
     text.extend_from_slice(others)?;
     assert!(rt; text.len() <= 16_777_216);
     assert_eq!(rt; bad_line(check_lines(alloc, &text))?, want);
@@ -64,9 +40,9 @@ fn assert_lines_refused(
 }
 
 #[test]
-fn names_the_first_bad_line_of_clients(rt: HostRuntime) -> Result<(), Fail> {
+fn names_the_first_bad_line(rt: HostRuntime) -> Result<(), Fail> {
     let alloc = rt.alloc();
-    let cases: [(&[u8], u64); 17] = [
+    let cases: [(&[u8], u64); 19] = [
         (b"", 0),
         (
             b"\n# a\ncall 1 put a =1\nbegin 2 get b\nstep 2 3\nrefuse 2\nfinish 2\n#",
@@ -80,11 +56,13 @@ fn names_the_first_bad_line_of_clients(rt: HostRuntime) -> Result<(), Fail> {
         // None of the forms.
         (b"jump 1\n", 2),
         (b" \n", 2),
+        (b"call 1 get a\r\n", 2),
+        (b"call 01 get a\n", 2),
         (b"#\n\ncall 1 get a \n#\n", 4),
         (b"call 17 get a\n", 2),
         (b"step 1 0\n", 2),
         // A second pool line.
-        (PAIR, 2),
+        (POOL, 2),
         (
             b"# a\npool nodes=1 buffers=8 slots=2 words=2 wear=3 clients=2 batch=2",
             3,
@@ -109,13 +87,13 @@ fn names_the_first_bad_line_of_clients(rt: HostRuntime) -> Result<(), Fail> {
         (b"begin 3 delete a\n", 2),
     ];
     for (others, want) in cases {
-        assert_lines_refused(&rt, alloc, others, want)?;
+        assert_refused(&rt, alloc, others, want)?;
     }
     Ok(())
 }
 
 #[test]
-fn refuses_what_opens_no_script_of_clients(rt: HostRuntime) -> Result<(), Fail> {
+fn refuses_what_opens_no_script(rt: HostRuntime) -> Result<(), Fail> {
     let alloc = rt.alloc();
     let cases: [(&[u8], u64); 10] = [
         // No pool line at all.
@@ -152,53 +130,9 @@ fn refuses_what_opens_no_script_of_clients(rt: HostRuntime) -> Result<(), Fail> 
 }
 
 #[test]
-fn names_the_first_bad_line(rt: HostRuntime) -> Result<(), Fail> {
+fn reads_pool_lines(rt: HostRuntime) -> Result<(), Fail> {
     let alloc = rt.alloc();
-    let cases: [(&[u8], u64); 24] = [
-        (b"", 0),
-        (b"call 1 get a", 0),
-        (b"call 1 get a\n", 0),
-        (b"\n", 2),
-        (b"\ncall 1 get a\n", 2),
-        (b"call 1 get a\n\n", 3),
-        (b"jump 1\n", 2),
-        (b"call 1 get a\njump 1\njump 2\n", 3),
-        (POOL, 2),
-        (b"call 1 get a \n", 2),
-        (b"call 1 get a\r\n", 2),
-        (b"call 1  get a\n", 2),
-        (b"call 1 get \n", 2),
-        (b"call 1 get\n", 2),
-        (b"call 2 get a\n", 2),
-        (b"call 01 get a\n", 2),
-        (b"call 1 delete a\n", 2),
-        (b"call 1 put a =0123456789abcdef\n", 0),
-        (b"call 1 put a =0123456789abcdefg\n", 2),
-        (b"call 1 put a =1\ncall 1 put a =2\n", 0),
-        (b"call 1 put a =1\ncall 1 put a =2\ncall 1 put a =3\n", 4),
-        (
-            b"call 1 get a\ncall 1 get b\ncall 1 get a\ncall 1 get b\n",
-            0,
-        ),
-        (b"call 1 get a\ncall 1 get b\ncall 1 get c\n", 4),
-        (
-            b"call 1 put a =1\ncall 1 get b\ncall 1 put b =2\ncall 1 get a",
-            0,
-        ),
-    ];
-    for (others, want) in cases {
-        assert_refused(&rt, alloc, POOL, others, want)?;
-    }
-    Ok(())
-}
-
-#[test]
-fn refuses_the_first_line(rt: HostRuntime) -> Result<(), Fail> {
-    let alloc = rt.alloc();
-    let cases: [(&[u8], u64); 20] = [
-        (b"", 1),
-        (b"\n", 1),
-        (b"call 1 get a\n", 1),
+    let cases: [(&[u8], u64); 17] = [
         (b"pool", 1),
         (
             b"pool nodes=16 buffers=4096 slots=16384 words=128 wear=1048575 clients=16 batch=64",
@@ -266,7 +200,7 @@ fn refuses_the_first_line(rt: HostRuntime) -> Result<(), Fail> {
         ),
     ];
     for (text, want) in cases {
-        assert_refused(&rt, alloc, text, b"", want)?;
+        assert_eq!(rt; bad_line(check_lines(alloc, text))?, want);
     }
     Ok(())
 }
@@ -294,7 +228,7 @@ fn reads_coded_texts(rt: HostRuntime) -> Result<(), Fail> {
         (b"call 1 put a =b c", 2),
     ];
     for (others, want) in cases {
-        assert_refused(&rt, alloc, POOL, others, want)?;
+        assert_refused(&rt, alloc, others, want)?;
     }
     Ok(())
 }
@@ -327,36 +261,6 @@ fn with_letters(alloc: Global, front: &[u8], letters: u32) -> Result<Vec<u8>, Fa
 }
 
 #[test]
-fn keeps_the_front_of_a_long_value(rt: HostRuntime) -> Result<(), Fail> {
-    let alloc = rt.alloc();
-    for (letters, kept) in [(1_024, 1_024), (1_025, 1_024), (65_535, 1_024)] {
-        let line = with_letters(alloc, b"call 1 put a =", letters)?;
-        let Some(Form::Calls(task)) = form_of(alloc, &line)? else {
-            return Err("a put".into());
-        };
-        let Task::Client { call, written } = task;
-        assert_eq!(rt; written, letters);
-        let Call::Put { value, .. } = call else {
-            return Err("a put".into());
-        };
-        assert_eq!(rt; value.bytes.items().len(), kept);
-    }
-    let line = with_letters(alloc, b"call 1 put a =", 65_536)?;
-    assert!(rt; form_of(alloc, &line)?.is_none());
-    Ok(())
-}
-
-#[test]
-fn reads_keys_of_up_to_250_bytes(rt: HostRuntime) -> Result<(), Fail> {
-    let alloc = rt.alloc();
-    for (letters, want) in [(1, 0), (250, 0), (251, 2)] {
-        let line = with_letters(alloc, b"call 1 get ", letters)?;
-        assert_refused(&rt, alloc, POOL, &line, want)?;
-    }
-    Ok(())
-}
-
-#[test]
 fn numbers_the_keys(rt: HostRuntime) -> Result<(), Fail> {
     let alloc = rt.alloc();
     let text = b"pool nodes=1 buffers=4 slots=2 words=2 wear=3 clients=1 batch=2
@@ -364,7 +268,7 @@ call 1 get b
 call 1 put a =1
 call 1 get b
 ";
-    let outline = match check_script(alloc, text) {
+    let outline = match check_lines(alloc, text) {
         Ok(outline) => outline,
         Err(_) => return Err("a script".into()),
     };
@@ -379,16 +283,19 @@ call 1 get b
 }
 
 #[test]
-fn reads_the_calls_again(rt: HostRuntime) -> Result<(), Fail> {
-    let alloc = rt.alloc();
-    let (line, rest) = first_line(b"call 1 get a\nx");
-    assert_eq!(rt; line, b"call 1 get a".as_slice());
-    assert_eq!(rt; rest, b"x".as_slice());
-    let Call::Get { key } = call_on(alloc, b"call 1 get a")? else {
-        return Err("a get".into());
-    };
-    assert_eq!(rt; key.bytes(), b"a".as_slice());
-    Ok(())
+fn cuts_the_first_line(rt: HostRuntime) {
+    let cases: [(&[u8], &[u8], &[u8]); 4] = [
+        (b"call 1 get a\nx", b"call 1 get a", b"x"),
+        (b"x", b"x", b""),
+        (b"x\n", b"x", b""),
+        (b"\n\nx", b"", b"\nx"),
+    ];
+    for (text, line, rest) in cases {
+        assert!(rt; !text.is_empty());
+        let (first, after) = first_line(text);
+        assert_eq!(rt; first, line);
+        assert_eq!(rt; after, rest);
+    }
 }
 
 fn value(alloc: Global, bytes: &[u8]) -> Result<Value, Fail> {
@@ -400,12 +307,12 @@ fn assert_prints(
     rt: &impl Abort,
     alloc: Global,
     entry: &Entry,
-    answer: &[u8],
+    reply: &[u8],
     line: &[u8],
 ) -> Result<(), Fail> {
     let mut out = Vec::new(alloc);
-    push_answer(&mut out, entry)?;
-    assert_eq!(rt; out.as_slice(), answer);
+    push_reply(&mut out, &entry.reply)?;
+    assert_eq!(rt; out.as_slice(), reply);
     let mut out = Vec::new(alloc);
     push_entry(&mut out, entry)?;
     assert_eq!(rt; out.as_slice(), line);
@@ -413,7 +320,7 @@ fn assert_prints(
 }
 
 #[test]
-fn prints_answers_and_entries(rt: HostRuntime) -> Result<(), Fail> {
+fn prints_replies_and_entries(rt: HostRuntime) -> Result<(), Fail> {
     let alloc = rt.alloc();
     let put = Entry {
         client: 1,
@@ -428,7 +335,7 @@ fn prints_answers_and_entries(rt: HostRuntime) -> Result<(), Fail> {
         &rt,
         alloc,
         &put,
-        b"1 stored 0.0.0\n",
+        b"stored 0.0.0",
         b"h 1 1 1 put a =hello stored 0.0.0\n",
     )?;
     let get = Entry {
@@ -446,7 +353,7 @@ fn prints_answers_and_entries(rt: HostRuntime) -> Result<(), Fail> {
         &rt,
         alloc,
         &get,
-        b"16 found 63.65535.1048575 =\n",
+        b"found 63.65535.1048575 =",
         b"h 1 16 18446744073709551615 get %00%20%25~%7f%ff found 63.65535.1048575 =\n",
     )?;
     let swap = Entry {
@@ -463,7 +370,7 @@ fn prints_answers_and_entries(rt: HostRuntime) -> Result<(), Fail> {
         &rt,
         alloc,
         &swap,
-        b"2 differs 0.1.0\n",
+        b"differs 0.1.0",
         b"h 1 2 7 swap a 0.2.3 =x%20y differs 0.1.0\n",
     )
 }
@@ -471,15 +378,15 @@ fn prints_answers_and_entries(rt: HostRuntime) -> Result<(), Fail> {
 #[test]
 fn prints_deletes(rt: HostRuntime) -> Result<(), Fail> {
     let alloc = rt.alloc();
-    for (tag, answer, line) in [
+    for (tag, printed, line) in [
         (
             Some(5),
-            b"1 deleted 0.0.5\n".as_slice(),
+            b"deleted 0.0.5".as_slice(),
             b"h 1 1 3 delete a deleted 0.0.5\n".as_slice(),
         ),
         (
             None,
-            b"1 absent\n".as_slice(),
+            b"absent".as_slice(),
             b"h 1 1 3 delete a absent\n".as_slice(),
         ),
     ] {
@@ -495,7 +402,7 @@ fn prints_deletes(rt: HostRuntime) -> Result<(), Fail> {
             },
             reply,
         };
-        assert_prints(&rt, alloc, &entry, answer, line)?;
+        assert_prints(&rt, alloc, &entry, printed, line)?;
     }
     Ok(())
 }
@@ -651,16 +558,18 @@ fn reads_long_keys_and_values(rt: HostRuntime) -> Result<(), Fail> {
         let text = with_letters(alloc, front, letters)?;
         assert_eq!(rt; line_of(alloc, &text)?.is_some(), want);
     }
-    let text = with_letters(alloc, b"begin 2 swap a 0.0.0 =", 65_535)?;
-    let Some(Line::Begin { actor: _, task }) = line_of(alloc, &text)? else {
-        return Err("a begin".into());
-    };
-    let Task::Client { call, written } = task;
-    assert_eq!(rt; written, 65_535);
-    let Call::Swap { value, .. } = call else {
-        return Err("a swap".into());
-    };
-    assert_eq!(rt; value.bytes.items().len(), 1_024);
+    for (letters, kept) in [(1_024, 1_024), (1_025, 1_024), (65_535, 1_024)] {
+        let text = with_letters(alloc, b"begin 2 swap a 0.0.0 =", letters)?;
+        let Some(Line::Begin { actor: _, task }) = line_of(alloc, &text)? else {
+            return Err("a begin".into());
+        };
+        let Task::Client { call, written } = task;
+        assert_eq!(rt; written, letters);
+        let Call::Swap { value, .. } = call else {
+            return Err("a swap".into());
+        };
+        assert_eq!(rt; value.bytes.items().len(), kept);
+    }
     Ok(())
 }
 

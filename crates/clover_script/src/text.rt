@@ -1,7 +1,7 @@
 // The printed texts of calls, replies and entries, each built at the end of a list of bytes. Every
 // error here is want of memory, and then a front of the text may stand there.
 ghost use Rattle.std.specs.Prelude.{◌≡◌, ◌++◌, decimal, OnOk};
-ghost use Rattle.clover_script.specs.Text.{tag_text, value_text, reply_text, call_text, answer_line, entry_line};
+ghost use Rattle.clover_script.specs.Text.{tag_text, value_text, reply_text, call_text, entry_line};
 ghost use Rattle.clover_script.specs.Coded.{coded};
 
 use crate::coded::push_coded;
@@ -100,17 +100,6 @@ pub fn push_call(out: &mut Vec<u8>, call: &Call) -> Result<(), AllocError>
             push_value(out, value)
         }
     }
-}
-
-/// Puts the line of a client's answer at the end: the client's number and the reply, ended by LF.
-pub fn push_answer(out: &mut Vec<u8>, entry: &Entry) -> Result<(), AllocError>
-    ensures ok { OnOk result (out.new.items ≡ out.old.items ++ answer_line entry.now) }
-{
-    push_number(out, u64::from(entry.client))?;
-    out.push(b' ')?;
-    push_reply(out, &entry.reply)?;
-    out.push(b'\n')?;
-    Ok(())
 }
 
 /// Puts the line of an entry of the history at the end, ended by LF: one that stands, of the first run.

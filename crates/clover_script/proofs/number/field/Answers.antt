@@ -1,6 +1,6 @@
 use Rattle.std.proofs.Common.{◌∙◌, ◌++◌, sym}
 use Rattle.std.specs.Prelude.{decimal}
-use Rattle.clover_script.proofs.FormLemmas.{after_same}
+use Rattle.clover_script.proofs.SpellingLemmas.{after_same}
 use Rattle.clover_script.proofs.number.field.Goals as goal
 
 pub returns-clause-only : goal.returns-clause-only

@@ -1,7 +1,7 @@
 use Rattle.std.proofs.Common.{ℕ}
 use Rattle.clover_script.specs.declared.line.Task.{Task}
-use Rattle.clover_script.specs.Form.{SpellsAsked}
-use Rattle.clover_script.proofs.FormLemmas.{some_is}
+use Rattle.clover_script.specs.Spelling.{SpellsAsked}
+use Rattle.clover_script.proofs.SpellingLemmas.{some_is}
 use Rattle.clover_script.proofs.SpokenLemmas.{begin_line, asked_line}
 use Rattle.clover_script.proofs.reader.line_of.Goals as goal
 

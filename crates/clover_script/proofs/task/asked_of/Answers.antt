@@ -1,5 +1,5 @@
-use Rattle.clover_script.specs.Form.{SpellsCall}
-use Rattle.clover_script.proofs.FormLemmas.{some_is, none_is}
+use Rattle.clover_script.specs.Spelling.{SpellsCall}
+use Rattle.clover_script.proofs.SpellingLemmas.{some_is, none_is}
 use Rattle.clover_script.proofs.SpokenLemmas.{asked_found, no_asked}
 use Rattle.clover_script.proofs.task.asked_of.Goals as goal
 

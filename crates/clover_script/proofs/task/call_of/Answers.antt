@@ -1,4 +1,4 @@
-use Rattle.clover_script.proofs.FormLemmas.{get_found, delete_found, put_found, swap_found}
+use Rattle.clover_script.proofs.SpellingLemmas.{get_found, delete_found, put_found, swap_found}
 use Rattle.clover_script.proofs.task.call_of.Goals as goal
 
 pub returns-in-Some-clause-found : goal.returns-in-Some-clause-found

@@ -1,5 +1,5 @@
 use Rattle.std.proofs.Common.{◌∙◌, ap, take, ℕ}
-use Rattle.clover_script.proofs.FormLemmas.{kept_front}
+use Rattle.clover_script.proofs.SpellingLemmas.{kept_front}
 use Rattle.clover_script.proofs.task.kept.Goals as goal
 
 pub returns-in-Ok : goal.returns-in-Ok

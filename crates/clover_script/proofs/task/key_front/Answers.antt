@@ -1,7 +1,7 @@
 use Rattle.std.proofs.Common.{◌∙◌, sym}
 use Rattle.clover_script.specs.Coded.{coded}
 use Rattle.clover_script.proofs.LineLemmas.{one_split, no_split}
-use Rattle.clover_script.proofs.FormLemmas.{coded_lacks, none_is}
+use Rattle.clover_script.proofs.SpellingLemmas.{coded_lacks, none_is}
 use Rattle.clover_script.proofs.task.key_front.Goals as goal
 
 pub returns-in_default-clause-none : goal.returns-in_default-clause-none

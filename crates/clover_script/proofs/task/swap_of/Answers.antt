@@ -3,9 +3,9 @@ use Rattle.clover_map.specs.declared.bytes.Value.{Value}
 use Rattle.clover_script.specs.Coded.{coded}
 use Rattle.clover_script.specs.Text.{tag_text, value_text}
 use Rattle.clover_script.specs.Line.{IsKey}
-use Rattle.clover_script.specs.Form.{SpellsValue}
+use Rattle.clover_script.specs.Spelling.{SpellsValue}
 use Rattle.clover_script.proofs.PartLemmas.{tag_split}
-use Rattle.clover_script.proofs.FormLemmas.{key_split, some_is, none_is}
+use Rattle.clover_script.proofs.SpellingLemmas.{key_split, some_is, none_is}
 use Rattle.clover_script.proofs.task.swap_of.Goals as goal
 
 pub returns-in_default-tag_front-clause-none : goal.returns-in_default-tag_front-clause-none

@@ -2,7 +2,7 @@ use Rattle.std.proofs.Common.{◌≡◌, ◌∙◌, [], ◌∷◌, List, ℕ, sy
 use Rattle.clover_map.specs.declared.bytes.Value.{Value}
 use Rattle.clover_script.specs.Coded.{coded, AreBytes}
 use Rattle.clover_script.proofs.CodedLemmas.{one_text}
-use Rattle.clover_script.proofs.FormLemmas.{after_same}
+use Rattle.clover_script.proofs.SpellingLemmas.{after_same}
 use Rattle.clover_script.proofs.task.value_of.Goals as goal
 
 pub returns-then-written-gt-LONGEST_WRITTEN-clause-none : goal.returns-then-written-gt-LONGEST_WRITTEN-clause-none

@@ -1,5 +1,5 @@
 use Rattle.clover_script.specs.Line.{IsLineOf}
-use Rattle.clover_script.proofs.FormLemmas.{some_is}
+use Rattle.clover_script.proofs.SpellingLemmas.{some_is}
 use Rattle.clover_script.proofs.TallyLemmas.{follows_if, follows_not_if}
 use Rattle.clover_script.proofs.tally.Tally.accept.Goals as goal
 

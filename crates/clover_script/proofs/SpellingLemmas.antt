@@ -1,18 +1,17 @@
--- the lines of a pool and of calls, read from their front
-use Rattle.std.proofs.Common.{zero, suc, ◌≡◌, ◌<◌, ◌≤◌, ◌/◌, ◌%◌, ℕ, Bool, true, false, Option, Some, None, Result, Ok, Err, List, [], ◌∷◌, ◌++◌, length, take, get_or, cond, min, refl, sym, ap, subst, ◌∙◌, arith, append_assoc, append-nil}
-use Rattle.std.specs.Prelude.{IfOk, IfSome, IfNone, decimal, codes}
+-- what the parts of a line spell, read from their front
+use Rattle.std.proofs.Common.{zero, suc, ◌≡◌, ◌<◌, ◌/◌, ◌%◌, ℕ, Bool, true, false, Option, Some, None, Result, Ok, Err, List, [], ◌∷◌, ◌++◌, length, take, get_or, cond, min, refl, sym, ap, subst, ◌∙◌, arith, append_assoc}
+use Rattle.std.specs.Prelude.{IfOk, IfSome, IfNone, codes}
 use Rattle.std.proofs.lemmas.Bool.Decides.{nat_tests}
 use Rattle.clover_map.specs.declared.bytes.Value.{Value}
 use Rattle.clover_map.specs.declared.call.Call.{Call}
 use Rattle.clover_map.specs.declared.call.Call.TheVariants.{Get, Put, Delete, Swap}
-use Rattle.clover_script.specs.declared.line.PoolLine.{PoolLine}
 use Rattle.clover_script.specs.declared.line.Task.{Task}
 use Rattle.clover_script.specs.declared.line.Task.TheVariants.{Client}
 use Rattle.clover_script.specs.Coded.{AreBytes, coded, is_plain, hex_digit}
-use Rattle.clover_script.specs.Split.{Lacks, EndsNumber}
-use Rattle.clover_script.specs.Line.{pool_line, IsKey, IsWritten, IsCall, IsClientCall, call_line, written, cut_value, cut_call}
+use Rattle.clover_script.specs.Split.{Lacks}
+use Rattle.clover_script.specs.Line.{IsKey, IsWritten, IsClientCall, cut_value}
 use Rattle.clover_script.specs.Text.{tag_text, value_text, call_text}
-use Rattle.clover_script.specs.Form.{SpellsPut, SpellsSwap, SpellsCall}
+use Rattle.clover_script.specs.Spelling.{SpellsPut, SpellsSwap, SpellsCall}
 use Rattle.clover_script.proofs.CodedLemmas.{one_text}
 use Rattle.clover_script.proofs.LineLemmas.{one_split}
 use Rattle.clover_script.proofs.PartLemmas.{tag_split}
@@ -20,71 +19,6 @@ use Rattle.clover_script.proofs.PartLemmas.{tag_split}
 pub after_same : (w x y : List ℕ) → w ++ x ≡ w ++ y → x ≡ y
 after_same [] x y e = e
 after_same (b ∷ bs) x y e = let t : bs ++ x ≡ bs ++ y = cc in after_same bs x y t
-
--- what stands behind each number of a pool line
-abbrev pub batch_on : PoolLine → List ℕ
-batch_on n = codes " batch=" ++ (decimal n.batch ++ [])
-
-abbrev pub clients_on : PoolLine → List ℕ
-clients_on n = codes " clients=" ++ (decimal n.clients ++ batch_on n)
-
-abbrev pub wear_on : PoolLine → List ℕ
-wear_on n = codes " wear=" ++ (decimal n.wear ++ clients_on n)
-
-abbrev pub words_on : PoolLine → List ℕ
-words_on n = codes " words=" ++ (decimal n.words ++ wear_on n)
-
-abbrev pub slots_on : PoolLine → List ℕ
-slots_on n = codes " slots=" ++ (decimal n.slots ++ words_on n)
-
-abbrev pub buffers_on : PoolLine → List ℕ
-buffers_on n = codes " buffers=" ++ (decimal n.buffers ++ slots_on n)
-
-abbrev pub nodes_on : PoolLine → List ℕ
-nodes_on n = codes "pool nodes=" ++ (decimal n.nodes ++ buffers_on n)
-
--- and none of it begins with a digit
-pub buffers_ends : (n : PoolLine) → EndsNumber (buffers_on n)
-buffers_ends n = λ h. omega (arith, h.0)
-
-pub slots_ends : (n : PoolLine) → EndsNumber (slots_on n)
-slots_ends n = λ h. omega (arith, h.0)
-
-pub words_ends : (n : PoolLine) → EndsNumber (words_on n)
-words_ends n = λ h. omega (arith, h.0)
-
-pub wear_ends : (n : PoolLine) → EndsNumber (wear_on n)
-wear_ends n = λ h. omega (arith, h.0)
-
-pub clients_ends : (n : PoolLine) → EndsNumber (clients_on n)
-clients_ends n = λ h. omega (arith, h.0)
-
-pub batch_ends : (n : PoolLine) → EndsNumber (batch_on n)
-batch_ends n = λ h. omega (arith, h.0)
-
-pub pool_parts : (n : PoolLine) → pool_line n ≡ nodes_on n
-pool_parts n = simp (append_assoc, append-nil)
-
--- the numbers that were read one behind the other are those of the line
-pub pool_found : (n : PoolLine) (line r1 r2 r3 r4 r5 r6 r7 : List ℕ)
-    → line ≡ codes "pool nodes=" ++ (decimal n.nodes ++ r1)
-    → r1 ≡ codes " buffers=" ++ (decimal n.buffers ++ r2)
-    → r2 ≡ codes " slots=" ++ (decimal n.slots ++ r3)
-    → r3 ≡ codes " words=" ++ (decimal n.words ++ r4)
-    → r4 ≡ codes " wear=" ++ (decimal n.wear ++ r5)
-    → r5 ≡ codes " clients=" ++ (decimal n.clients ++ r6)
-    → r6 ≡ codes " batch=" ++ (decimal n.batch ++ r7)
-    → r7 ≡ [] → line ≡ pool_line n
-pool_found n line r1 r2 r3 r4 r5 r6 r7 e1 e2 e3 e4 e5 e6 e7 e8 =
-    e1 ∙ ap (λ (r : List ℕ). codes "pool nodes=" ++ (decimal n.nodes ++ r))
-    (e2 ∙ ap (λ (r : List ℕ). codes " buffers=" ++ (decimal n.buffers ++ r))
-    (e3 ∙ ap (λ (r : List ℕ). codes " slots=" ++ (decimal n.slots ++ r))
-    (e4 ∙ ap (λ (r : List ℕ). codes " words=" ++ (decimal n.words ++ r))
-    (e5 ∙ ap (λ (r : List ℕ). codes " wear=" ++ (decimal n.wear ++ r))
-    (e6 ∙ ap (λ (r : List ℕ). codes " clients=" ++ (decimal n.clients ++ r))
-    (e7 ∙ ap (λ (r : List ℕ). codes " batch=" ++ (decimal n.batch ++ r))
-    (e8)))))))
-    ∙ sym (pool_parts n)
 
 plain_lacks : (p : Bool) (b : ℕ) (rest : List ℕ) → is_plain b ≡ p → b < 256 → Lacks 32 rest → Lacks 32 (cond p (b ∷ []) (37 ∷ hex_digit (b / 16) ∷ hex_digit (b % 16) ∷ []) ++ rest)
 plain_lacks true b rest is lt h = (grind (arith, nat_tests), h)
@@ -159,35 +93,12 @@ one_client_call (Swap k t v) (Get j) p q e = absurd (omega (arith, apart (call_t
 one_client_call (Swap k t v) (Put j w) p q e = absurd (omega (arith, apart (call_text (Swap k t v)) (call_text (Put j w)) e))
 one_client_call (Swap k t v) (Delete j) p q e = absurd (omega (arith, apart (call_text (Swap k t v)) (call_text (Delete j)) e))
 
--- a call that is built so far is one that a client may be asked for
-pub client_of : (call : Call) → IsCall call → IsClientCall call
-client_of (Get k) is = is
-client_of (Put k v) is = is
-client_of (Delete k) is = absurd is
-client_of (Swap k e v) is = absurd is
-
--- two calls with one line are one call
-pub one_call : (a b : Call) → IsCall a → IsCall b → call_line a ≡ call_line b → a ≡ b
-one_call a b p q e = one_client_call a b (client_of a p) (client_of b q) (after_same (codes "call 1 ") (call_text a) (call_text b) e)
-
-whole_front : (n : ℕ) (xs : List ℕ) → length xs ≤ n → take n xs ≡ xs
-whole_front zero [] h = refl
-whole_front zero (x ∷ xs) h = absurd (omega arith)
-whole_front (suc n) [] h = refl
-whole_front (suc n) (x ∷ xs) h = ap (λ l. x ∷ l) (whole_front n xs (omega arith))
-
+-- as many elements as there are, or n of them, are the first n
 pub kept_front : (n : ℕ) (xs : List ℕ) → take (min (length xs) n) xs ≡ take n xs
 kept_front zero [] = refl
 kept_front zero (x ∷ xs) = let e : min (suc (length xs)) 0 ≡ 0 = omega arith in rw e refl
 kept_front (suc n) [] = let e : min 0 (suc n) ≡ 0 = omega arith in rw e refl
 kept_front (suc n) (x ∷ xs) = let e : min (suc (length xs)) (suc n) ≡ suc (min (length xs) n) = omega arith in rw e (ap (λ l. x ∷ l) (kept_front n xs))
-
--- a call whose value is short is kept whole
-pub whole_call : (call : Call) → written call ≤ 1024 → cut_call call ≡ call
-whole_call (Get k) short = refl
-whole_call (Put k v) short = ap (Put k) (same_value (cut_value v) v refl (whole_front 1024 v.bytes short))
-whole_call (Delete k) short = refl
-whole_call (Swap k e v) short = ap (Swap k e) (same_value (cut_value v) v refl (whole_front 1024 v.bytes short))
 
 pub get_found : {E : Type 0} (text key : List ℕ) (r : Result (Option Task) E) → text ≡ codes "get " ++ key
     → IfOk r (λ o. IfSome o (λ task. (k : List ℕ) × IsKey k × (key ≡ coded k) × (task ≡ Client (Get k) 0))) → IfOk r (λ o. IfSome o (SpellsCall text))

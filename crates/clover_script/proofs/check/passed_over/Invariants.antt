@@ -1,7 +1,7 @@
 use Rattle.std.proofs.Common.{◌≡◌, ◌+◌, ◌≤◌, ◌++◌, ℕ, List, length}
 use Rattle.std.specs.Prelude.{All}
 use Rattle.clover_script.specs.Line.{lines_of, IsIgnored}
-use Rattle.clover_script.proofs.lines.passed_over.Given as goal
+use Rattle.clover_script.proofs.check.passed_over.Given as goal
 
 abbrev pub invariant-loop-line : goal.invariant-loop-line
 invariant-loop-line l = record {

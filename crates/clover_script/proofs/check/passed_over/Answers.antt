@@ -1,6 +1,6 @@
 use Rattle.std.proofs.Common.{arith, rules}
 use Rattle.clover_script.proofs.TallyLemmas.{over_next}
-use Rattle.clover_script.proofs.lines.passed_over.Goals as goal
+use Rattle.clover_script.proofs.check.passed_over.Goals as goal
 
 pub loop-line-preserved : goal.loop-line-preserved
 loop-line-preserved c = record {

@@ -2,9 +2,9 @@ use Rattle.std.proofs.Common.{◌≡◌, ◌≤◌, arith, rules, length}
 use Rattle.clover_words.specs.declared.setup.Setup.{Setup}
 use Rattle.clover_words.specs.Preset.{buffers_total}
 use Rattle.clover_script.specs.Line.{pool_line, numbers_of}
-use Rattle.clover_script.proofs.FormLemmas.{some_is}
+use Rattle.clover_script.proofs.SpellingLemmas.{some_is}
 use Rattle.clover_script.proofs.TallyLemmas.{tallied_first, tallied_next, tallied_all}
-use Rattle.clover_script.proofs.lines.check_lines.Goals as goal
+use Rattle.clover_script.proofs.check.check_lines.Goals as goal
 
 pub loop-rest-init : goal.loop-rest-init
 loop-rest-init c =

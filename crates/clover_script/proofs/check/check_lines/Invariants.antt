@@ -1,6 +1,6 @@
 use Rattle.std.proofs.Common.{◌+◌, ◌≤◌, length}
 use Rattle.clover_script.proofs.TallyLemmas.{IsTalliedTo}
-use Rattle.clover_script.proofs.lines.check_lines.Given as goal
+use Rattle.clover_script.proofs.check.check_lines.Given as goal
 
 abbrev pub invariant-loop-rest : goal.invariant-loop-rest
 invariant-loop-rest l = record {

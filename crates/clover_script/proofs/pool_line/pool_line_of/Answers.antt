@@ -1,8 +1,8 @@
 use Rattle.std.proofs.Common.{◌∙◌, [], length, ap, arith, rules}
 use Rattle.std.proofs.lemmas.Grind.{common_steps}
 use Rattle.clover_script.proofs.LineLemmas.{if_none}
-use Rattle.clover_script.proofs.FormLemmas.{pool_parts, pool_found, buffers_on, slots_on, words_on, wear_on, clients_on, batch_on, buffers_ends, slots_ends, words_ends, wear_ends, clients_ends, batch_ends}
-use Rattle.clover_script.proofs.form.pool_line_of.Goals as goal
+use Rattle.clover_script.proofs.PoolLineLemmas.{pool_parts, pool_found, buffers_on, slots_on, words_on, wear_on, clients_on, batch_on, buffers_ends, slots_ends, words_ends, wear_ends, clients_ends, batch_ends}
+use Rattle.clover_script.proofs.pool_line.pool_line_of.Goals as goal
 
 pub returns-in_err-nodes-clause-none : goal.returns-in_err-nodes-clause-none
 returns-in_err-nodes-clause-none c = if_none c.from_residual.result (λ p.
