@@ -1,6 +1,6 @@
 -- Whether an actor has a call under way.
-use Rattle.std.proofs.Common.{◌≡◌, ◌≢◌, ℕ, suc, ◌≤◌, ◌-◌, Bool, subst, sym, ap, ◌∙◌, arith}
-use Rattle.std.specs.Prelude.{Option, Some, None, ◌↔◌, IsTrue}
+use Rattle.std.proofs.Common.{◌≡◌, ◌≢◌, ℕ, suc, ◌≤◌, ◌-◌, Bool, subst, sym, arith}
+use Rattle.std.specs.Prelude.{Some, None, ◌↔◌, IsTrue}
 use Rattle.clover_rule.specs.Lists.{nth}
 use Rattle.clover_sched.specs.Machine.{Parts, HasCall, IsBusy}
 use Rattle.clover_sched.specs.declared.client.ClientState.{ClientState}

@@ -1,6 +1,6 @@
 -- The element at a place of a list, of a list with another one there, and of one by repetition.
 use Rattle.std.proofs.Common.{◌≡◌, ◌≢◌, ℕ, zero, suc, ◌<◌, ◌≤◌, List, [], ◌∷◌, length, set, get_or, replicate, refl, sym, ap, arith}
-use Rattle.std.specs.Prelude.{Option, Some, None, slice_get}
+use Rattle.std.specs.Prelude.{Some, None, slice_get}
 use Rattle.clover_rule.specs.Lists.{nth}
 
 pub nth_get : {A : Type 0} (xs : List A) (i : ℕ) → slice_get xs i ≡ nth xs i
