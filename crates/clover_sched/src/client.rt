@@ -68,20 +68,6 @@ impl ClientState {
         !matches!(&self.under, Underway::Nothing)
     }
 
-    /// Begins a task on the slot of its key, and answers what that comes to: nothing that is printed, or that the
-    /// value is longer than the room of a buffer.
-    pub(crate) fn begin(&mut self, setup: &Setup, slot: u32, client: u32, task: Task) -> Note
-        requires idle { self.old.under ≡ IsNothing }
-        requires task { IsTask task }
-        requires slot { slot < setup.now.pool.slots }
-        requires stock { takes (call_in task) ≡ 1 → HasDealt setup.now client self.old.taken }
-        ensures begun { (o : Opening) (p : Plain) (i : ℕ) → suc i ≡ client → o.setup ≡ setup.now → Within (slot, key_of (call_in task)) o.names → key_at o.names slot ≡ key_of (call_in task) → Stands o p i self.old → Begins o p i self.old self.new task result }
-    {
-        let Task::Client { call: _, written } = task;
-        let _ = (slot, setup.clients);
-        Note::Refused { client, refusal: CallRefusal::TooLong { length: u64::from(written), room: 0 } }
-    }
-
     /// Makes the next access of what the client has under way, and answers what it came to.
     ///
     /// `OutOfMemory` for want of memory, and then nothing has changed.
