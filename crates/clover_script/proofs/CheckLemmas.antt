@@ -14,9 +14,9 @@ use Rattle.clover_script.specs.declared.line.Form.TheVariants.{Calls}
 use Rattle.clover_script.specs.Form.{call_in, written_in}
 use Rattle.clover_script.specs.Line.{lines_of, pool_line, numbers_of, call_line, cut_call, IsCall, IsFormOf, written}
 use Rattle.clover_map.specs.History.{key_of}
-use Rattle.clover_script.specs.Naming.{Names, puts}
+use Rattle.clover_script.specs.Naming.{Names, NamesKey, puts}
 use Rattle.clover_script.specs.Script.{Serves, start_lines, opened, IsStart, IsUnbuilt, IsRefused, room, key, value, stock}
-use Rattle.clover_script.specs.Progress.{NamesKey, Admits, AcceptsLine, Bars}
+use Rattle.clover_script.specs.Progress.{Admits, AcceptsLine, Bars}
 
 -- The text is the lines of some calls, which name these keys and have so many puts, and what is left of it.
 pub record IsChecked (text : List ℕ) (s : Setup) (keys : List (List ℕ)) (n : ℕ) (rest : List ℕ) (lines : ℕ) : Type 0 where

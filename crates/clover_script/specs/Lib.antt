@@ -8,4 +8,5 @@ pub mod Progress
 pub mod Script
 pub mod Slots
 pub mod Split
+pub mod Tally
 pub mod Text

@@ -16,3 +16,7 @@ abbrev pub puts : List Call → ℕ
 puts [] = 0
 puts (Put k v ∷ cs) = 1 + puts cs
 puts (c ∷ cs) = puts cs
+
+-- Naming this key makes the keys named so far the new ones.
+abbrev pub NamesKey : List (List ℕ) → List ℕ → List (List ℕ) → Type 0
+NamesKey old key new = (Contains old key × (new ≡ old)) ⊎ ((Contains old key → ⊥) × (new ≡ old ++ key ∷ []))

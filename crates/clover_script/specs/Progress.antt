@@ -1,16 +1,12 @@
 -- what the check of a script keeps of the lines so far, and how one more call changes it
-use Rattle.std.specs.Prelude.{◌≡◌, ℕ, ◌+◌, ◌<◌, ◌≤◌, ◌⊎◌, List, [], ◌∷◌, ◌++◌, length, Contains}
+use Rattle.std.specs.Prelude.{◌≡◌, ℕ, ◌+◌, ◌<◌, ◌≤◌, ◌⊎◌, List, [], ◌∷◌, length, Contains}
 use Rattle.clover_words.specs.Preset.{HasDealt}
 use Rattle.clover_map.specs.declared.call.Call.{Call}
 use Rattle.clover_script.specs.declared.progress.Progress.{Progress}
 use Rattle.clover_script.specs.Line.{call_line, IsCall, written}
 use Rattle.clover_map.specs.History.{key_of}
-use Rattle.clover_script.specs.Naming.{puts}
+use Rattle.clover_script.specs.Naming.{NamesKey, puts}
 use Rattle.clover_script.specs.Script.{room}
-
--- Naming this key makes the keys named so far the new ones.
-abbrev pub NamesKey : List (List ℕ) → List ℕ → List (List ℕ) → Type 0
-NamesKey old key new = (Contains old key × (new ≡ old)) ⊎ ((Contains old key → ⊥) × (new ≡ old ++ key ∷ []))
 
 -- The call, with a value of so many bytes, is admitted after the old progress, and makes it the new one.
 pub record Admits (old : Progress) (call : Call) (written : ℕ) (new : Progress) : Type 0 where

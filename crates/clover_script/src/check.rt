@@ -73,7 +73,8 @@ pub fn check_script(alloc: Global, text: &[u8]) -> Result<Outline, ScriptFault>
     Ok(progress.outline())
 }
 
-fn unbuilt(line: u64) -> ScriptFault
+/// The fault of a line that is not built.
+pub fn unbuilt(line: u64) -> ScriptFault
     ensures { result ≡ ScriptFault.BadLine line LineFault.Unbuilt }
 {
     ScriptFault::BadLine {
@@ -97,7 +98,7 @@ fn setup_of(alloc: Global, line: &[u8]) -> Result<Option<Setup>, OutOfMemory>
 
 /// The setup of a pool line's numbers. None exactly where one is out of its range, or where there are
 /// fewer buffers than slots.
-fn setup_from(numbers: PoolLine) -> Option<Setup>
+pub fn setup_from(numbers: PoolLine) -> Option<Setup>
     ensures found { IfSome result (λ s. (numbers_of s ≡ numbers) × (s.pool.slots ≤ buffers_total s.pool)) }
     ensures none { IfNone result (HasBadNumbers numbers) }
 {

@@ -82,7 +82,7 @@ fn call_in(task: Task) -> Call
 }
 
 /// The numbers of a pool line. None exactly where the line is none.
-fn pool_line_of(line: &[u8]) -> Option<PoolLine>
+pub fn pool_line_of(line: &[u8]) -> Option<PoolLine>
     ensures found { IfSome result (λ n. AreNumbers n × (line.now ≡ pool_line n)) }
     ensures none { IfNone result (IsPoolLine line.now → ⊥) }
 {

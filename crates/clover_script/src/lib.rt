@@ -8,11 +8,13 @@ mod form;
 mod keys;
 mod laws;
 mod line;
+mod lines;
 mod number;
 mod part;
 mod progress;
 mod reader;
 mod split;
+mod tally;
 mod task;
 #[cfg(test)]
 mod tests;
@@ -30,7 +32,8 @@ pub use laws::{
     no_lines_are_refused, no_script_is_refused,
 };
 pub use line::{Form, Line, LineFault, PoolLine, Task};
-pub use reader::line_of;
+pub use lines::check_lines;
+pub use reader::{is_ignored, line_of};
 pub use split::first_line;
 pub use text::{push_answer, push_call, push_entry, push_number, push_reply, push_tag};
 pub use told::{push_behind, push_busy, push_linked, push_none, push_too_long, push_unreached};

@@ -8,9 +8,9 @@ ghost use Rattle.clover_script.specs.Naming.{puts};
 
 use crate::check::Outline;
 use crate::form::form_of;
-use crate::keys::Names;
+use crate::keys::{Names, key_in};
 use crate::line::{Form, Task};
-use clover_map::{Call, Key, OutOfMemory};
+use clover_map::{Call, OutOfMemory};
 use clover_words::{Setup, dealt};
 use std::alloc::Global;
 
@@ -26,7 +26,7 @@ pub struct Progress {
 impl Progress {
     ghost use Rattle.clover_script.specs.Form.{call_in, written_in};
     ghost use Rattle.clover_script.specs.Script.{IsUnbuilt, opened, room};
-    ghost use Rattle.clover_script.specs.Progress.{Admits, Bars, NamesKey, AcceptsLine, IsBeyondSlots};
+    ghost use Rattle.clover_script.specs.Progress.{Admits, Bars, AcceptsLine};
 
     /// No call so far.
     pub fn begin(alloc: Global, setup: Setup) -> Progress
@@ -74,7 +74,7 @@ impl Progress {
         if put && !self.has_stock() {
             return Ok(false);
         }
-        if !self.name(key_in(&call))? {
+        if !self.names.name(key_in(&call), self.setup.pool.slots)? {
             return Ok(false);
         }
         if put {
@@ -97,24 +97,6 @@ impl Progress {
     {
         dealt(&self.setup, 1, self.puts).is_some()
     }
-
-    /// Names a key, if it is not named already. False, and nothing changes, exactly where it is new and
-    /// every slot has its key.
-    fn name(&mut self, key: &Key) -> Result<bool, OutOfMemory>
-        ensures yes { IfOk result (λ yes. IsTrue yes → NamesKey self.old.names key.now self.new.names) }
-        ensures fits { IfOk result (λ yes. length self.old.names ≤ self.old.setup.pool.slots → length self.new.names ≤ self.old.setup.pool.slots) }
-        ensures no { IfOk result (λ yes. yes ≡ false → IsBeyondSlots self.old key.now) }
-        ensures others { IfOk result (λ yes. self.new ≡ record self.old { names = self.new.names }) }
-    {
-        if self.names.find(key).is_some() {
-            return Ok(true);
-        }
-        if self.names.len() >= self.setup.pool.slots as usize {
-            return Ok(false);
-        }
-        self.names.add(key.copy())?;
-        Ok(true)
-    }
 }
 
 fn is_put(call: &Call) -> bool
@@ -122,14 +104,4 @@ fn is_put(call: &Call) -> bool
     ensures no { result ≡ false → puts (call.now ∷ []) ≡ 0 }
 {
     matches!(call, Call::Put { .. })
-}
-
-/// The key that a call names.
-fn key_in(call: &Call) -> &Key
-    ensures { result.now ≡ key_of call.now }
-{
-    match call {
-        Call::Get { key } | Call::Put { key, .. } | Call::Delete { key } | Call::Swap { key, .. } =>
-            key,
-    }
 }

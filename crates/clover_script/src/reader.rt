@@ -1,6 +1,6 @@
 // What a line behind the pool line says. Takes memory for the bytes of a key and a value alone.
-ghost use Rattle.std.specs.Prelude.{◌≡◌, ℕ, List, ◌∷◌, ◌++◌, decimal, IfOk, IfSome, IfNone};
-ghost use Rattle.clover_script.specs.Line.{IsActor, AreTimes, IsLineOf, IsNoLine};
+ghost use Rattle.std.specs.Prelude.{◌≡◌, ◌↔◌, ℕ, List, ◌∷◌, ◌++◌, decimal, IsTrue, IfOk, IfSome, IfNone};
+ghost use Rattle.clover_script.specs.Line.{IsActor, AreTimes, IsLineOf, IsNoLine, IsIgnored};
 ghost use Rattle.clover_script.specs.Form.{IsNoTasklessLine};
 
 use crate::line::Line;
@@ -58,4 +58,14 @@ fn step_of(text: &[u8]) -> Option<Line>
     let (actor, rest) = actor_front(text)?;
     let times = times_of(rest)?;
     Some(Line::Step { actor, times })
+}
+
+/// Whether a line is passed over: it is empty, or begins with a hash.
+pub fn is_ignored(line: &[u8]) -> bool
+    ensures { IsTrue result ↔ IsIgnored line.now }
+{
+    match line {
+        [] => true,
+        [first, ..] => *first == b'#',
+    }
 }

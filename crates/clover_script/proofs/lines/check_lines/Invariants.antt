@@ -1,0 +1,12 @@
+use Rattle.std.proofs.Common.{◌+◌, ◌≤◌, length}
+use Rattle.clover_script.proofs.TallyLemmas.{IsTalliedTo}
+use Rattle.clover_script.proofs.lines.check_lines.Given as goal
+
+abbrev pub invariant-loop-rest : goal.invariant-loop-rest
+invariant-loop-rest l = record {
+  tallied : IsTalliedTo l.text l.tally l.rest l.lines;
+  size : l.lines + length l.rest ≤ length l.text + 1;
+}
+
+abbrev pub decreases-loop-rest : goal.decreases-loop-rest
+decreases-loop-rest l = length l.rest

@@ -1,0 +1,5 @@
+use Rattle.clover_script.proofs.TallyLemmas.{bad_pool}
+use Rattle.clover_script.proofs.lines.opening_of.Goals as goal
+
+pub returns-in-Some-clause-none : goal.returns-in-Some-clause-none
+returns-in-Some-clause-none c = bad_pool c.args.line.now c.in-Some.numbers c.setup_from.result c.in-Some.ensures.found.0 c.in-Some.ensures.found.1 c.setup_from.ensures.none

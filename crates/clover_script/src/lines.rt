@@ -1,0 +1,81 @@
+// Checking a whole script of clients' lines in one pass: what it sets up, or the first line that is not
+// built. Lines that are passed over count, and say nothing.
+ghost use Rattle.std.specs.Prelude.{◌≡◌, ◌+◌, ◌≤◌, ◌++◌, ◌∷◌, ℕ, List, length, All, IfOk, IfSome, IfNone, IsErrOf};
+ghost use Rattle.clover_words.specs.Preset.{buffers_total};
+ghost use Rattle.clover_script.specs.Line.{lines_of, numbers_of, pool_line, IsIgnored, Spoken};
+ghost use Rattle.clover_script.specs.Lines.{IsLinesOf, IsRefusedLine, IsUnbuiltLine, unopened};
+
+use crate::check::{Outline, ScriptFault, setup_from, unbuilt};
+use crate::form::pool_line_of;
+use crate::line::LineFault;
+use crate::reader::{is_ignored, line_of};
+use crate::split::first_line;
+use crate::tally::Tally;
+use clover_map::OutOfMemory;
+use clover_words::Setup;
+use std::alloc::Global;
+
+/// Reads a whole script of clients' lines, and says what it sets up.
+///
+/// `BadLine` names the first line that is not built. `OutOfMemory` for want of memory alone.
+pub fn check_lines(alloc: Global, text: &[u8]) -> Result<Outline, ScriptFault>
+    requires { length text.now ≤ 16777216 }
+    ensures lines { IfOk result (λ o. (said : List Spoken) × IsLinesOf text.now o.setup said o.names) }
+    ensures bad { (n : ℕ) → IsErrOf result (ScriptFault.BadLine n LineFault.Unbuilt) → IsRefusedLine text.now n }
+{
+    let (over, rest) = passed_over(text);
+    if rest.is_empty() {
+        return Err(unbuilt(over + 1));
+    }
+    let (line, mut rest) = first_line(rest);
+    let Some(setup) = opening_of(alloc, line)? else {
+        return Err(unbuilt(over + 1));
+    };
+    let mut tally = Tally::begin(alloc, setup);
+    let mut lines = over + 1;
+    while !rest.is_empty() {
+        let (line, after) = first_line(rest);
+        if !tally.accept(alloc, line)? {
+            return Err(unbuilt(lines + 1));
+        }
+        lines += 1;
+        rest = after;
+    }
+    Ok(tally.outline())
+}
+
+/// How many lines at the front of a text are passed over, and the text behind them.
+fn passed_over(text: &[u8]) -> (u64, &[u8])
+    requires { length text.now ≤ 16777216 }
+    ensures over { (over : List (List ℕ)) × All IsIgnored over × (lines_of text.now ≡ over ++ lines_of result.1.now) × (result.0 ≡ length over) }
+    ensures size { result.0 + length result.1.now ≤ length text.now }
+    ensures last { (line : List ℕ) (more : List (List ℕ)) → lines_of result.1.now ≡ line ∷ more → IsIgnored line → ⊥ }
+{
+    let mut lines = 0;
+    let mut rest = text;
+    while !rest.is_empty() {
+        let (line, after) = first_line(rest);
+        if !is_ignored(line) {
+            return (lines, rest);
+        }
+        lines += 1;
+        rest = after;
+    }
+    (lines, rest)
+}
+
+/// The setup of the first line that is not passed over. None exactly where that line is not built.
+fn opening_of(alloc: Global, line: &[u8]) -> Result<Option<Setup>, OutOfMemory>
+    requires { IsIgnored line.now → ⊥ }
+    ensures found { IfOk result (λ o. IfSome o (λ s. (line.now ≡ pool_line (numbers_of s)) × (s.pool.slots ≤ buffers_total s.pool))) }
+    ensures none { IfOk result (λ o. IfNone o (IsUnbuiltLine unopened line.now)) }
+{
+    if let Some(numbers) = pool_line_of(line) {
+        return Ok(setup_from(numbers));
+    }
+    match line_of(alloc, line)? {
+        // A client's line with no pool line before it.
+        Some(_) => Ok(None),
+        None => Ok(None),
+    }
+}
