@@ -1,11 +1,5 @@
-pub mod Answering
-pub mod Begun
+pub mod Busy
 pub mod Cells
-pub mod Chains
-pub mod Exact
-pub mod Frames
-pub mod Maps
+pub mod Loops
+pub mod Pieces
 pub mod Puts
-pub mod Running
-pub mod Standing
-pub mod Versions
