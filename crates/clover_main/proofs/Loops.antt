@@ -1,8 +1,9 @@
 -- records behind records: steps, what a task does, a call, lines
 use Rattle.std.proofs.Common.{zero, suc, ◌≡◌, ◌≢◌, ◌⊎◌, ◌+◌, ◌-◌, ◌<◌, ◌≤◌, inl, inr, ℕ, Bool, true, false, List, [], ◌∷◌, ◌++◌, length, flat_map, Option, Some, None, refl, ap, subst, sym, ◌∙◌, arith, append-nil, append_assoc, length-append}
-use Rattle.std.specs.Prelude.{All}
+use Rattle.std.specs.Prelude.{All, ◌==◌}
 use Rattle.std.proofs.lemmas.List.Elements.{All-nil, All-cons, All-append}
-use Rattle.clover_script.specs.Line.{IsLineOf, IsNoLine}
+use Rattle.clover_script.specs.Line.{lines_of, IsLineOf, IsNoLine}
+use Rattle.std.proofs.lemmas.Bool.Decides.{nat_tests}
 use Rattle.clover_script.specs.declared.line.Line.{Line}
 use Rattle.clover_script.specs.declared.line.Line.TheVariants as line
 use Rattle.clover_script.specs.declared.line.Task.{Task}
@@ -178,3 +179,8 @@ lines_first o t lines texts m a w at heard = record { done = []; todo = lines; s
 -- all were run
 pub lines_last : (o : Opening) (t : Bool) (lines : List Line) (m : Parts) (a b : Option (List ℕ)) (w v : List ℕ) → Reaches o t lines [] m a b w v → Ran o t [] m a b w v (Covers lines [])
 lines_last o t lines m a b w v x = subst (λ ls. Ran o t [] m a b w v (Covers ls [])) (sym (x.split ∙ ap (λ ls. x.done ++ ls) x.heard ∙ append-nil x.done)) x.ran
+
+-- a text without bytes has no lines
+pub lines_none : (text : List ℕ) → (length text == 0) ≡ true → lines_of text ≡ []
+lines_none [] e = refl
+lines_none (b ∷ bs) e = absurd (let no : length (b ∷ bs) ≡ 0 = grind (arith, nat_tests) in omega arith)
