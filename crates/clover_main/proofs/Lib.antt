@@ -1,5 +1,10 @@
 pub mod Busy
 pub mod Cells
+pub mod Committing
+pub mod Endings
+pub mod Exactness
+pub mod Following
+pub mod Listening
 pub mod Loops
 pub mod Owing
 pub mod Pieces

@@ -98,6 +98,7 @@ fn run_script<K: Sink>(
     ensures err { IfErr result (λ stop. HasStopped stop trace text.now (K.taken sink.old) (K.taken sink.new)) }
     ensures write { IsErrOf result Stop.Write → Rose (K.faults sink.old) (K.faults sink.new) }
     ensures quiet { OnOk result (K.faults sink.new ≡ K.faults sink.old) }
+    ensures later { K.faults sink.old ≤ K.faults sink.new }
 {
     let Outline { setup, names } = outline;
     let mut machine = match Machine::make(alloc, setup, names, trace) {
