@@ -16,7 +16,6 @@ use Rattle.clover_map.specs.declared.call.Call.TheVariants.{Get, Put, Delete, Sw
 use Rattle.clover_map.specs.declared.call.Entry.{Entry}
 use Rattle.clover_map.specs.declared.call.Reply.{Reply}
 use Rattle.clover_map.specs.declared.call.Reply.TheVariants.{Stored, Found, Absent, Deleted, Differs}
-use Rattle.clover_rule.specs.Lists.{Within}
 use Rattle.clover_rule.proofs.Stages.{within_end}
 use Rattle.clover_rule.proofs.Steps.{within_prefix}
 use Rattle.clover_main.specs.Performing.{Stores, IsCommitted, AllCommitted}
@@ -87,7 +86,7 @@ legal_on h (x ∷ es) m used all (n, does, legal) (y ∷ mid) after e k t v is e
     let same : x ≡ y = cc in
     let rest : es ≡ mid ++ e ∷ after = cc in
     subst (λ l. IsCommitted l k t v) (append_assoc h (x ∷ []) mid ∙ ap (λ (z : Entry). h ++ z ∷ mid) same)
-      (legal_on (h ++ x ∷ []) es n (used ++ new_tags x.reply) (does_keeps h x m n used x.call x.reply refl refl all does) legal mid after e k t v rest ec er)
+    (legal_on (h ++ x ∷ []) es n (used ++ new_tags x.reply) (does_keeps h x m n used x.call x.reply refl refl all does) legal mid after e k t v rest ec er)
 
 -- nothing is kept at first
 kept_first : AllKept [] empty

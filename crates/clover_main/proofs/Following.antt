@@ -1,5 +1,5 @@
 -- what holds of every run: its accesses replay, and each client's entries are numbered
-use Rattle.std.proofs.Common.{zero, suc, ◌≡◌, ◌+◌, ◌==◌, ℕ, Bool, true, false, cond, List, [], ◌∷◌, ◌++◌, length, filter, Option, Some, None, refl, ap, subst, sym, ◌∙◌, arith, append-nil, append_assoc}
+use Rattle.std.proofs.Common.{suc, ◌≡◌, ◌+◌, ◌==◌, ℕ, Bool, true, false, cond, List, [], ◌∷◌, ◌++◌, length, Option, Some, None, refl, ap, subst, sym, ◌∙◌, arith, append-nil, append_assoc}
 use Rattle.std.specs.Prelude.{IfSome, if◌then◌else◌}
 use Rattle.std.proofs.lemmas.Bool.Decides.{nat_tests}
 use Rattle.std.proofs.lemmas.List.Elements.{filter-append}
@@ -9,9 +9,9 @@ use Rattle.clover_map.specs.declared.call.Entry.{Entry}
 use Rattle.clover_rule.specs.Accesses.{CameBack, words_after_act, ActsReplay, done, Replays}
 use Rattle.clover_rule.specs.declared.access.Access.{Access}
 use Rattle.clover_rule.specs.declared.access.Act.{Act}
-use Rattle.clover_sched.specs.Folds.{listed, along, accesses_in, entries_in, words_by, words_after, doing}
+use Rattle.clover_sched.specs.Folds.{listed, accesses_in, entries_in, words_by, words_after, doing}
 use Rattle.clover_sched.specs.Record.{Record}
-use Rattle.clover_sched.specs.Run.{Opening, IsAccess, IsEntry, Fits, Follows, Goes, IsRun}
+use Rattle.clover_sched.specs.Run.{Opening, IsAccess, IsEntry, Fits, Goes, IsRun}
 use Rattle.clover_sched.specs.declared.event.Event.{Event}
 use Rattle.clover_sched.specs.declared.event.Event.TheVariants.{Begin, Step, Refuse}
 use Rattle.clover_sched.proofs.Runs.{along_append}
@@ -56,7 +56,7 @@ replays_on o before [] h = tt
 replays_on o before (r ∷ rs) h =
     let P : List ℕ → Type 0 = λ ws. ActsReplay o.setup.pool ws (done (accesses_in rs)) in
     first_act o.setup.pool (words_after o.setup.pool o.words before) r.access (accesses_in rs) (fits_access o before r r.event h.0)
-      (subst P (words_push o.setup.pool o.words before r) (replays_on o (before ++ r ∷ []) rs h.1))
+    (subst P (words_push o.setup.pool o.words before r) (replays_on o (before ++ r ∷ []) rs h.1))
 
 -- the accesses of a run replay
 pub run_replays : (o : Opening) (rs : List Record) → IsRun o rs → Replays o.setup.pool o.words (accesses_in rs)
@@ -84,8 +84,8 @@ numbered_on : (o : Opening) (before rs : List Record) → Goes o before rs → I
 numbered_on o before [] h all = subst (λ l. IsNumberedByClient (entries_in l)) (sym (append-nil before)) all
 numbered_on o before (r ∷ rs) h all =
     subst (λ l. IsNumberedByClient (entries_in l)) (append_assoc before (r ∷ []) rs)
-      (numbered_on o (before ++ r ∷ []) rs h.1
-        (subst IsNumberedByClient (sym (entries_push before r)) (entry_numbered (entries_in before) r.entry all (fits_entry o before r r.event h.0))))
+    (numbered_on o (before ++ r ∷ []) rs h.1
+    (subst IsNumberedByClient (sym (entries_push before r)) (entry_numbered (entries_in before) r.entry all (fits_entry o before r r.event h.0))))
 
 -- each client's entries of a run are numbered from 1
 pub run_numbered : (o : Opening) (rs : List Record) → IsRun o rs → IsNumberedByClient (entries_in rs)

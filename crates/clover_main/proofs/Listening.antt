@@ -1,15 +1,14 @@
 -- what a script says is heard line by line, and its setup serves it
-use Rattle.std.proofs.Common.{zero, suc, ◌≡◌, ◌+◌, ◌<◌, ◌≤◌, ◌==◌, ◌⊎◌, ℕ, Bool, true, false, List, [], ◌∷◌, ◌++◌, length, map, take, min, refl, ap, subst, sym, ◌∙◌, inl, inr, arith}
+use Rattle.std.proofs.Common.{◌≡◌, ◌==◌, ℕ, List, [], ◌∷◌, ◌++◌, map, refl, ap, subst, sym, inl, inr, arith}
 use Rattle.std.specs.Prelude.{All, Contains, flat_map, if◌then◌else◌}
 use Rattle.std.proofs.lemmas.List.{length-take}
 use Rattle.std.proofs.lemmas.List.Elements.{All-head, All-tail, Contains-append_left, Contains-push}
 use Rattle.clover_words.specs.declared.setup.Setup.{Setup}
-use Rattle.clover_words.specs.Preset.{HasDealt}
 use Rattle.clover_map.specs.History.{key_of}
 use Rattle.clover_map.specs.declared.call.Call.{Call}
 use Rattle.clover_map.specs.declared.call.Call.TheVariants.{Get, Put, Delete, Swap}
-use Rattle.clover_script.specs.Line.{lines_of, pool_line, numbers_of, IsClientCall, written, cut_call, task_of, client, Spoken, says_begin, says_step, says_finish, says_call, says_refuse, IsSpoken, line_text, kept_line, IsLineOf, IsNoLine, IsIgnored}
-use Rattle.clover_script.specs.Lines.{calls_in, takes, taken_by, taken, Supplies, Say, Opens, IsLinesOf}
+use Rattle.clover_script.specs.Line.{lines_of, pool_line, numbers_of, IsClientCall, cut_call, task_of, client, Spoken, says_begin, says_step, says_finish, says_call, says_refuse, IsSpoken, kept_line, IsNoLine, IsIgnored}
+use Rattle.clover_script.specs.Lines.{calls_in, takes, taken_by, taken, Say, IsLinesOf}
 use Rattle.clover_script.specs.Naming.{Names}
 use Rattle.clover_script.specs.declared.line.Line.{Line}
 use Rattle.clover_script.specs.declared.line.PoolLine.{PoolLine}
@@ -38,7 +37,7 @@ over_heard (t ∷ ts) rest lines all heard = inl (over_none t (All-head IsIgnore
 pub lines_heard : (text : List ℕ) (s : Setup) (said : List Spoken) (keys : List (List ℕ)) → IsLinesOf text s said keys → Heard (lines_of text) (map kept_line said)
 lines_heard text s said keys (opens, supplies) =
     subst (λ (ts : List (List ℕ)). Heard ts (map kept_line said)) (sym opens.parts)
-      (over_heard opens.over (pool_line (numbers_of s) ∷ opens.rest) (map kept_line said) opens.ignored (inl (pool_none (numbers_of s), say_heard opens.rest said opens.say)))
+    (over_heard opens.over (pool_line (numbers_of s) ∷ opens.rest) (map kept_line said) opens.ignored (inl (pool_none (numbers_of s), say_heard opens.rest said opens.say)))
 
 all_spoken : (texts : List (List ℕ)) (said : List Spoken) → Say texts said → Each IsSpoken said
 all_spoken [] said h = subst (Each IsSpoken) (sym h) tt
@@ -107,6 +106,6 @@ owed_taken c (s ∷ ss) = omega (arith, owed_one c s, owed_taken c ss)
 -- the setup of a script has what its lines ask for
 pub lines_served : (text : List ℕ) (s : Setup) (said : List Spoken) (keys : List (List ℕ)) → IsLinesOf text s said keys → Serves s keys (map kept_line said)
 lines_served text s said keys (opens, supplies) = record {
-    each = each_slot said [] keys (all_spoken opens.rest said opens.say) supplies.named;
-    stock = λ c n below. supplies.stock c n (omega (arith, owed_taken c said));
-  }
+  each = each_slot said [] keys (all_spoken opens.rest said opens.say) supplies.named;
+  stock = λ c n below. supplies.stock c n (omega (arith, owed_taken c said));
+}

@@ -1,5 +1,5 @@
 -- records behind records: steps, what a task does, a call, lines
-use Rattle.std.proofs.Common.{zero, suc, ◌≡◌, ◌≢◌, ◌⊎◌, ◌+◌, ◌-◌, ◌<◌, ◌≤◌, inl, inr, ℕ, Bool, true, false, List, [], ◌∷◌, ◌++◌, length, flat_map, Option, Some, None, refl, ap, subst, sym, ◌∙◌, arith, append-nil, append_assoc, length-append}
+use Rattle.std.proofs.Common.{◌≡◌, ◌≢◌, ◌+◌, ◌<◌, ◌≤◌, inl, inr, ℕ, Bool, true, List, [], ◌∷◌, ◌++◌, length, Option, None, refl, ap, subst, sym, ◌∙◌, arith, append-nil, append_assoc, length-append}
 use Rattle.std.specs.Prelude.{All, ◌==◌}
 use Rattle.std.proofs.lemmas.List.Elements.{All-nil, All-cons, All-append}
 use Rattle.clover_script.specs.Line.{lines_of, IsLineOf, IsNoLine}
@@ -12,16 +12,16 @@ use Rattle.clover_sched.specs.Folds.{doing}
 use Rattle.clover_sched.specs.Lines.{Works, Finishes, IsTurnedAway, Calls, Stands, Covers}
 use Rattle.clover_sched.specs.Machine.{Parts, IsAt, IsBusy}
 use Rattle.clover_sched.specs.Record.{Record}
-use Rattle.clover_sched.specs.Run.{Opening, IsRun}
+use Rattle.clover_sched.specs.Run.{Opening}
 use Rattle.clover_sched.specs.declared.event.Event.{Event}
 use Rattle.clover_sched.specs.declared.event.Event.TheVariants.{Begin, Step, Refuse}
 use Rattle.clover_sched.specs.declared.event.Note.{Note}
-use Rattle.clover_main.specs.Beginnings.{BeginsCall, IsPartOf, IsPartOrAll, IsBegun, Opens}
+use Rattle.clover_main.specs.Beginnings.{BeginsCall, IsBegun, Opens}
 use Rattle.clover_main.specs.Hearing.{Heard}
-use Rattle.clover_main.specs.Running.{Puts, Ran, Fails, Continues, IsOne, IsAtMostOne, AreSteps, AreSomeSteps, IsSaidBy, IsPartOfSaid, Reaches}
+use Rattle.clover_main.specs.Running.{Ran, Fails, Continues, IsOne, IsAtMostOne, AreSteps, AreSomeSteps, IsSaidBy, IsPartOfSaid, Reaches}
 use Rattle.clover_main.specs.declared.output.Stop.{Stop}
 use Rattle.clover_main.proofs.Busy.{busy_task, idle_none}
-use Rattle.clover_main.proofs.Pieces.{ran_then, fails_then, ran_as, fails_as, ran_nothing}
+use Rattle.clover_main.proofs.Pieces.{ran_then, fails_then, ran_nothing}
 
 pub continues_then : (m n k : Parts) → Continues m n → Continues n k → Continues m k
 continues_then m n k f g = record { setup = g.setup ∙ f.setup; names = g.names ∙ f.names; traced = g.traced ∙ f.traced }
@@ -37,9 +37,9 @@ all_one e note ys o = (subst (λ l. AllAre e l) (sym o.all) (All-cons (λ (r : R
 
 all_most : (e : Event) (ys : List Record) → IsAtMostOne e ys → AllAre e ys × (length ys ≤ 1)
 all_most e ys o = elim o as (λ _. AllAre e ys × (length ys ≤ 1)) [
-    | inl none ↦ (subst (λ l. AllAre e l) (sym none) (All-nil (λ (r : Record). r.event ≡ e)), omega (arith, ap length none))
-    | inr one ↦ (subst (λ l. AllAre e l) (sym one.1) (All-cons (λ (r : Record). r.event ≡ e) one.0 [] one.2 (All-nil (λ (r : Record). r.event ≡ e))), omega (arith, ap length one.1))
-  ]
+  | inl none ↦ (subst (λ l. AllAre e l) (sym none) (All-nil (λ (r : Record). r.event ≡ e)), omega (arith, ap length none))
+  | inr one ↦ (subst (λ l. AllAre e l) (sym one.1) (All-cons (λ (r : Record). r.event ≡ e) one.0 [] one.2 (All-nil (λ (r : Record). r.event ≡ e))), omega (arith, ap length one.1))
+]
 
 all_both : (e : Event) (xs ys : List Record) → AllAre e xs → AllAre e ys → AllAre e (xs ++ ys)
 all_both e xs ys h k = All-append (λ (r : Record). r.event ≡ e) xs ys h k
@@ -52,13 +52,13 @@ module _ (o : Opening) (t : Bool) (rs : List Record) (m n : Parts) (a b c : Opti
   steps_more k k2 note x y e =
       let one = all_one (Step actor) note y.more y.kind in
       ran_then o t rs m n a b c w v u (AreSteps actor k) (IsOne (Step actor) note) (AreSteps actor k2) x y
-        (all_both (Step actor) x.more y.more x.kind.0 one.0, omega (arith, length-append x.more y.more, x.kind.1, one.1, e))
+      (all_both (Step actor) x.more y.more x.kind.0 one.0, omega (arith, length-append x.more y.more, x.kind.1, one.1, e))
 
   pub steps_fail : (stop : Stop) (k times : ℕ) → (x : Ran o t rs m a b w v (AreSteps actor k)) → Fails o t (rs ++ x.more) stop b c v (IsAtMostOne (Step actor)) → k < times → Fails o t rs stop a c w (AreSomeSteps actor times)
   steps_fail stop k times x y lt =
       let one = all_most (Step actor) y.more y.kind in
       fails_then o t rs stop m a b c w v (AreSteps actor k) (IsAtMostOne (Step actor)) (AreSomeSteps actor times) x y
-        (all_both (Step actor) x.more y.more x.kind.0 one.0, omega (arith, length-append x.more y.more, x.kind.1, one.1, lt))
+      (all_both (Step actor) x.more y.more x.kind.0 one.0, omega (arith, length-append x.more y.more, x.kind.1, one.1, lt))
 
 works_push : (a : ℕ) (before xs : List Record) (r : Record) → Works a before xs → r.event ≡ Step a → (doing a (before ++ xs)).task ≢ None → Works a before (xs ++ r ∷ [])
 works_push a before [] r h e some = (e, subst (λ l. (doing a l).task ≢ None) (append-nil before) some, tt)
@@ -67,11 +67,11 @@ works_push a before (x ∷ xs) r h e some = (h.0, h.1, works_push a (before ++ x
 module _ (o : Opening) (t : Bool) (rs : List Record) (m n : Parts) (a b c : Option (List ℕ)) (w v u : List ℕ) (actor : ℕ) (x : Ran o t rs m a b w v (Works actor rs)) where
   pub finish_done : 1 ≤ actor → (IsBusy m actor → ⊥) → Ran o t rs m a b w v (Finishes actor rs)
   finish_done one idle = record {
-      more = x.more;
-      kind = record { works = x.kind; ends = idle_none o m (rs ++ x.more) x.at actor one idle };
-      at = x.at;
-      says = x.says;
-    }
+    more = x.more;
+    kind = record { works = x.kind; ends = idle_none o m (rs ++ x.more) x.at actor one idle };
+    at = x.at;
+    says = x.says;
+  }
 
   module _ (busy : IsBusy m actor) where
     pub finish_more : (note : Note) → Ran o t (rs ++ x.more) n b c v u (IsOne (Step actor) note) → Ran o t rs n a c w u (Works actor rs)
@@ -87,17 +87,23 @@ module _ (o : Opening) (t : Bool) (rs : List Record) (m n : Parts) (a b c : Opti
 
 pub call_away : (a : ℕ) (t : Task) (note : Note) (before more : List Record) → IsTurnedAway note → IsOne (Begin a t) note more → Calls a t before more
 call_away a t note before more away o = record {
-    first = o.told; more = []; all = o.all; begins = o.event;
-    away = λ _. refl;
-    on = λ kept. absurd (kept (subst IsTurnedAway (sym o.note_is) away));
-  }
+  first = o.told;
+  more = [];
+  all = o.all;
+  begins = o.event;
+  away = λ _. refl;
+  on = λ kept. absurd (kept (subst IsTurnedAway (sym o.note_is) away));
+}
 
 pub call_on : (a : ℕ) (t : Task) (note : Note) (before one more : List Record) → (IsTurnedAway note → ⊥) → IsOne (Begin a t) note one → Finishes a (before ++ one) more → Calls a t before (one ++ more)
 call_on a t note before one more kept o f = record {
-    first = o.told; more = more; all = ap (λ l. l ++ more) o.all; begins = o.event;
-    away = λ away. absurd (kept (subst IsTurnedAway o.note_is away));
-    on = λ _. subst (λ l. Finishes a (before ++ l) more) o.all f;
-  }
+  first = o.told;
+  more = more;
+  all = ap (λ l. l ++ more) o.all;
+  begins = o.event;
+  away = λ away. absurd (kept (subst IsTurnedAway o.note_is away));
+  on = λ _. subst (λ l. Finishes a (before ++ l) more) o.all f;
+}
 
 pub call_part : (a : ℕ) (t : Task) (note : Note) (before one more : List Record) → IsOne (Begin a t) note one → Works a (before ++ one) more → BeginsCall a t before (one ++ more)
 call_part a t note before one more o f = inr (o.told, more, ap (λ l. l ++ more) o.all, o.event, subst (λ l. Works a (before ++ l) more) o.all f)
@@ -115,9 +121,13 @@ one_refuses a note before more o = (o.told, o.all, o.event)
 
 pub covers_push : (ls : List Line) (l : Line) (before xs ys : List Record) → Covers ls before xs → Stands l (before ++ xs) ys → Covers (ls ++ l ∷ []) before (xs ++ ys)
 covers_push [] l before xs ys h k = (ys, [], ap (λ z. z ++ ys) h ∙ sym (append-nil ys), subst (λ z. Stands l z ys) (ap (λ z. before ++ z) h ∙ append-nil before) k, refl)
-covers_push (m ∷ ls) l before xs ys h k =
-    (h.0, h.1 ++ ys, ap (λ z. z ++ ys) h.2 ∙ append_assoc h.0 h.1 ys, h.3,
-      covers_push ls l (before ++ h.0) h.1 ys h.4 (subst (λ z. Stands l z ys) (ap (λ z. before ++ z) h.2 ∙ sym (append_assoc before h.0 h.1)) k))
+covers_push (m ∷ ls) l before xs ys h k = (
+  h.0,
+  h.1 ++ ys,
+  ap (λ z. z ++ ys) h.2 ∙ append_assoc h.0 h.1 ys,
+  h.3,
+  covers_push ls l (before ++ h.0) h.1 ys h.4 (subst (λ z. Stands l z ys) (ap (λ z. before ++ z) h.2 ∙ sym (append_assoc before h.0 h.1)) k),
+)
 
 not_both : (text : List ℕ) (l : Line) → IsNoLine text → IsLineOf text l → ⊥
 not_both text l none (spoken, is, e, kept) = none spoken is e
@@ -139,35 +149,50 @@ begun_nothing (l ∷ ls) before = inl refl
 module _ (o : Opening) (t : Bool) (lines : List Line) (text : List ℕ) (texts : List (List ℕ)) (m : Parts) (a b c : Option (List ℕ)) (w v : List ℕ) (x : Reaches o t lines (text ∷ texts) m a b w v) where
   pub lines_next : (n : Parts) (u : List ℕ) → Ran o t x.ran.more n b c v u (IsSaidBy text x.ran.more) → Reaches o t lines texts n a c w u
   lines_next n u y = elim y.kind as (λ _. Reaches o t lines texts n a c w u) [
-      | inl none ↦ record {
-          done = x.done; todo = x.todo; split = x.split;
-          heard = heard_none text texts x.todo x.heard none.0;
-          ran = ran_then o t [] m n a b c w v u (Covers x.done []) (IsSaidBy text x.ran.more) (Covers x.done []) x.ran y
-            (subst (λ l. Covers x.done [] (x.ran.more ++ l)) (sym none.1) (subst (λ l. Covers x.done [] l) (sym (append-nil x.ran.more)) x.ran.kind));
-        }
-      | inr some ↦
-          let l = some.0 in
-          let next = heard_line text texts x.todo l x.heard some.1 in
-          record {
-            done = x.done ++ l ∷ []; todo = next.0;
-            split = x.split ∙ ap (λ ls. x.done ++ ls) next.1 ∙ sym (append_assoc x.done (l ∷ []) next.0);
-            heard = next.2;
-            ran = ran_then o t [] m n a b c w v u (Covers x.done []) (IsSaidBy text x.ran.more) (Covers (x.done ++ l ∷ []) []) x.ran y
+    | inl none ↦ record {
+      done = x.done;
+      todo = x.todo;
+      split = x.split;
+      heard = heard_none text texts x.todo x.heard none.0;
+      ran = ran_then o t [] m n a b c w v u (Covers x.done []) (IsSaidBy text x.ran.more) (Covers x.done []) x.ran y
+          (subst (λ l. Covers x.done [] (x.ran.more ++ l)) (sym none.1) (subst (λ l. Covers x.done [] l) (sym (append-nil x.ran.more)) x.ran.kind));
+    }
+    | inr some ↦
+        let l = some.0 in
+        let next = heard_line text texts x.todo l x.heard some.1 in
+        record {
+          done = x.done ++ l ∷ [];
+          todo = next.0;
+          split = x.split ∙ ap (λ ls. x.done ++ ls) next.1 ∙ sym (append_assoc x.done (l ∷ []) next.0);
+          heard = next.2;
+          ran = ran_then o t [] m n a b c w v u (Covers x.done []) (IsSaidBy text x.ran.more) (Covers (x.done ++ l ∷ []) []) x.ran y
               (covers_push x.done l [] x.ran.more y.more x.ran.kind some.2);
-          }
-    ]
+        }
+  ]
 
   pub lines_stop : (stop : Stop) → Fails o t x.ran.more stop b c v (IsPartOfSaid text x.ran.more) → Fails o t [] stop a c w (Opens lines)
   lines_stop stop y = fails_then o t [] stop m a b c w v (Covers x.done []) (IsPartOfSaid text x.ran.more) (Opens lines) x.ran y
       (elim y.kind as (λ _. Opens lines (x.ran.more ++ y.more)) [
         | inl none ↦ record {
-            done = x.done; rest = x.todo; before = x.ran.more; part = y.more; split = x.split; all = refl; covers = x.ran.kind;
-            begun = subst (λ l. IsBegun x.todo x.ran.more l) (sym none) (begun_nothing x.todo x.ran.more);
-          }
+          done = x.done;
+          rest = x.todo;
+          before = x.ran.more;
+          part = y.more;
+          split = x.split;
+          all = refl;
+          covers = x.ran.kind;
+          begun = subst (λ l. IsBegun x.todo x.ran.more l) (sym none) (begun_nothing x.todo x.ran.more);
+        }
         | inr some ↦
             let next = heard_line text texts x.todo some.0 x.heard some.1 in
             record {
-              done = x.done; rest = some.0 ∷ next.0; before = x.ran.more; part = y.more; split = x.split ∙ ap (λ ls. x.done ++ ls) next.1; all = refl; covers = x.ran.kind;
+              done = x.done;
+              rest = some.0 ∷ next.0;
+              before = x.ran.more;
+              part = y.more;
+              split = x.split ∙ ap (λ ls. x.done ++ ls) next.1;
+              all = refl;
+              covers = x.ran.kind;
               begun = inr some.2;
             }
       ])

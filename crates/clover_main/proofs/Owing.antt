@@ -1,5 +1,5 @@
 -- the buffers that lines ask for: a client has spent no more than the lines so far asked for, so what comes next may come
-use Rattle.std.proofs.Common.{zero, suc, ◌≡◌, ◌+◌, ◌<◌, ◌≤◌, ◌==◌, ℕ, Bool, true, false, List, [], ◌∷◌, ◌++◌, length, Option, Some, None, refl, ap, subst, sym, ◌∙◌, arith, inl, inr, ◌⊎◌}
+use Rattle.std.proofs.Common.{suc, ◌≡◌, ◌+◌, ◌≤◌, ◌==◌, ℕ, Bool, true, false, List, [], ◌∷◌, ◌++◌, Option, Some, refl, ap, subst, sym, ◌∙◌, arith, inl, inr, ◌⊎◌}
 use Rattle.std.specs.Prelude.{All, Contains, if◌then◌else◌}
 use Rattle.std.proofs.lemmas.Bool.Decides.{nat_tests}
 use Rattle.std.proofs.lemmas.List.Elements.{All-head, All-tail}
@@ -14,10 +14,10 @@ use Rattle.clover_script.specs.declared.line.Line.TheVariants as line
 use Rattle.clover_script.specs.declared.line.Task.{Task}
 use Rattle.clover_script.specs.declared.line.Task.TheVariants.{Client}
 use Rattle.clover_rule.specs.Lists.{Each, nth}
-use Rattle.clover_sched.specs.Client.{IsTask, spent}
+use Rattle.clover_sched.specs.Client.{spent}
 use Rattle.clover_sched.specs.Folds.{along}
 use Rattle.clover_sched.specs.Lines.{Works, Calls, IsTurnedAway, Stands, Covers}
-use Rattle.clover_sched.specs.Machine.{Parts, asks, asked, HasFor, MayCome, IsAt}
+use Rattle.clover_sched.specs.Machine.{Parts, asks, asked, MayCome, IsAt}
 use Rattle.clover_sched.specs.Record.{Record}
 use Rattle.clover_sched.specs.Run.{Opening}
 use Rattle.clover_sched.specs.declared.client.ClientState.{ClientState}
@@ -26,7 +26,7 @@ use Rattle.clover_sched.specs.declared.event.Event.TheVariants.{Begin, Step, Ref
 use Rattle.clover_sched.specs.declared.event.Note.{Note}
 use Rattle.clover_sched.specs.declared.event.Note.TheVariants.{Quiet, Answered, Refused, Busy, Missing}
 use Rattle.clover_sched.proofs.Runs.{along_append}
-use Rattle.clover_main.specs.Hearing.{Heard, task_takes, owed_by, owed, IsNamed, HasSlot, Serves, IsReady, MayRun}
+use Rattle.clover_main.specs.Hearing.{task_takes, owed_by, owed, IsNamed, HasSlot, Serves, IsReady, MayRun}
 use Rattle.clover_main.specs.Running.{Continues, Reaches}
 use Rattle.clover_main.proofs.Loops.{heard_line}
 
@@ -117,10 +117,14 @@ module _ (o : Opening) (m n : Parts) (lines done todo : List Line) (l : Line) (r
       subst (λ (s : Setup). HasDealt s a (spent x)) (sym on.setup) (serves.stock a (spent x) (omega (arith, few, all, one, asked_covers a done [] rs covers)))
 
   may_begin : (a : ℕ) (call : Call) (w : ℕ) → (1 ≤ a) × IsNamed m.names (Client call w) → owed_by a l ≡ takes call → MayCome n (Begin a (Client call w))
-  may_begin a call w slot owes = (slot.0, slot.1.0, record {
+  may_begin a call w slot owes = (
+    slot.0,
+    slot.1.0,
+    record {
       named = subst (λ (ks : List (List ℕ)). Contains ks (key_of call)) (sym on.names) slot.1.1;
       stock = λ i x is here one. has_stock a i x is here (owes ∙ one);
-    })
+    },
+  )
 
   may_task : (a : ℕ) (t : Task) → (1 ≤ a) × IsNamed m.names t → owed_by a l ≡ task_takes t → MayCome n (Begin a t)
   may_task a (Client call w) slot owes = may_begin a call w slot owes

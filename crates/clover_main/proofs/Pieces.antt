@@ -1,14 +1,14 @@
 -- pieces of output, one behind the other
-use Rattle.std.proofs.Common.{◌≡◌, ◌⊎◌, inl, inr, ℕ, Bool, true, false, List, [], ◌∷◌, ◌++◌, length, flat_map, Option, Some, None, refl, ap, subst, sym, ◌∙◌, arith, append-nil, append_assoc}
+use Rattle.std.proofs.Common.{◌≡◌, inr, ℕ, Bool, true, List, [], ◌∷◌, ◌++◌, length, flat_map, Option, Some, None, refl, ap, subst, sym, ◌∙◌, append-nil, append_assoc}
 use Rattle.std.proofs.KnownBytes.{Appends-nil, Appends-trans}
 use Rattle.std.specs.Io.KnownBytes.{Appends}
-use Rattle.std.specs.Prelude.{slice_get, if◌then◌else◌}
+use Rattle.std.specs.Prelude.{slice_get}
 use Rattle.clover_rule.specs.declared.access.Access.{Access}
 use Rattle.clover_sched.specs.Folds.{listed, accesses_in}
 use Rattle.clover_sched.specs.Machine.{Parts, IsAt}
 use Rattle.clover_sched.specs.Record.{Record}
 use Rattle.clover_sched.specs.Run.{Opening, IsRun}
-use Rattle.clover_sched.specs.Text.{said, traced, note_line, access_line}
+use Rattle.clover_sched.specs.Text.{said, traced}
 use Rattle.clover_sched.specs.declared.event.Event.{Event}
 use Rattle.clover_sched.specs.declared.event.Note.{Note}
 use Rattle.clover_main.specs.Causes.{AppendsFront}
@@ -51,19 +51,22 @@ front_whole a b all put = (all, [], sym (append-nil all), put)
 
 pub says_then : (a b c : Option (List ℕ)) (w v u x y : List ℕ) → Says a b w v x → Says b c v u y → Says a c w u (x ++ y)
 says_then a b c w v u x y s t = record {
-    piece = s.piece ++ t.piece;
-    put = Appends-trans a b c s.piece t.piece s.put t.put;
-    all = sym (append_assoc w x y) ∙ ap (λ l. l ++ y) s.all ∙ append_assoc s.piece v y ∙ ap (λ l. s.piece ++ l) t.all ∙ sym (append_assoc s.piece t.piece u);
-  }
+  piece = s.piece ++ t.piece;
+  put = Appends-trans a b c s.piece t.piece s.put t.put;
+  all = sym (append_assoc w x y) ∙ ap (λ l. l ++ y) s.all ∙ append_assoc s.piece v y ∙ ap (λ l. s.piece ++ l) t.all ∙ sym (append_assoc s.piece t.piece u);
+}
 
 -- what was put and what waits are what waited and what was said
 whole_then : (s w x v y : List ℕ) → w ++ x ≡ s ++ v → w ++ (x ++ y) ≡ s ++ (v ++ y)
 whole_then s w x v y e = sym (append_assoc w x y) ∙ ap (λ l. l ++ y) e ∙ append_assoc s v y
 
 pub front_then : (a b c : Option (List ℕ)) (w v x y : List ℕ) → Says a b w v x → AppendsFront b c (v ++ y) → AppendsFront a c (w ++ (x ++ y))
-front_then a b c w v x y s (front, rest, e, put) = (s.piece ++ front, rest,
-    whole_then s.piece w x v y s.all ∙ ap (λ l. s.piece ++ l) e ∙ sym (append_assoc s.piece front rest),
-    Appends-trans a b c s.piece front s.put put)
+front_then a b c w v x y s (front, rest, e, put) = (
+  s.piece ++ front,
+  rest,
+  whole_then s.piece w x v y s.all ∙ ap (λ l. s.piece ++ l) e ∙ sym (append_assoc s.piece front rest),
+  Appends-trans a b c s.piece front s.put put,
+)
 
 pub whole_put : (a b c : Option (List ℕ)) (w v x y : List ℕ) → Says a b w v x → Appends b c (v ++ y) → Appends a c (w ++ (x ++ y))
 whole_put a b c w v x y s put = subst (λ l. Appends a c l) (sym (whole_then s.piece w x v y s.all)) (Appends-trans a b c s.piece (v ++ y) s.put put)
@@ -87,20 +90,20 @@ module _ (o : Opening) (t : Bool) (rs : List Record) where
   pub ran_then : (m n : Parts) (a b c : Option (List ℕ)) (w v u : List ℕ) (P Q R : List Record → Type 0)
       → (x : Ran o t rs m a b w v P) → (y : Ran o t (rs ++ x.more) n b c v u Q) → R (x.more ++ y.more) → Ran o t rs n a c w u R
   ran_then m n a b c w v u P Q R x y k = record {
-      more = x.more ++ y.more;
-      kind = k;
-      at = subst (λ l. IsAt o n l) (append_assoc rs x.more y.more) y.at;
-      says = subst (λ l. Says a c w u l) (sym (all_said t x.more y.more)) (says_then a b c w v u (flat_map (said t) x.more) (flat_map (said t) y.more) x.says y.says);
-    }
+    more = x.more ++ y.more;
+    kind = k;
+    at = subst (λ l. IsAt o n l) (append_assoc rs x.more y.more) y.at;
+    says = subst (λ l. Says a c w u l) (sym (all_said t x.more y.more)) (says_then a b c w v u (flat_map (said t) x.more) (flat_map (said t) y.more) x.says y.says);
+  }
 
   pub fails_then : (stop : Stop) (m : Parts) (a b c : Option (List ℕ)) (w v : List ℕ) (P Q R : List Record → Type 0)
       → (x : Ran o t rs m a b w v P) → (y : Fails o t (rs ++ x.more) stop b c v Q) → R (x.more ++ y.more) → Fails o t rs stop a c w R
   fails_then stop m a b c w v P Q R x y k = record {
-      more = x.more ++ y.more;
-      kind = k;
-      run = subst (λ l. IsRun o l) (append_assoc rs x.more y.more) y.run;
-      puts = subst (λ l. Puts stop a c (w ++ l)) (sym (all_said t x.more y.more)) (puts_then stop a b c w v (flat_map (said t) x.more) (flat_map (said t) y.more) x.says y.puts);
-    }
+    more = x.more ++ y.more;
+    kind = k;
+    run = subst (λ l. IsRun o l) (append_assoc rs x.more y.more) y.run;
+    puts = subst (λ l. Puts stop a c (w ++ l)) (sym (all_said t x.more y.more)) (puts_then stop a b c w v (flat_map (said t) x.more) (flat_map (said t) y.more) x.says y.puts);
+  }
 
   pub ran_as : (m : Parts) (a b : Option (List ℕ)) (w v : List ℕ) (P Q : List Record → Type 0) → ((more : List Record) → P more → Q more) → Ran o t rs m a b w v P → Ran o t rs m a b w v Q
   ran_as m a b w v P Q f x = record { more = x.more; kind = f x.more x.kind; at = x.at; says = x.says }
@@ -116,21 +119,21 @@ module _ (o : Opening) (t : Bool) (rs : List Record) where
   pub ran_one : (m : Parts) (a b : Option (List ℕ)) (w v u : List ℕ) (e : Event) (note : Note) (r : Record) → r.event ≡ e → r.note ≡ note → IsAt o m (rs ++ r ∷ []) → v ≡ w ++ said t r → Says a b v u []
       → Ran o t rs m a b w u (IsOne e note)
   ran_one m a b w v u e note r is k at grown s = record {
-      more = r ∷ [];
-      kind = record { told = r; all = refl; event = is; note_is = k };
-      at = at;
-      says = record {
-        piece = s.piece;
-        put = s.put;
-        all = ap (λ l. w ++ l) (append-nil (said t r)) ∙ sym grown ∙ sym (append-nil v) ∙ s.all;
-      };
-    }
+    more = r ∷ [];
+    kind = record { told = r; all = refl; event = is; note_is = k };
+    at = at;
+    says = record {
+      piece = s.piece;
+      put = s.put;
+      all = ap (λ l. w ++ l) (append-nil (said t r)) ∙ sym grown ∙ sym (append-nil v) ∙ s.all;
+    };
+  }
 
   pub fails_one : (stop : Stop) (m : Parts) (a b : Option (List ℕ)) (w v : List ℕ) (e : Event) (r : Record) → stop ≡ Write → r.event ≡ e → IsAt o m (rs ++ r ∷ []) → v ≡ w ++ said t r → AppendsFront a b v
       → Fails o t rs stop a b w (IsAtMostOne e)
   fails_one stop m a b w v e r why is at grown f = record {
-      more = r ∷ [];
-      kind = inr (r, refl, is);
-      run = at.run;
-      puts = subst (λ (s : Stop). Puts s a b (w ++ flat_map (said t) (r ∷ []))) (sym why) (subst (λ l. AppendsFront a b l) (grown ∙ ap (λ l. w ++ l) (sym (append-nil (said t r)))) f);
-    }
+    more = r ∷ [];
+    kind = inr (r, refl, is);
+    run = at.run;
+    puts = subst (λ (s : Stop). Puts s a b (w ++ flat_map (said t) (r ∷ []))) (sym why) (subst (λ l. AppendsFront a b l) (grown ∙ ap (λ l. w ++ l) (sym (append-nil (said t r)))) f);
+  }

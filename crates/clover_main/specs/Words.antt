@@ -1,5 +1,5 @@
 -- the words of the command line
-use Rattle.std.specs.Prelude.{◌≡◌, ◌⊎◌, List, [], ◌∷◌, Bool, true, false, String, string_bytes, codes}
+use Rattle.std.specs.Prelude.{◌≡◌, List, [], ◌∷◌, Bool, true, false, String, string_bytes, codes}
 use Rattle.std.specs.declared.alloc.Global.{Global}
 
 -- the words of `replay`, without the trace and with it

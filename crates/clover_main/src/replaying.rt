@@ -20,12 +20,7 @@ use std::alloc::Global;
 /// Reads a script from the source, runs it, and puts what it prints into the sink, with a trace the
 /// accesses besides. Answers the exit status: 0 where all was put, 1 for a line that is not built or
 /// too much input, 2 for a failed read, 3 for a failed write, 4 for want of memory.
-pub fn replay<S: Source, K: Sink>(
-    alloc: Global,
-    trace: bool,
-    source: &mut S,
-    sink: &mut K,
-) -> u8
+pub fn replay<S: Source, K: Sink>(alloc: Global, trace: bool, source: &mut S, sink: &mut K) -> u8
     // The source was read to its end, its bytes are a script, and the bytes put are the text of a run of
     // its lines, whose accesses replay and whose history is legal.
     ensures done { result ≡ 0 → Replays trace (S.left source.old) (S.left source.new) (K.taken sink.old) (K.taken sink.new) }

@@ -39,4 +39,4 @@ pub returns-clause-ok : goal.returns-clause-ok
 returns-clause-ok g c o rs at =
     let l = c.loop-machine in
     finish_done o c.args.trace rs l.machine l.machine _ _ None _ _ [] c.args.actor (l.invariant.ran o rs at) c.requires.actor
-      (λ busy. let no : false ≡ true = sym c.loop-machine-test.false ∙ c.is_busy.ensures.busy.1 busy in cc)
+    (λ busy. let no : false ≡ true = sym c.loop-machine-test.false ∙ c.is_busy.ensures.busy.1 busy in cc)

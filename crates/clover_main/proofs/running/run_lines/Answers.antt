@@ -1,4 +1,4 @@
-use Rattle.std.proofs.Common.{ℕ, List, ◌≡◌, ◌∷◌, ◌∙◌, [], subst, sym}
+use Rattle.std.proofs.Common.{ℕ, List, ◌∙◌, subst, sym}
 use Rattle.clover_main.specs.Running.{Reaches}
 use Rattle.clover_main.proofs.Loops.{lines_next, lines_stop, lines_last, lines_none, continues_then}
 use Rattle.clover_main.proofs.Owing.{may_next}
@@ -11,7 +11,7 @@ run_said-requires-clause-may g c =
     let lines = c.requires.ready.0 in
     let P : List (List ℕ) → Type 0 = λ texts. Reaches ready.opening c.args.trace lines texts l.machine (g.K.Sink.taken c.args.sink.now) (g.K.Sink.taken l.sink) c.args.out.now.waiting.items l.out.waiting.items in
     may_next c.args.trace c.args.machine.now l.machine lines c.first_line.result.0.now _ _ _ _ _ ready
-      (subst P c.first_line.ensures.lines (l.invariant.ran ready.opening lines ready.at c.requires.ready.1)) l.invariant.goes_on
+    (subst P c.first_line.ensures.lines (l.invariant.ran ready.opening lines ready.at c.requires.ready.1)) l.invariant.goes_on
 
 pub returns-in-Err-clause-err : goal.returns-in-Err-clause-err
 returns-in-Err-clause-err g c o lines at heard =

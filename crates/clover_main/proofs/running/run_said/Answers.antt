@@ -1,4 +1,4 @@
-use Rattle.std.proofs.Common.{◌≡◌, Option, None, inl, refl, subst}
+use Rattle.std.proofs.Common.{Option, inl, refl, subst}
 use Rattle.std.specs.Prelude.{IfNone}
 use Rattle.clover_script.specs.Line.{IsNoLine}
 use Rattle.clover_script.specs.declared.line.Line.{Line}

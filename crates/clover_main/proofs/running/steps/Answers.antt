@@ -1,4 +1,4 @@
-use Rattle.std.proofs.Common.{◌+◌, ◌∙◌, arith, []}
+use Rattle.std.proofs.Common.{◌∙◌, arith, []}
 use Rattle.clover_main.proofs.Loops.{steps_more, steps_fail, continues_then}
 use Rattle.clover_main.proofs.running.steps.Goals as goal
 

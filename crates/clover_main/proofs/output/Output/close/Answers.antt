@@ -1,4 +1,3 @@
-use Rattle.std.proofs.Common.{ℕ, List, ◌++◌}
 use Rattle.clover_main.proofs.Pieces.{puts_end}
 use Rattle.clover_main.proofs.output.Output.close.Goals as goal
 
