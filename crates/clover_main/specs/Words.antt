@@ -1,9 +1,9 @@
 -- the words of the command line
-use Rattle.std.specs.Prelude.{◌≡◌, List, [], ◌∷◌, String, string_bytes, codes}
+use Rattle.std.specs.Prelude.{◌≡◌, List, [], ◌∷◌, Bool, true, false, String, string_bytes, codes}
 use Rattle.std.specs.declared.alloc.Global.{Global}
 
--- the one word `replay`
-abbrev pub AskForReplay : List (String Global) → Type 0
-AskForReplay [] = ⊥
-AskForReplay (word ∷ []) = string_bytes word ≡ codes "replay"
-AskForReplay (word ∷ other ∷ words) = ⊥
+-- the words of `replay`, without the trace and with it
+abbrev pub AskForReplay : Bool → List (String Global) → Type 0
+AskForReplay false (word ∷ []) = string_bytes word ≡ codes "replay"
+AskForReplay true (word ∷ option ∷ []) = (string_bytes word ≡ codes "replay") × (string_bytes option ≡ codes "--trace")
+AskForReplay trace words = ⊥

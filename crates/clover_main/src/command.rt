@@ -1,10 +1,10 @@
 // The top call.
-ghost use Rattle.std.specs.Prelude.{◌≡◌, ◌≤◌, ◌↔◌, ◌⊎◌, ℕ, List, Some, IsTrue};
+ghost use Rattle.std.specs.Prelude.{◌≡◌, ◌≤◌, ◌↔◌, ◌⊎◌, ℕ, List, Bool, Some, IfSome, IfNone};
 ghost use Rattle.clover_main.specs.Causes.{Rose, Writes};
 ghost use Rattle.clover_main.specs.Refusing.{line_of};
-ghost use Rattle.clover_main.specs.Replay.{Replays, StopsShort, Refuses, IsExact};
+ghost use Rattle.clover_main.specs.Replay.{Replays, StopsShort, LacksMemory, Refuses, IsExact};
 ghost use Rattle.clover_main.specs.Words.{AskForReplay};
-ghost use Rattle.clover_main.specs.declared.refusal.Refusal.TheVariants.{OutOfMemory, BadWords};
+ghost use Rattle.clover_main.specs.declared.refusal.Refusal.TheVariants.{BadWords};
 
 use crate::io::{Sink, Source};
 use crate::refusal::{Refusal, refuse};
@@ -19,29 +19,31 @@ pub fn clover<S: Source, K: Sink>(
     source: &mut S,
     sink: &mut K,
 ) -> u8
-    ensures done { result ≡ 0 → Replays (S.left source.old) (S.left source.new) (K.taken sink.old) (K.taken sink.new) }
+    ensures done { result ≡ 0 → (trace : Bool) × AskForReplay trace words.now × Replays trace (S.left source.old) (S.left source.new) (K.taken sink.old) (K.taken sink.new) }
     ensures quiet { result ≡ 0 → (S.faults source.new ≡ S.faults source.old) × (K.faults sink.new ≡ K.faults sink.old) }
     ensures refused { result ≡ 1 → Refuses 1 (S.left source.old) (S.left source.new) (S.faults source.old) (S.faults source.new) (K.taken sink.old) (K.taken sink.new) (K.faults sink.old) (K.faults sink.new) }
     ensures read_fault { result ≡ 2 → Refuses 2 (S.left source.old) (S.left source.new) (S.faults source.old) (S.faults source.new) (K.taken sink.old) (K.taken sink.new) (K.faults sink.old) (K.faults sink.new) }
-    ensures write_fault { result ≡ 3 → Rose (K.faults sink.old) (K.faults sink.new) × StopsShort (S.left source.old) (S.left source.new) (K.taken sink.old) (K.taken sink.new) }
-    ensures memory { result ≡ 4 → Writes (K.taken sink.old) (K.taken sink.new) (K.faults sink.old) (K.faults sink.new) (line_of OutOfMemory) }
-    ensures bad_words { (result ≡ 6) ↔ (AskForReplay words.now → ⊥) }
+    ensures write_fault { result ≡ 3 → Rose (K.faults sink.old) (K.faults sink.new) × ((trace : Bool) × AskForReplay trace words.now × StopsShort trace (S.left source.old) (S.left source.new) (K.taken sink.old) (K.taken sink.new)) }
+    ensures memory { result ≡ 4 → (trace : Bool) × AskForReplay trace words.now × LacksMemory trace (S.left source.old) (S.left source.new) (K.taken sink.old) (K.taken sink.new) (K.faults sink.old) (K.faults sink.new) }
+    ensures bad_words { (result ≡ 6) ↔ ((trace : Bool) → AskForReplay trace words.now → ⊥) }
     ensures bad_words_line { result ≡ 6 → (source.new ≡ source.old) × Writes (K.taken sink.old) (K.taken sink.new) (K.faults sink.old) (K.faults sink.new) (line_of BadWords) }
     ensures no_other { (result ≤ 4) ⊎ (result ≡ 6) }
-    ensures exact { (text : List ℕ) → AskForReplay words.now → S.left source.old ≡ Some text → (Rose (S.faults source.old) (S.faults source.new) → ⊥) → (Rose (K.faults sink.old) (K.faults sink.new) → ⊥) → IsExact text result }
+    ensures exact { (trace : Bool) (text : List ℕ) → AskForReplay trace words.now → S.left source.old ≡ Some text → (Rose (S.faults source.old) (S.faults source.new) → ⊥) → (Rose (K.faults sink.old) (K.faults sink.new) → ⊥) → IsExact text result }
 {
-    if ask_for_replay(words) {
-        replay(alloc, source, sink)
-    } else {
-        refuse(sink, Refusal::BadWords)
+    match trace_asked(words) {
+        Some(trace) => replay(alloc, trace, source, sink),
+        None => refuse(sink, Refusal::BadWords),
     }
 }
 
-fn ask_for_replay(words: &[String]) -> bool
-    ensures { IsTrue result ↔ AskForReplay words.now }
+/// Whether the words ask for a replay with a trace. None where they ask for no replay.
+fn trace_asked(words: &[String]) -> Option<bool>
+    ensures found { IfSome result (λ trace. AskForReplay trace words.now) }
+    ensures none { IfNone result ((trace : Bool) → AskForReplay trace words.now → ⊥) }
 {
     match words {
-        [word] => word.as_str() == "replay",
-        _ => false,
+        [word] if word.as_str() == "replay" => Some(false),
+        [word, option] if word.as_str() == "replay" && option.as_str() == "--trace" => Some(true),
+        _ => None,
     }
 }

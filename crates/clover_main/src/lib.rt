@@ -1,14 +1,15 @@
 //! The commands of the program: what comes in from a source, what goes out to a sink, and the exit
-//! status. The top call is `clover`. The engine that runs a script is private to this crate.
+//! status. The top call is `clover`.
 #![tactic(auto)]
 
 mod command;
-mod engine;
 mod io;
 mod memory;
+mod output;
 mod read;
 mod refusal;
 mod replaying;
+mod running;
 mod stdio;
 
 pub use command::clover;

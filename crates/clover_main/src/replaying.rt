@@ -1,71 +1,112 @@
 // The command that replays a script.
-ghost use Rattle.std.specs.Prelude.{◌≡◌, ◌≤◌, ◌++◌, ℕ, List, Some, IfOk, IfErr};
-ghost use Rattle.clover_main.specs.Causes.{Rose, Writes};
-ghost use Rattle.clover_main.specs.Refusing.{HasShown, status_of, line_of};
-ghost use Rattle.clover_main.specs.Replay.{HasRun, Replays, StopsShort, Refuses, IsExact};
-ghost use Rattle.clover_main.specs.declared.refusal.Refusal.TheVariants.{OutOfMemory};
+ghost use Rattle.std.specs.Prelude.{◌≡◌, ◌≤◌, ℕ, List, Some, OnOk, IfOk, IfErr, IsErrOf};
+ghost use Rattle.std.specs.Io.KnownBytes.{Appends};
+ghost use Rattle.clover_script.specs.Line.{Spoken};
+ghost use Rattle.clover_script.specs.Lines.{IsLinesOf};
+ghost use Rattle.clover_main.specs.Causes.{Rose};
+ghost use Rattle.clover_main.specs.Reading.{Reads};
+ghost use Rattle.clover_main.specs.Refusing.{HasShown};
+ghost use Rattle.clover_main.specs.Replay.{IsReplay, Replays, StopsShort, LacksMemory, HasStopped, Refuses, IsExact};
 
-use crate::engine::{RunText, run};
-use crate::io::{Sink, Source, put_both};
+use crate::io::{Sink, Source};
+use crate::output::{Output, Stop};
 use crate::read::read_all;
 use crate::refusal::{Refusal, refuse};
-use clover_script::{ScriptFault, check_script, first_line};
+use crate::running::run_lines;
+use clover_sched::Machine;
+use clover_script::{Outline, ScriptFault, check_lines};
 use std::alloc::Global;
 
-/// Reads a script from the source, and puts its answers and its history into the sink. Answers the
-/// exit status: 0 where all was put, 1 for a line that is not built or too much input, 2 for a failed
-/// read, 3 for a failed write, 4 for want of memory.
-pub fn replay<S: Source, K: Sink>(alloc: Global, source: &mut S, sink: &mut K) -> u8
-    // The source was read to its end, its bytes are a script, and the bytes put are the text of a
-    // legal history with one entry for each call.
-    ensures done { result ≡ 0 → Replays (S.left source.old) (S.left source.new) (K.taken sink.old) (K.taken sink.new) }
+/// Reads a script from the source, runs it, and puts what it prints into the sink, with a trace the
+/// accesses besides. Answers the exit status: 0 where all was put, 1 for a line that is not built or
+/// too much input, 2 for a failed read, 3 for a failed write, 4 for want of memory.
+pub fn replay<S: Source, K: Sink>(alloc: Global, trace: bool, source: &mut S, sink: &mut K) -> u8
+    // The source was read to its end, its bytes are a script, and the bytes put are the text of a run of
+    // its lines, whose accesses replay and whose history is legal.
+    ensures done { result ≡ 0 → Replays trace (S.left source.old) (S.left source.new) (K.taken sink.old) (K.taken sink.new) }
     ensures quiet { result ≡ 0 → (S.faults source.new ≡ S.faults source.old) × (K.faults sink.new ≡ K.faults sink.old) }
     // The line put names the first line that is not built, or says that the limit was passed.
     ensures refused { result ≡ 1 → Refuses 1 (S.left source.old) (S.left source.new) (S.faults source.old) (S.faults source.new) (K.taken sink.old) (K.taken sink.new) (K.faults sink.old) (K.faults sink.new) }
     ensures read_fault { result ≡ 2 → Refuses 2 (S.left source.old) (S.left source.new) (S.faults source.old) (S.faults source.new) (K.taken sink.old) (K.taken sink.new) (K.faults sink.old) (K.faults sink.new) }
-    ensures write_fault { result ≡ 3 → Rose (K.faults sink.old) (K.faults sink.new) × StopsShort (S.left source.old) (S.left source.new) (K.taken sink.old) (K.taken sink.new) }
-    ensures memory { result ≡ 4 → Writes (K.taken sink.old) (K.taken sink.new) (K.faults sink.old) (K.faults sink.new) (line_of OutOfMemory) }
+    ensures write_fault { result ≡ 3 → Rose (K.faults sink.old) (K.faults sink.new) × StopsShort trace (S.left source.old) (S.left source.new) (K.taken sink.old) (K.taken sink.new) }
+    // What was said before stays, and the line of want of memory stands behind it.
+    ensures memory { result ≡ 4 → LacksMemory trace (S.left source.old) (S.left source.new) (K.taken sink.old) (K.taken sink.new) (K.faults sink.old) (K.faults sink.new) }
     ensures no_other { result ≤ 4 }
     // Where no count rises, only want of memory keeps a script from being replayed, and any other text from being refused.
     ensures exact { (text : List ℕ) → S.left source.old ≡ Some text → (Rose (S.faults source.old) (S.faults source.new) → ⊥) → (Rose (K.faults sink.old) (K.faults sink.new) → ⊥) → IsExact text result }
 {
-    attempt(alloc, source, sink)
+    attempt(alloc, trace, source, sink)
 }
 
 /// The command, without the clause that follows from its others.
-fn attempt<S: Source, K: Sink>(alloc: Global, source: &mut S, sink: &mut K) -> u8
-    ensures done { result ≡ 0 → Replays (S.left source.old) (S.left source.new) (K.taken sink.old) (K.taken sink.new) }
+fn attempt<S: Source, K: Sink>(alloc: Global, trace: bool, source: &mut S, sink: &mut K) -> u8
+    ensures done { result ≡ 0 → Replays trace (S.left source.old) (S.left source.new) (K.taken sink.old) (K.taken sink.new) }
     ensures quiet { result ≡ 0 → (S.faults source.new ≡ S.faults source.old) × (K.faults sink.new ≡ K.faults sink.old) }
     ensures refused { result ≡ 1 → Refuses 1 (S.left source.old) (S.left source.new) (S.faults source.old) (S.faults source.new) (K.taken sink.old) (K.taken sink.new) (K.faults sink.old) (K.faults sink.new) }
     ensures read_fault { result ≡ 2 → Refuses 2 (S.left source.old) (S.left source.new) (S.faults source.old) (S.faults source.new) (K.taken sink.old) (K.taken sink.new) (K.faults sink.old) (K.faults sink.new) }
-    ensures write_fault { result ≡ 3 → Rose (K.faults sink.old) (K.faults sink.new) × StopsShort (S.left source.old) (S.left source.new) (K.taken sink.old) (K.taken sink.new) }
-    ensures memory { result ≡ 4 → Writes (K.taken sink.old) (K.taken sink.new) (K.faults sink.old) (K.faults sink.new) (line_of OutOfMemory) }
+    ensures write_fault { result ≡ 3 → Rose (K.faults sink.old) (K.faults sink.new) × StopsShort trace (S.left source.old) (S.left source.new) (K.taken sink.old) (K.taken sink.new) }
+    ensures memory { result ≡ 4 → LacksMemory trace (S.left source.old) (S.left source.new) (K.taken sink.old) (K.taken sink.new) (K.faults sink.old) (K.faults sink.new) }
     ensures no_other { result ≤ 4 }
 {
-    match answers(alloc, source) {
-        Ok(text) => match put_both(sink, &text.answers, &text.history) {
+    match script_of(alloc, source) {
+        Ok(script) => match run_script(alloc, script.outline, &script.text, trace, sink) {
             Ok(()) => 0,
-            Err(_) => 3,
+            Err(Stop::Write) => 3,
+            Err(Stop::Memory) => refuse(sink, Refusal::OutOfMemory),
         },
         Err(refusal) => refuse(sink, refusal),
     }
 }
 
-/// The text of the run of the source's script.
-fn answers<S: Source>(alloc: Global, source: &mut S) -> Result<RunText, Refusal>
-    ensures ok { IfOk result (λ out. HasRun (S.left source.old) (S.left source.new) (out.answers.items ++ out.history.items)) }
-    ensures quiet { IfOk result (λ out. S.faults source.new ≡ S.faults source.old) }
+/// The text of a script, and what it sets up.
+#[derive(Drop)]
+struct Script {
+    text: Vec<u8>,
+    outline: Outline,
+}
+
+/// The script of the source.
+fn script_of<S: Source>(alloc: Global, source: &mut S) -> Result<Script, Refusal>
+    ensures read { IfOk result (λ script. Reads (S.left source.old) (S.left source.new) script.text.items) }
+    ensures script { IfOk result (λ script. (said : List Spoken) × IsLinesOf script.text.items script.outline.setup said script.outline.names) }
+    ensures quiet { IfOk result (λ script. S.faults source.new ≡ S.faults source.old) }
     ensures err { IfErr result (λ refusal. HasShown (S.left source.old) (S.left source.new) (S.faults source.old) (S.faults source.new) refusal) }
 {
     let text = read_all(alloc, source)?;
-    let outline = match check_script(alloc, &text) {
-        Ok(outline) => outline,
-        Err(ScriptFault::BadLine { line, .. }) => return Err(Refusal::BadLine(line)),
-        Err(ScriptFault::OutOfMemory) => return Err(Refusal::OutOfMemory),
+    match check_lines(alloc, &text) {
+        Ok(outline) => Ok(Script { text, outline }),
+        Err(ScriptFault::BadLine { line, .. }) => Err(Refusal::BadLine(line)),
+        Err(ScriptFault::OutOfMemory) => Err(Refusal::OutOfMemory),
+    }
+}
+
+/// The run of a script from the preset pool.
+fn run_script<K: Sink>(
+    alloc: Global,
+    outline: Outline,
+    text: &[u8],
+    trace: bool,
+    sink: &mut K,
+) -> Result<(), Stop>
+    requires { (said : List Spoken) × IsLinesOf text.now outline.setup said outline.names }
+    ensures ok { OnOk result ((out : List ℕ) × IsReplay trace text.now out × Appends (K.taken sink.old) (K.taken sink.new) out) }
+    ensures err { IfErr result (λ stop. HasStopped stop trace text.now (K.taken sink.old) (K.taken sink.new)) }
+    ensures write { IsErrOf result Stop.Write → Rose (K.faults sink.old) (K.faults sink.new) }
+    ensures quiet { OnOk result (K.faults sink.new ≡ K.faults sink.old) }
+    ensures later { K.faults sink.old ≤ K.faults sink.new }
+{
+    let Outline { setup, names } = outline;
+    let mut machine = match Machine::make(alloc, setup, names, trace) {
+        Ok(machine) => machine,
+        Err(_) => return Err(Stop::Memory),
     };
-    let (_, body) = first_line(&text);
-    match run(alloc, &outline, body) {
-        Ok(out) => Ok(out),
-        Err(_) => Err(Refusal::OutOfMemory),
+    let mut out = Output::new(alloc);
+    match run_lines(alloc, &mut machine, text, &mut out, sink, trace) {
+        Ok(()) => {}
+        Err(stop) => return Err(stop),
+    }
+    match out.close(&machine, sink) {
+        Ok(()) => Ok(()),
+        Err(stop) => Err(stop),
     }
 }

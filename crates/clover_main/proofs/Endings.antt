@@ -1,0 +1,127 @@
+-- the text of a run, from its pieces
+use Rattle.std.proofs.Common.{◌≡◌, ◌≤◌, inl, inr, ℕ, Bool, List, [], ◌++◌, flat_map, map, Option, refl, subst, sym, arith, append-nil}
+use Rattle.std.specs.Io.KnownBytes.{Appends}
+use Rattle.clover_words.specs.declared.setup.Setup.{Setup}
+use Rattle.clover_script.specs.Line.{Spoken, kept_line}
+use Rattle.clover_script.specs.Lines.{IsLinesOf}
+use Rattle.clover_script.specs.declared.line.Line.{Line}
+use Rattle.clover_sched.specs.Folds.{entries_in, made_in}
+use Rattle.clover_sched.specs.Lines.{Covers}
+use Rattle.clover_sched.specs.Machine.{Parts, IsAt, IsOpening}
+use Rattle.clover_sched.specs.Record.{Record}
+use Rattle.clover_sched.specs.Run.{Opening}
+use Rattle.clover_sched.specs.Text.{said, text, ending}
+use Rattle.clover_main.specs.Beginnings.{Opens}
+use Rattle.clover_main.specs.Causes.{Rose, Writes}
+use Rattle.clover_main.specs.Hearing.{Serves, IsReady}
+use Rattle.clover_main.specs.Reading.{Reads}
+use Rattle.clover_main.specs.Refusing.{line_of}
+use Rattle.clover_main.specs.declared.refusal.Refusal.TheVariants.{OutOfMemory}
+use Rattle.clover_main.specs.Performing.{IsPerformed, IsBeginning, IsOutput}
+use Rattle.clover_main.specs.Replay.{IsScriptOf, IsReplay, LacksMemory, HasStopped}
+use Rattle.clover_main.specs.Running.{PutsEnding, Ran, Fails}
+use Rattle.clover_main.specs.declared.output.Stop.{Stop}
+use Rattle.clover_main.specs.declared.output.Stop.TheVariants.{Memory, Write}
+use Rattle.clover_main.proofs.Committing.{legal_committed}
+use Rattle.clover_main.proofs.Following.{run_replays, run_numbered}
+use Rattle.clover_main.proofs.Listening.{lines_served}
+use Rattle.clover_main.proofs.Pieces.{front_then, whole_put}
+
+module _ (o : Opening) (lines : List Line) (t : Bool) where
+  performed : (m : Parts) (a b : Option (List ℕ)) (w : List ℕ) → (x : Ran o t [] m a b [] w (Covers lines [])) → IsPerformed o lines t (text t x.more)
+  performed m a b w x = record {
+    records = x.more;
+    covers = x.kind;
+    run = x.at.run;
+    replays = run_replays o x.more x.at.run;
+    legal = x.at.legal;
+    numbered = run_numbered o x.more x.at.run;
+    whole = legal_committed (entries_in x.more) x.at.legal;
+    printed = refl;
+  }
+
+  -- all lines were run, and the end was not put
+  begun_all : (m : Parts) (a b : Option (List ℕ)) (w : List ℕ) → (x : Ran o t [] m a b [] w (Covers lines [])) → IsBeginning o lines t (flat_map (said t) x.more)
+  begun_all m a b w x = record {
+    records = x.more;
+    opens = record { done = lines; rest = []; before = x.more; part = []; split = sym (append-nil lines); all = sym (append-nil x.more); covers = x.kind; begun = refl };
+    run = x.at.run;
+    printed = refl;
+  }
+
+  begun_some : (stop : Stop) (a c : Option (List ℕ)) → (f : Fails o t [] stop a c [] (Opens lines)) → IsBeginning o lines t (flat_map (said t) f.more)
+  begun_some stop a c f = record { records = f.more; opens = f.kind; run = f.run; printed = refl }
+
+-- the text is a script of these lines, which begins there
+abbrev pub Begins : List ℕ → Opening → List Line → Type 1
+Begins bytes o lines = (Is : Opening → List Line → Type 0) → Is o lines → IsScriptOf bytes Is
+
+pub script_begins : (bytes : List ℕ) (s : Setup) (said : List Spoken) (keys : List (List ℕ)) (o : Opening) → IsLinesOf bytes s said keys → IsOpening s keys o → Begins bytes o (map kept_line said)
+script_begins bytes s said keys o script opens = λ Is is. record { setup = s; said = said; keys = keys; script = script; opening = o; opens = opens; is = is }
+
+-- a machine at the beginning of a script's run has what its lines ask for
+pub script_ready : (bytes : List ℕ) (s : Setup) (said : List Spoken) (keys : List (List ℕ)) (m : Parts) (o : Opening) → IsLinesOf bytes s said keys → IsAt o m [] → m.setup ≡ s → m.names ≡ keys
+    → IsReady m (map kept_line said)
+script_ready bytes s said keys m o script at same named = record {
+  opening = o;
+  at = at;
+  serves = subst (λ (t : Setup). Serves t m.names (map kept_line said)) (sym same) (subst (λ (ks : List (List ℕ)). Serves s ks (map kept_line said)) (sym named) (lines_served bytes s said keys script));
+}
+
+rose_from : (a b c : ℕ) → a ≤ b → Rose b c → Rose a c
+rose_from a b c le rose = omega arith
+
+writes_from : (taken now : Option (List ℕ)) (before then_faults faults : ℕ) (line : List ℕ) → before ≤ then_faults → Writes taken now then_faults faults line → Writes taken now before faults line
+writes_from taken now before then_faults faults line le (inl all) = inl all
+writes_from taken now before then_faults faults line le (inr (front, rose)) = inr (front, rose_from before then_faults faults le rose)
+
+-- what was put where there was no memory
+pub lacks_memory : (stop : Stop) (t : Bool) (bytes : List ℕ) (left after taken between now : Option (List ℕ)) (before then_faults faults : ℕ) → stop ≡ Memory → Reads left after bytes → before ≤ then_faults
+    → HasStopped stop t bytes taken between → Writes between now then_faults faults (line_of OutOfMemory) → LacksMemory t left after taken now before faults
+lacks_memory Write t bytes left after taken between now before then_faults faults is read le stopped writes = cc
+lacks_memory Memory t bytes left after taken between now before then_faults faults is read le (inl same) writes =
+    inl (subst (λ (o : Option (List ℕ)). Writes o now before faults (line_of OutOfMemory)) same (writes_from between now before then_faults faults (line_of OutOfMemory) le writes))
+lacks_memory Memory t bytes left after taken between now before then_faults faults is read le (inr (out, begun, put)) writes =
+    inr (record {
+      out = out;
+      between = between;
+      run = record { text = bytes; read = read; is = begun };
+      put = put;
+      line = writes_from between now before then_faults faults (line_of OutOfMemory) le writes;
+    })
+
+module _ (bytes : List ℕ) (o : Opening) (lines : List Line) (t : Bool) (begins : Begins bytes o lines) where
+  pub performs : (m : Parts) (a b c : Option (List ℕ)) (w : List ℕ) → (x : Ran o t [] m a b [] w (Covers lines []))
+      → ((p : Opening) (rs : List Record) → IsAt p m rs → Appends b c (w ++ ending (entries_in rs) (made_in rs))) → (out : List ℕ) × IsReplay t bytes out × Appends a c out
+  performs m a b c w x close = (
+    text t x.more,
+    begins (λ (p : Opening) (ls : List Line). IsPerformed p ls t (text t x.more)) (performed o lines t m a b w x),
+    whole_put a b c [] w (flat_map (said t) x.more) (ending (entries_in x.more) (made_in x.more)) x.says (close o x.more x.at),
+  )
+
+  pub stops_closing : (stop : Stop) (m : Parts) (a b c : Option (List ℕ)) (w : List ℕ) → (x : Ran o t [] m a b [] w (Covers lines []))
+      → ((p : Opening) (rs : List Record) → IsAt p m rs → PutsEnding stop b c w (ending (entries_in rs) (made_in rs))) → HasStopped stop t bytes a c
+  stops_closing Write m a b c w x close = (
+    text t x.more,
+    begins (λ (p : Opening) (ls : List Line). IsOutput p ls t (text t x.more)) (inl (performed o lines t m a b w x)),
+    front_then a b c [] w (flat_map (said t) x.more) (ending (entries_in x.more) (made_in x.more)) x.says (close o x.more x.at),
+  )
+  stops_closing Memory m a b c w x close =
+      let all = flat_map (said t) x.more in
+      inr (
+        all,
+        begins (λ (p : Opening) (ls : List Line). IsBeginning p ls t all) (begun_all o lines t m a b w x),
+        subst (Appends a c) (append-nil all) (whole_put a b c [] w all [] x.says (subst (Appends b c) (sym (append-nil w)) (close o x.more x.at))),
+      )
+
+  pub stops_running : (stop : Stop) (a c : Option (List ℕ)) → Fails o t [] stop a c [] (Opens lines) → HasStopped stop t bytes a c
+  stops_running Write a c f = (
+    flat_map (said t) f.more,
+    begins (λ (p : Opening) (ls : List Line). IsOutput p ls t (flat_map (said t) f.more)) (inr (begun_some o lines t Write a c f)),
+    f.puts,
+  )
+  stops_running Memory a c f = inr (
+    flat_map (said t) f.more,
+    begins (λ (p : Opening) (ls : List Line). IsBeginning p ls t (flat_map (said t) f.more)) (begun_some o lines t Memory a c f),
+    f.puts,
+  )

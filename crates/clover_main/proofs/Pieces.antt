@@ -1,0 +1,139 @@
+-- pieces of output, one behind the other
+use Rattle.std.proofs.Common.{◌≡◌, inr, ℕ, Bool, true, List, [], ◌∷◌, ◌++◌, length, flat_map, Option, Some, None, refl, ap, subst, sym, ◌∙◌, append-nil, append_assoc}
+use Rattle.std.proofs.KnownBytes.{Appends-nil, Appends-trans}
+use Rattle.std.specs.Io.KnownBytes.{Appends}
+use Rattle.std.specs.Prelude.{slice_get}
+use Rattle.clover_rule.specs.declared.access.Access.{Access}
+use Rattle.clover_sched.specs.Folds.{listed, accesses_in}
+use Rattle.clover_sched.specs.Machine.{Parts, IsAt}
+use Rattle.clover_sched.specs.Record.{Record}
+use Rattle.clover_sched.specs.Run.{Opening, IsRun}
+use Rattle.clover_sched.specs.Text.{said, traced}
+use Rattle.clover_sched.specs.declared.event.Event.{Event}
+use Rattle.clover_sched.specs.declared.event.Note.{Note}
+use Rattle.clover_main.specs.Causes.{AppendsFront}
+use Rattle.clover_main.specs.Running.{Says, Puts, PutsEnding, Ran, Fails, IsOne, IsAtMostOne}
+use Rattle.clover_main.specs.declared.output.Stop.{Stop}
+use Rattle.clover_main.specs.declared.output.Stop.TheVariants.{Memory, Write}
+
+pub all_said : (t : Bool) (rs qs : List Record) → flat_map (said t) (rs ++ qs) ≡ flat_map (said t) rs ++ flat_map (said t) qs
+all_said t [] qs = refl
+all_said t (r ∷ rs) qs = ap (λ l. said t r ++ l) (all_said t rs qs) ∙ sym (append_assoc (said t r) (flat_map (said t) rs) (flat_map (said t) qs))
+
+pub accesses_append : (rs qs : List Record) → accesses_in (rs ++ qs) ≡ accesses_in rs ++ accesses_in qs
+accesses_append [] qs = refl
+accesses_append (r ∷ rs) qs = ap (λ l. listed r.access ++ l) (accesses_append rs qs) ∙ sym (append_assoc (listed r.access) (accesses_in rs) (accesses_in qs))
+
+-- the element behind a list
+get_behind : {A : Type 0} (xs : List A) (o : Option A) → slice_get (xs ++ listed o) (length xs) ≡ o
+get_behind [] None = refl
+get_behind [] (Some x) = refl
+get_behind (x ∷ xs) o = get_behind xs o
+
+-- the access that was listed last is that of the last record
+pub listed_last : (rs : List Record) (r : Record) → slice_get (accesses_in (rs ++ r ∷ [])) (length (accesses_in rs)) ≡ r.access
+listed_last rs r = ap (λ l. slice_get l (length (accesses_in rs))) (accesses_append rs (r ∷ []) ∙ ap (λ l. accesses_in rs ++ l) (append-nil (listed r.access))) ∙ get_behind (accesses_in rs) r.access
+
+-- with a trace its line is that of the list's access behind those before
+pub listed_line : (t : Bool) (xs : List Access) (n : ℕ) (rs : List Record) (r : Record) (old new : List ℕ) → t ≡ true → xs ≡ accesses_in (rs ++ r ∷ []) → n ≡ length (accesses_in rs)
+    → new ≡ old ++ traced true (slice_get xs n) → new ≡ old ++ traced t r.access
+listed_line t xs n rs r old new on all here grown =
+    grown ∙ ap (λ o. old ++ traced true o) (ap (λ l. slice_get l n) all ∙ ap (λ k. slice_get (accesses_in (rs ++ r ∷ [])) k) here ∙ listed_last rs r) ∙ ap (λ b. old ++ traced b r.access) (sym on)
+
+pub front_nothing : (a : Option (List ℕ)) (all : List ℕ) → AppendsFront a a all
+front_nothing a all = ([], all, refl, Appends-nil a)
+
+pub front_more : (a b : Option (List ℕ)) (all more : List ℕ) → AppendsFront a b all → AppendsFront a b (all ++ more)
+front_more a b all more (front, rest, e, put) = (front, rest ++ more, ap (λ l. l ++ more) e ∙ append_assoc front rest more, put)
+
+pub front_whole : (a b : Option (List ℕ)) (all : List ℕ) → Appends a b all → AppendsFront a b all
+front_whole a b all put = (all, [], sym (append-nil all), put)
+
+pub says_then : (a b c : Option (List ℕ)) (w v u x y : List ℕ) → Says a b w v x → Says b c v u y → Says a c w u (x ++ y)
+says_then a b c w v u x y s t = record {
+  piece = s.piece ++ t.piece;
+  put = Appends-trans a b c s.piece t.piece s.put t.put;
+  all = sym (append_assoc w x y) ∙ ap (λ l. l ++ y) s.all ∙ append_assoc s.piece v y ∙ ap (λ l. s.piece ++ l) t.all ∙ sym (append_assoc s.piece t.piece u);
+}
+
+-- what was put and what waits are what waited and what was said
+whole_then : (s w x v y : List ℕ) → w ++ x ≡ s ++ v → w ++ (x ++ y) ≡ s ++ (v ++ y)
+whole_then s w x v y e = sym (append_assoc w x y) ∙ ap (λ l. l ++ y) e ∙ append_assoc s v y
+
+pub front_then : (a b c : Option (List ℕ)) (w v x y : List ℕ) → Says a b w v x → AppendsFront b c (v ++ y) → AppendsFront a c (w ++ (x ++ y))
+front_then a b c w v x y s (front, rest, e, put) = (
+  s.piece ++ front,
+  rest,
+  whole_then s.piece w x v y s.all ∙ ap (λ l. s.piece ++ l) e ∙ sym (append_assoc s.piece front rest),
+  Appends-trans a b c s.piece front s.put put,
+)
+
+pub whole_put : (a b c : Option (List ℕ)) (w v x y : List ℕ) → Says a b w v x → Appends b c (v ++ y) → Appends a c (w ++ (x ++ y))
+whole_put a b c w v x y s put = subst (λ l. Appends a c l) (sym (whole_then s.piece w x v y s.all)) (Appends-trans a b c s.piece (v ++ y) s.put put)
+
+pub puts_then : (stop : Stop) (a b c : Option (List ℕ)) (w v x y : List ℕ) → Says a b w v x → Puts stop b c (v ++ y) → Puts stop a c (w ++ (x ++ y))
+puts_then Memory a b c w v x y s put = whole_put a b c w v x y s put
+puts_then Write a b c w v x y s put = front_then a b c w v x y s put
+
+-- what was put of all that waits was put of it and of an end
+pub puts_end : (stop : Stop) (a b : Option (List ℕ)) (w end : List ℕ) → Puts stop a b w → PutsEnding stop a b w end
+puts_end Memory a b w end put = put
+puts_end Write a b w end put = front_more a b w end put
+
+pub puts_nothing : (stop : Stop) (a b : Option (List ℕ)) (w : List ℕ) → Puts stop a b w → Puts stop a b (w ++ [])
+puts_nothing stop a b w put = subst (λ l. Puts stop a b l) (sym (append-nil w)) put
+
+module _ (o : Opening) (t : Bool) (rs : List Record) where
+  pub ran_nothing : (m : Parts) (a : Option (List ℕ)) (w : List ℕ) (Is : List Record → Type 0) → IsAt o m rs → Is [] → Ran o t rs m a a w w Is
+  ran_nothing m a w Is at k = record { more = []; kind = k; at = subst (λ l. IsAt o m l) (sym (append-nil rs)) at; says = record { piece = []; put = Appends-nil a; all = append-nil w } }
+
+  pub ran_then : (m n : Parts) (a b c : Option (List ℕ)) (w v u : List ℕ) (P Q R : List Record → Type 0)
+      → (x : Ran o t rs m a b w v P) → (y : Ran o t (rs ++ x.more) n b c v u Q) → R (x.more ++ y.more) → Ran o t rs n a c w u R
+  ran_then m n a b c w v u P Q R x y k = record {
+    more = x.more ++ y.more;
+    kind = k;
+    at = subst (λ l. IsAt o n l) (append_assoc rs x.more y.more) y.at;
+    says = subst (λ l. Says a c w u l) (sym (all_said t x.more y.more)) (says_then a b c w v u (flat_map (said t) x.more) (flat_map (said t) y.more) x.says y.says);
+  }
+
+  pub fails_then : (stop : Stop) (m : Parts) (a b c : Option (List ℕ)) (w v : List ℕ) (P Q R : List Record → Type 0)
+      → (x : Ran o t rs m a b w v P) → (y : Fails o t (rs ++ x.more) stop b c v Q) → R (x.more ++ y.more) → Fails o t rs stop a c w R
+  fails_then stop m a b c w v P Q R x y k = record {
+    more = x.more ++ y.more;
+    kind = k;
+    run = subst (λ l. IsRun o l) (append_assoc rs x.more y.more) y.run;
+    puts = subst (λ l. Puts stop a c (w ++ l)) (sym (all_said t x.more y.more)) (puts_then stop a b c w v (flat_map (said t) x.more) (flat_map (said t) y.more) x.says y.puts);
+  }
+
+  pub ran_as : (m : Parts) (a b : Option (List ℕ)) (w v : List ℕ) (P Q : List Record → Type 0) → ((more : List Record) → P more → Q more) → Ran o t rs m a b w v P → Ran o t rs m a b w v Q
+  ran_as m a b w v P Q f x = record { more = x.more; kind = f x.more x.kind; at = x.at; says = x.says }
+
+  pub fails_as : (stop : Stop) (a b : Option (List ℕ)) (w : List ℕ) (P Q : List Record → Type 0) → ((more : List Record) → P more → Q more) → Fails o t rs stop a b w P → Fails o t rs stop a b w Q
+  fails_as stop a b w P Q f x = record { more = x.more; kind = f x.more x.kind; run = x.run; puts = x.puts }
+
+  -- nothing happened
+  pub fails_none : (stop : Stop) (m : Parts) (a b : Option (List ℕ)) (w : List ℕ) (Is : List Record → Type 0) → IsAt o m rs → Is [] → Puts stop a b w → Fails o t rs stop a b w Is
+  fails_none stop m a b w Is at k put = record { more = []; kind = k; run = subst (λ l. IsRun o l) (sym (append-nil rs)) at.run; puts = puts_nothing stop a b w put }
+
+  -- an event happened, and what it prints joined what waits and went on
+  pub ran_one : (m : Parts) (a b : Option (List ℕ)) (w v u : List ℕ) (e : Event) (note : Note) (r : Record) → r.event ≡ e → r.note ≡ note → IsAt o m (rs ++ r ∷ []) → v ≡ w ++ said t r → Says a b v u []
+      → Ran o t rs m a b w u (IsOne e note)
+  ran_one m a b w v u e note r is k at grown s = record {
+    more = r ∷ [];
+    kind = record { told = r; all = refl; event = is; note_is = k };
+    at = at;
+    says = record {
+      piece = s.piece;
+      put = s.put;
+      all = ap (λ l. w ++ l) (append-nil (said t r)) ∙ sym grown ∙ sym (append-nil v) ∙ s.all;
+    };
+  }
+
+  pub fails_one : (stop : Stop) (m : Parts) (a b : Option (List ℕ)) (w v : List ℕ) (e : Event) (r : Record) → stop ≡ Write → r.event ≡ e → IsAt o m (rs ++ r ∷ []) → v ≡ w ++ said t r → AppendsFront a b v
+      → Fails o t rs stop a b w (IsAtMostOne e)
+  fails_one stop m a b w v e r why is at grown f = record {
+    more = r ∷ [];
+    kind = inr (r, refl, is);
+    run = at.run;
+    puts = subst (λ (s : Stop). Puts s a b (w ++ flat_map (said t) (r ∷ []))) (sym why) (subst (λ l. AppendsFront a b l) (grown ∙ ap (λ l. w ++ l) (sym (append-nil (said t r)))) f);
+  }

@@ -1,0 +1,18 @@
+use Rattle.std.proofs.Common.{◌≡◌, [], List, length}
+use Rattle.clover_script.specs.Line.{lines_of}
+use Rattle.clover_script.specs.declared.line.Line.{Line}
+use Rattle.clover_sched.specs.Machine.{IsAt}
+use Rattle.clover_sched.specs.Run.{Opening}
+use Rattle.clover_main.specs.Hearing.{Heard}
+use Rattle.clover_main.specs.Running.{Reaches, Continues}
+use Rattle.clover_main.proofs.running.run_lines.Given as goal
+
+abbrev pub invariant-loop-rest : goal.invariant-loop-rest
+invariant-loop-rest g l = record {
+  ran : (o : Opening) (lines : List Line) → IsAt o l.fn.machine [] → Heard (lines_of l.fn.text) lines → Reaches o l.trace lines (lines_of l.rest) l.machine (g.K.Sink.taken l.fn.sink) (g.K.Sink.taken l.sink) l.fn.out.waiting.items l.out.waiting.items;
+  goes_on : Continues l.fn.machine l.machine;
+  quiet : g.K.Sink.faults l.sink ≡ g.K.Sink.faults l.fn.sink;
+}
+
+abbrev pub decreases-loop-rest : goal.decreases-loop-rest
+decreases-loop-rest g l = length l.rest

@@ -1,0 +1,163 @@
+// What waits to be put into the sink. It is put in large pieces, and what one event prints stays together.
+ghost use Rattle.std.specs.Prelude.{◌≡◌, ◌≤◌, ◌++◌, ◌∷◌, ℕ, List, [], length, true, OnOk, OnErr, IfErr, IsErrOf, slice_get};
+ghost use Rattle.std.specs.Io.KnownBytes.{Appends};
+ghost use Rattle.clover_sched.specs.Folds.{accesses_in, entries_in, made_in};
+ghost use Rattle.clover_sched.specs.Machine.{IsAt};
+ghost use Rattle.clover_sched.specs.Record.{Record};
+ghost use Rattle.clover_sched.specs.Run.{Opening};
+ghost use Rattle.clover_sched.specs.Text.{said, traced, ending};
+ghost use Rattle.clover_main.specs.Causes.{AppendsFront, Rose};
+ghost use Rattle.clover_main.specs.Running.{Says, Puts, PutsEnding};
+
+use crate::io::{Sink, put_both};
+use clover_rule::Access;
+use clover_sched::{Machine, Note, push_access, push_ending, push_note};
+use std::alloc::{AllocError, Global};
+
+/// How many bytes may wait before they are put.
+const PIECE: usize = 65_536;
+
+/// Why a run was cut short.
+#[derive(Clone, Copy, Debug, PartialEq, Eq)]
+pub enum Stop {
+    /// There was no memory. What was said before was put.
+    Memory,
+    /// A write failed.
+    Write,
+}
+
+/// What waits to be put, and what the last event prints, built before it joins what waits.
+#[derive(Drop)]
+pub struct Output {
+    pub waiting: Vec<u8>,
+    pub piece: Vec<u8>,
+}
+
+impl Output {
+    /// Nothing waits. Takes no memory.
+    pub fn new(alloc: Global) -> Output
+        ensures { result.waiting.items ≡ [] }
+    {
+        Output {
+            waiting: Vec::new(alloc),
+            piece: Vec::new(alloc),
+        }
+    }
+
+    /// Puts what an event prints behind what waits: with a trace the line of its access, which is the one
+    /// behind those that the machine listed before, and then the line of what it came to.
+    ///
+    /// Err for want of memory, and then what waits is as it was.
+    pub fn say(
+        &mut self,
+        machine: &Machine,
+        listed: usize,
+        note: &Note,
+        trace: bool,
+    ) -> Result<(), AllocError>
+        requires traced { machine.now.pool.traced ≡ trace }
+        ensures ok { OnOk result ((o : Opening) (rs : List Record) (r : Record) → IsAt o machine.now (rs ++ r ∷ []) → r.note ≡ note.now → (trace ≡ true → listed ≡ length (accesses_in rs))
+            → self.new.waiting.items ≡ self.old.waiting.items ++ said trace r) }
+        ensures err { OnErr result (self.new.waiting.items ≡ self.old.waiting.items) }
+    {
+        self.piece.clear();
+        push_said(&mut self.piece, machine, listed, note, trace)?;
+        self.waiting.extend_from_slice(&self.piece)
+    }
+
+    /// Puts what waits once it is much.
+    pub fn put_much<K: Sink>(&mut self, sink: &mut K) -> Result<(), Stop>
+        ensures ok { OnOk result (Says (K.taken sink.old) (K.taken sink.new) self.old.waiting.items self.new.waiting.items []) }
+        ensures err { OnErr result (AppendsFront (K.taken sink.old) (K.taken sink.new) self.old.waiting.items) }
+        ensures why { IfErr result (λ stop. stop ≡ Stop.Write) }
+        ensures write { OnErr result (Rose (K.faults sink.old) (K.faults sink.new)) }
+        ensures quiet { OnOk result (K.faults sink.new ≡ K.faults sink.old) }
+        ensures later { K.faults sink.old ≤ K.faults sink.new }
+    {
+        if self.waiting.len() < PIECE {
+            return Ok(());
+        }
+        match sink.put(&self.waiting) {
+            Ok(()) => {
+                self.waiting.clear();
+                Ok(())
+            }
+            Err(_) => Err(Stop::Write),
+        }
+    }
+
+    /// Puts all that waits, for want of memory.
+    pub fn give_up<K: Sink>(&self, sink: &mut K) -> Stop
+        ensures puts { Puts result (K.taken sink.old) (K.taken sink.new) self.now.waiting.items }
+        ensures write { result ≡ Stop.Write → Rose (K.faults sink.old) (K.faults sink.new) }
+        ensures later { K.faults sink.old ≤ K.faults sink.new }
+    {
+        match sink.put(&self.waiting) {
+            Ok(()) => Stop::Memory,
+            Err(_) => Stop::Write,
+        }
+    }
+
+    /// Puts all that waits, and behind it the history and the number of accesses.
+    pub fn close<K: Sink>(mut self, machine: &Machine, sink: &mut K) -> Result<(), Stop>
+        ensures ok { OnOk result ((o : Opening) (rs : List Record) → IsAt o machine.now rs → Appends (K.taken sink.old) (K.taken sink.new) (self.waiting.items ++ ending (entries_in rs) (made_in rs))) }
+        ensures err { IfErr result (λ stop. (o : Opening) (rs : List Record) → IsAt o machine.now rs → PutsEnding stop (K.taken sink.old) (K.taken sink.new) self.waiting.items (ending (entries_in rs) (made_in rs))) }
+        ensures write { IsErrOf result Stop.Write → Rose (K.faults sink.old) (K.faults sink.new) }
+        ensures quiet { OnOk result (K.faults sink.new ≡ K.faults sink.old) }
+        ensures later { K.faults sink.old ≤ K.faults sink.new }
+    {
+        self.piece.clear();
+        match push_ending(&mut self.piece, machine.history(), machine.made()) {
+            Ok(()) => match put_both(sink, &self.waiting, &self.piece) {
+                Ok(()) => Ok(()),
+                Err(_) => Err(Stop::Write),
+            },
+            Err(_) => Err(self.give_up(sink)),
+        }
+    }
+}
+
+/// Builds what an event prints.
+fn push_said(
+    piece: &mut Vec<u8>,
+    machine: &Machine,
+    listed: usize,
+    note: &Note,
+    trace: bool,
+) -> Result<(), AllocError>
+    requires traced { machine.now.pool.traced ≡ trace }
+    ensures ok { OnOk result ((o : Opening) (rs : List Record) (r : Record) → IsAt o machine.now (rs ++ r ∷ []) → r.note ≡ note.now → (trace ≡ true → listed ≡ length (accesses_in rs))
+        → piece.new.items ≡ piece.old.items ++ said trace r) }
+{
+    push_traced(piece, machine, listed, trace)?;
+    push_note(piece, note)?;
+    Ok(())
+}
+
+/// Builds, with a trace, the line of the access with this number in the machine's list.
+fn push_traced(
+    piece: &mut Vec<u8>,
+    machine: &Machine,
+    listed: usize,
+    trace: bool,
+) -> Result<(), AllocError>
+    requires traced { machine.now.pool.traced ≡ trace }
+    ensures ok { OnOk result ((o : Opening) (rs : List Record) (r : Record) → IsAt o machine.now (rs ++ r ∷ []) → (trace ≡ true → listed ≡ length (accesses_in rs))
+        → piece.new.items ≡ piece.old.items ++ traced trace r.access) }
+{
+    if trace {
+        push_listed(piece, machine.accesses(), listed)?;
+        return Ok(());
+    }
+    Ok(())
+}
+
+/// Builds the line of the access with this number in a list, if there is one.
+fn push_listed(piece: &mut Vec<u8>, accesses: &[Access], listed: usize) -> Result<(), AllocError>
+    ensures { OnOk result (piece.new.items ≡ piece.old.items ++ traced true (slice_get accesses.now listed)) }
+{
+    match accesses.get(listed) {
+        Some(access) => push_access(piece, access),
+        None => Ok(()),
+    }
+}
