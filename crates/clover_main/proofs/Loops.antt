@@ -18,7 +18,7 @@ use Rattle.clover_sched.specs.declared.event.Event.TheVariants.{Begin, Step, Ref
 use Rattle.clover_sched.specs.declared.event.Note.{Note}
 use Rattle.clover_main.specs.Beginnings.{BeginsCall, IsBegun, Opens}
 use Rattle.clover_main.specs.Hearing.{Heard}
-use Rattle.clover_main.specs.Running.{Ran, Fails, Continues, IsOne, IsAtMostOne, AreSteps, AreSomeSteps, IsSaidBy, IsPartOfSaid, Reaches}
+use Rattle.clover_main.specs.Running.{Ran, Fails, Continues, IsOne, IsOnly, IsAtMostOne, AreSteps, AreSomeSteps, IsSaidBy, IsPartOfSaid, Reaches}
 use Rattle.clover_main.specs.declared.output.Stop.{Stop}
 use Rattle.clover_main.proofs.Busy.{busy_task, idle_none}
 use Rattle.clover_main.proofs.Pieces.{ran_then, fails_then, ran_nothing}
@@ -32,8 +32,8 @@ continues_same m = record { setup = refl; names = refl; traced = refl }
 abbrev AllAre : Event → List Record → Type 0
 AllAre e rs = All (λ (r : Record). r.event ≡ e) rs
 
-all_one : (e : Event) (note : Note) (ys : List Record) → IsOne e note ys → AllAre e ys × (length ys ≡ 1)
-all_one e note ys o = (subst (λ l. AllAre e l) (sym o.all) (All-cons (λ (r : Record). r.event ≡ e) o.told [] o.event (All-nil (λ (r : Record). r.event ≡ e))), ap length o.all)
+all_one : (e : Event) (ys : List Record) → IsOnly e ys → AllAre e ys × (length ys ≡ 1)
+all_one e ys (r, all, is) = (subst (λ l. AllAre e l) (sym all) (All-cons (λ (x : Record). x.event ≡ e) r [] is (All-nil (λ (x : Record). x.event ≡ e))), ap length all)
 
 all_most : (e : Event) (ys : List Record) → IsAtMostOne e ys → AllAre e ys × (length ys ≤ 1)
 all_most e ys o = elim o as (λ _. AllAre e ys × (length ys ≤ 1)) [
@@ -44,14 +44,11 @@ all_most e ys o = elim o as (λ _. AllAre e ys × (length ys ≤ 1)) [
 all_both : (e : Event) (xs ys : List Record) → AllAre e xs → AllAre e ys → AllAre e (xs ++ ys)
 all_both e xs ys h k = All-append (λ (r : Record). r.event ≡ e) xs ys h k
 
-pub no_steps : (a : ℕ) → AreSteps a 0 []
-no_steps a = (All-nil (λ (r : Record). r.event ≡ Step a), refl)
-
 module _ (o : Opening) (t : Bool) (rs : List Record) (m n : Parts) (a b c : Option (List ℕ)) (w v u : List ℕ) (actor : ℕ) where
-  pub steps_more : (k k2 : ℕ) (note : Note) → (x : Ran o t rs m a b w v (AreSteps actor k)) → Ran o t (rs ++ x.more) n b c v u (IsOne (Step actor) note) → k2 ≡ k + 1 → Ran o t rs n a c w u (AreSteps actor k2)
-  steps_more k k2 note x y e =
-      let one = all_one (Step actor) note y.more y.kind in
-      ran_then o t rs m n a b c w v u (AreSteps actor k) (IsOne (Step actor) note) (AreSteps actor k2) x y
+  pub steps_more : (k k2 : ℕ) → (x : Ran o t rs m a b w v (AreSteps actor k)) → Ran o t (rs ++ x.more) n b c v u (IsOnly (Step actor)) → k2 ≡ k + 1 → Ran o t rs n a c w u (AreSteps actor k2)
+  steps_more k k2 x y e =
+      let one = all_one (Step actor) y.more y.kind in
+      ran_then o t rs m n a b c w v u (AreSteps actor k) (IsOnly (Step actor)) (AreSteps actor k2) x y
       (all_both (Step actor) x.more y.more x.kind.0 one.0, omega (arith, length-append x.more y.more, x.kind.1, one.1, e))
 
   pub steps_fail : (stop : Stop) (k times : ℕ) → (x : Ran o t rs m a b w v (AreSteps actor k)) → Fails o t (rs ++ x.more) stop b c v (IsAtMostOne (Step actor)) → k < times → Fails o t rs stop a c w (AreSomeSteps actor times)
@@ -74,15 +71,17 @@ module _ (o : Opening) (t : Bool) (rs : List Record) (m n : Parts) (a b c : Opti
   }
 
   module _ (busy : IsBusy m actor) where
-    pub finish_more : (note : Note) → Ran o t (rs ++ x.more) n b c v u (IsOne (Step actor) note) → Ran o t rs n a c w u (Works actor rs)
-    finish_more note y = ran_then o t rs m n a b c w v u (Works actor rs) (IsOne (Step actor) note) (Works actor rs) x y
-        (subst (λ l. Works actor rs (x.more ++ l)) (sym y.kind.all) (works_push actor rs x.more y.kind.told x.kind y.kind.event (busy_task o m (rs ++ x.more) x.at actor busy)))
+    step_works : (more : List Record) → IsOnly (Step actor) more → Works actor rs (x.more ++ more)
+    step_works more (r, all, is) = subst (λ l. Works actor rs (x.more ++ l)) (sym all) (works_push actor rs x.more r x.kind is (busy_task o m (rs ++ x.more) x.at actor busy))
+
+    pub finish_more : Ran o t (rs ++ x.more) n b c v u (IsOnly (Step actor)) → Ran o t rs n a c w u (Works actor rs)
+    finish_more y = ran_then o t rs m n a b c w v u (Works actor rs) (IsOnly (Step actor)) (Works actor rs) x y (step_works y.more y.kind)
 
     pub finish_fails : (stop : Stop) → Fails o t (rs ++ x.more) stop b c v (IsAtMostOne (Step actor)) → Fails o t rs stop a c w (Works actor rs)
     finish_fails stop y = fails_then o t rs stop m a b c w v (Works actor rs) (IsAtMostOne (Step actor)) (Works actor rs) x y
         (elim y.kind as (λ _. Works actor rs (x.more ++ y.more)) [
           | inl none ↦ subst (λ l. Works actor rs (x.more ++ l)) (sym none) (subst (λ l. Works actor rs l) (sym (append-nil x.more)) x.kind)
-          | inr one ↦ subst (λ l. Works actor rs (x.more ++ l)) (sym one.1) (works_push actor rs x.more one.0 x.kind one.2 (busy_task o m (rs ++ x.more) x.at actor busy))
+          | inr one ↦ step_works y.more one
         ])
 
 pub call_away : (a : ℕ) (t : Task) (note : Note) (before more : List Record) → IsTurnedAway note → IsOne (Begin a t) note more → Calls a t before more

@@ -60,9 +60,13 @@ pub record IsOne (e : Event) (note : Note) (more : List Record) : Type 0 where
   pub event : told.event ≡ e
   pub note_is : told.note ≡ note
 
+-- one record, of this event
+abbrev pub IsOnly : Event → List Record → Type 0
+IsOnly e more = (r : Record) × (more ≡ r ∷ []) × (r.event ≡ e)
+
 -- at most one record, of this event
 abbrev pub IsAtMostOne : Event → List Record → Type 0
-IsAtMostOne e more = (more ≡ []) ⊎ ((r : Record) × (more ≡ r ∷ []) × (r.event ≡ e))
+IsAtMostOne e more = (more ≡ []) ⊎ IsOnly e more
 
 -- so many steps of the actor
 abbrev pub AreSteps : ℕ → ℕ → List Record → Type 0

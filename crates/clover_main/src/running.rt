@@ -10,7 +10,7 @@ ghost use Rattle.clover_sched.specs.declared.event.Event.TheVariants.{Begin as B
 ghost use Rattle.clover_main.specs.Beginnings.{BeginsCall, IsPartOrAll, Opens};
 ghost use Rattle.clover_main.specs.Causes.{Rose};
 ghost use Rattle.clover_main.specs.Hearing.{Heard, IsReady, MayRun};
-ghost use Rattle.clover_main.specs.Running.{Puts, Ran, Fails, Continues, IsOne, IsAtMostOne, AreSteps, AreSomeSteps, IsSaidBy, IsPartOfSaid};
+ghost use Rattle.clover_main.specs.Running.{Puts, Ran, Fails, Continues, IsOne, IsOnly, IsAtMostOne, AreSteps, AreSomeSteps, IsSaidBy, IsPartOfSaid};
 
 use crate::io::Sink;
 use crate::output::{Output, Stop};
@@ -51,6 +51,30 @@ fn one<K: Sink>(
     }
 }
 
+/// The next step of the actor.
+fn step<K: Sink>(
+    machine: &mut Machine,
+    actor: u32,
+    out: &mut Output,
+    sink: &mut K,
+    trace: bool,
+) -> Result<(), Stop>
+    requires actor { 1 ≤ actor }
+    requires traced { machine.old.pool.traced ≡ trace }
+    ensures ok { OnOk result ((o : Opening) (rs : List Record) → IsAt o machine.old rs → Ran o trace rs machine.new (K.taken sink.old) (K.taken sink.new) out.old.waiting.items out.new.waiting.items (IsOnly (StepOf actor))) }
+    ensures goes_on { OnOk result (Continues machine.old machine.new) }
+    ensures less { OnOk result (IsBusy machine.old actor → left machine.new actor < left machine.old actor) }
+    ensures err { IfErr result (λ stop. (o : Opening) (rs : List Record) → IsAt o machine.old rs → Fails o trace rs stop (K.taken sink.old) (K.taken sink.new) out.old.waiting.items (IsAtMostOne (StepOf actor))) }
+    ensures write { IsErrOf result Stop.Write → Rose (K.faults sink.old) (K.faults sink.new) }
+    ensures quiet { OnOk result (K.faults sink.new ≡ K.faults sink.old) }
+    ensures later { K.faults sink.old ≤ K.faults sink.new }
+{
+    match one(machine, Event::Step { actor }, out, sink, trace) {
+        Ok(_) => Ok(()),
+        Err(stop) => Err(stop),
+    }
+}
+
 /// As many steps of the actor.
 fn steps<K: Sink>(
     machine: &mut Machine,
@@ -71,8 +95,8 @@ fn steps<K: Sink>(
 {
     let mut left = times;
     while left > 0 {
-        match one(machine, Event::Step { actor }, out, sink, trace) {
-            Ok(_) => {}
+        match step(machine, actor, out, sink, trace) {
+            Ok(()) => {}
             Err(stop) => return Err(stop),
         }
         left -= 1;
@@ -98,8 +122,8 @@ fn finish<K: Sink>(
     ensures later { K.faults sink.old ≤ K.faults sink.new }
 {
     while machine.is_busy(actor) {
-        match one(machine, Event::Step { actor }, out, sink, trace) {
-            Ok(_) => {}
+        match step(machine, actor, out, sink, trace) {
+            Ok(()) => {}
             Err(stop) => return Err(stop),
         }
     }

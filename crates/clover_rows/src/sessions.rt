@@ -14,31 +14,31 @@ const SESSIONS: [Session; 12] = [
     // a pool line alone
     Session {
         text: "pool nodes=1 buffers=4 slots=2 words=2 wear=3 clients=1 batch=2\n",
-        printed: "history\nend\n",
+        printed: "history\naccesses 0\nend\n",
         status: 0,
     },
     // a put and a get of one key
     Session {
         text: "pool nodes=1 buffers=4 slots=2 words=2 wear=3 clients=1 batch=2\ncall 1 put a =hello\ncall 1 get a\n",
-        printed: "1 stored 0.0.0\n1 found 0.0.0 =hello\nhistory\nh 1 1 1 put a =hello stored 0.0.0\nh 1 1 2 get a found 0.0.0 =hello\nend\n",
+        printed: "1 stored 0.0.0\n1 found 0.0.0 =hello\nhistory\nh 1 1 1 put a =hello stored 0.0.0\nh 1 1 2 get a found 0.0.0 =hello\naccesses 15\nend\n",
         status: 0,
     },
     // a key that was never put, and a last line without its end
     Session {
         text: "pool nodes=1 buffers=4 slots=2 words=2 wear=3 clients=1 batch=2\ncall 1 get a",
-        printed: "1 absent\nhistory\nh 1 1 1 get a absent\nend\n",
+        printed: "1 absent\nhistory\nh 1 1 1 get a absent\naccesses 4\nend\n",
         status: 0,
     },
     // an empty value, then one of exactly the room; bytes that stand for themselves and others
     Session {
         text: "pool nodes=1 buffers=4 slots=2 words=2 wear=3 clients=1 batch=2\ncall 1 put %20 =\ncall 1 get %20\ncall 1 put %20 =0123456789abcde%00\ncall 1 get %20\n",
-        printed: "1 stored 0.0.0\n1 found 0.0.0 =\n1 stored 0.1.0\n1 found 0.1.0 =0123456789abcde%00\nhistory\nh 1 1 1 put %20 = stored 0.0.0\nh 1 1 2 get %20 found 0.0.0 =\nh 1 1 3 put %20 =0123456789abcde%00 stored 0.1.0\nh 1 1 4 get %20 found 0.1.0 =0123456789abcde%00\nend\n",
+        printed: "1 stored 0.0.0\n1 found 0.0.0 =\n1 stored 0.1.0\n1 found 0.1.0 =0123456789abcde%00\nhistory\nh 1 1 1 put %20 = stored 0.0.0\nh 1 1 2 get %20 found 0.0.0 =\nh 1 1 3 put %20 =0123456789abcde%00 stored 0.1.0\nh 1 1 4 get %20 found 0.1.0 =0123456789abcde%00\naccesses 34\nend\n",
         status: 0,
     },
     // buffers over two memory nodes, dealt to two clients, of which the first acts
     Session {
         text: "pool nodes=2 buffers=3 slots=1 words=1 wear=1 clients=2 batch=1\ncall 1 put k =1\ncall 1 put k =2\ncall 1 put k =3\ncall 1 get k\n",
-        printed: "1 stored 0.0.0\n1 stored 0.2.0\n1 stored 1.1.0\n1 found 1.1.0 =3\nhistory\nh 1 1 1 put k =1 stored 0.0.0\nh 1 1 2 put k =2 stored 0.2.0\nh 1 1 3 put k =3 stored 1.1.0\nh 1 1 4 get k found 1.1.0 =3\nend\n",
+        printed: "1 stored 0.0.0\n1 stored 0.2.0\n1 stored 1.1.0\n1 found 1.1.0 =3\nhistory\nh 1 1 1 put k =1 stored 0.0.0\nh 1 1 2 put k =2 stored 0.2.0\nh 1 1 3 put k =3 stored 1.1.0\nh 1 1 4 get k found 1.1.0 =3\naccesses 41\nend\n",
         status: 0,
     },
     // one put beyond the stock
@@ -56,8 +56,8 @@ const SESSIONS: [Session; 12] = [
     // a value one byte longer than the room
     Session {
         text: "pool nodes=1 buffers=4 slots=2 words=2 wear=3 clients=1 batch=2\ncall 1 put a =0123456789abcdefg\n",
-        printed: "error badline 2 unbuilt\n",
-        status: 1,
+        printed: "1 toolong 17 16\nhistory\naccesses 0\nend\n",
+        status: 0,
     },
     // a number out of range
     Session {
@@ -102,13 +102,50 @@ fn sessions_are_printed_byte_for_byte(rt: HostRuntime) -> Result<(), Fail> {
     Ok(())
 }
 
+// The second session with a trace: every access, before the answer to its call.
+const TRACED: &str = "a 1 store M0.0 0001000000000005
+a 1 store V0.0.0 68656c6c6f000000
+a 1 store fM0.0 0001000000000005
+a 1 store fV0.0.0 68656c6c6f000000
+a 1 load R0 = 0000040000300000
+a 1 load N0.3 = 0000000000000000
+a 1 exchange N0.3 0000000000000000 0000040000000000 = 0000000000000000
+a 1 raise fN0.3 0000040000000000 = 0000000000000000
+1 stored 0.0.0
+a 1 load R0 = 0000040000300000
+a 1 load N0.3 = 0000040000000000
+a 1 raise fN0.3 0000040000000000 = 0000040000000000
+a 1 load N0.0 = 0000000000000000
+a 1 load M0.0 = 0001000000000005
+a 1 load V0.0.0 = 68656c6c6f000000
+a 1 load N0.0 = 0000000000000000
+1 found 0.0.0 =hello
+history
+h 1 1 1 put a =hello stored 0.0.0
+h 1 1 2 get a found 0.0.0 =hello
+accesses 15
+end
+";
+
+#[test]
+fn a_trace_prints_every_access(rt: HostRuntime) -> Result<(), Fail> {
+    let alloc = rt.alloc();
+    let text = bulk(alloc, SESSIONS[1].text.as_bytes())?;
+    let (status, sink) = run(alloc, &["replay", "--trace"], text, &[], 4096, &[])?;
+    assert_eq!(rt; status, 0);
+    assert_eq!(rt; sink.bytes(), TRACED.as_bytes());
+    Ok(())
+}
+
 #[test]
 fn words_of_no_command_are_refused(rt: HostRuntime) -> Result<(), Fail> {
     let alloc = rt.alloc();
-    let lists: [&[&str]; 6] = [
+    let lists: [&[&str]; 8] = [
         &[],
         &[""],
-        &["replay", "--trace"],
+        &["replay", "--json"],
+        &["--trace", "replay"],
+        &["replay", "--trace", "--trace"],
         &["replay", "replay"],
         &["Replay"],
         &["--help"],
@@ -125,7 +162,7 @@ fn words_of_no_command_are_refused(rt: HostRuntime) -> Result<(), Fail> {
 fn the_limit_of_the_input(rt: HostRuntime) -> Result<(), Fail> {
     let alloc = rt.alloc();
     for (length, printed) in [
-        (16_777_216u32, b"error badline 1 unbuilt\n".as_slice()),
+        (16_777_216u32, b"error badline 2 unbuilt\n".as_slice()),
         (16_777_217, b"error toomuch\n".as_slice()),
     ] {
         let mut text = bulk(alloc, b"")?;

@@ -2,29 +2,11 @@ use Rattle.std.proofs.Common.{◌≡◌, ◌∙◌, [], sym, true, false, None}
 use Rattle.clover_main.proofs.Loops.{finish_done, finish_more, finish_fails, continues_then}
 use Rattle.clover_main.proofs.running.finish.Goals as goal
 
-pub loop-machine-preserved-in-Ok : goal.loop-machine-preserved-in-Ok
-loop-machine-preserved-in-Ok g c =
+pub loop-machine-preserved : goal.loop-machine-preserved
+loop-machine-preserved g c =
     let l = c.loop-machine in
     record {
-      ran = λ o rs at. let x = l.invariant.ran o rs at in finish_more o c.args.trace rs l.machine c.one.new.machine _ _ _ _ _ _ c.args.actor x (c.is_busy.ensures.busy.0 c.loop-machine-test.true) c.in-Ok.field-0 (c.in-Ok.ensures.ok o _ x.at);
-      goes_on = continues_then _ _ _ l.invariant.goes_on c.in-Ok.ensures.goes_on;
-      quiet = c.in-Ok.ensures.quiet ∙ l.invariant.quiet;
-    }
-
-pub loop-machine-preserved-in-Ok-2 : goal.loop-machine-preserved-in-Ok-2
-loop-machine-preserved-in-Ok-2 g c =
-    let l = c.loop-machine in
-    record {
-      ran = λ o rs at. let x = l.invariant.ran o rs at in finish_more o c.args.trace rs l.machine c.one.new.machine _ _ _ _ _ _ c.args.actor x (c.is_busy.ensures.busy.0 c.loop-machine-test.true) c.in-Ok.field-0 (c.in-Ok.ensures.ok o _ x.at);
-      goes_on = continues_then _ _ _ l.invariant.goes_on c.in-Ok.ensures.goes_on;
-      quiet = c.in-Ok.ensures.quiet ∙ l.invariant.quiet;
-    }
-
-pub loop-machine-preserved-in-Ok-3 : goal.loop-machine-preserved-in-Ok-3
-loop-machine-preserved-in-Ok-3 g c =
-    let l = c.loop-machine in
-    record {
-      ran = λ o rs at. let x = l.invariant.ran o rs at in finish_more o c.args.trace rs l.machine c.one.new.machine _ _ _ _ _ _ c.args.actor x (c.is_busy.ensures.busy.0 c.loop-machine-test.true) c.in-Ok.field-0 (c.in-Ok.ensures.ok o _ x.at);
+      ran = λ o rs at. let x = l.invariant.ran o rs at in finish_more o c.args.trace rs l.machine c.step.new.machine _ _ _ _ _ _ c.args.actor x (c.is_busy.ensures.busy.0 c.loop-machine-test.true) (c.in-Ok.ensures.ok o _ x.at);
       goes_on = continues_then _ _ _ l.invariant.goes_on c.in-Ok.ensures.goes_on;
       quiet = c.in-Ok.ensures.quiet ∙ l.invariant.quiet;
     }

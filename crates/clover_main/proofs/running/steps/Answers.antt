@@ -12,7 +12,7 @@ pub loop-left-preserved : goal.loop-left-preserved
 loop-left-preserved g c =
     let l = c.loop-left in
     record {
-      ran = λ o rs at. let x = l.invariant.ran o rs at in steps_more o c.args.trace rs l.machine c.one.new.machine _ _ _ _ _ _ c.args.actor _ _ c.in-Ok.field-0 x (c.in-Ok.ensures.ok o _ x.at) (omega (arith, c.loop-left-test.true, l.invariant.most));
+      ran = λ o rs at. let x = l.invariant.ran o rs at in steps_more o c.args.trace rs l.machine c.step.new.machine _ _ _ _ _ _ c.args.actor _ _ x (c.in-Ok.ensures.ok o _ x.at) (omega (arith, c.loop-left-test.true, l.invariant.most));
       most = omega (arith, l.invariant.most);
       goes_on = continues_then _ _ _ l.invariant.goes_on c.in-Ok.ensures.goes_on;
       quiet = c.in-Ok.ensures.quiet ∙ l.invariant.quiet;
