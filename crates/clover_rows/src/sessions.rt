@@ -10,7 +10,7 @@ struct Session {
     status: u8,
 }
 
-const SESSIONS: [Session; 12] = [
+const SESSIONS: [Session; 22] = [
     // a pool line alone
     Session {
         text: "pool nodes=1 buffers=4 slots=2 words=2 wear=3 clients=1 batch=2\n",
@@ -53,7 +53,7 @@ const SESSIONS: [Session; 12] = [
         printed: "error badline 3 unbuilt\n",
         status: 1,
     },
-    // a value one byte longer than the room
+    // a value one byte longer than the room: the call is refused, and nothing is stored
     Session {
         text: "pool nodes=1 buffers=4 slots=2 words=2 wear=3 clients=1 batch=2\ncall 1 put a =0123456789abcdefg\n",
         printed: "1 toolong 17 16\nhistory\naccesses 0\nend\n",
@@ -83,6 +83,66 @@ const SESSIONS: [Session; 12] = [
         printed: "error badline 3 unbuilt\n",
         status: 1,
     },
+    // a put of one client under way while another one's is made whole
+    Session {
+        text: "pool nodes=1 buffers=8 slots=2 words=1 wear=9 clients=2 batch=2\ncall 1 put a =x\nbegin 1 put a =p\nstep 1 5\ncall 2 put a =q\nfinish 1\n",
+        printed: "1 stored 0.0.0\n2 stored 0.1.0\n1 stored 0.2.0\nhistory\nh 1 1 1 put a =x stored 0.0.0\nh 1 2 1 put a =q stored 0.1.0\nh 1 1 2 put a =p stored 0.2.0\naccesses 30\nend\n",
+        status: 0,
+    },
+    // a swap that finds its tag and one that does not; a delete; the buffer of a swap that committed nothing is used again
+    Session {
+        text: "pool nodes=1 buffers=6 slots=1 words=1 wear=9 clients=1 batch=2\ncall 1 put a =1\ncall 1 swap a 0.0.0 =2\ncall 1 swap a 0.0.0 =3\ncall 1 delete a\ncall 1 get a\n",
+        printed: "1 stored 0.0.0\n1 stored 0.1.0\n1 differs 0.1.0\n1 deleted 0.2.0\n1 absent\nhistory\nh 1 1 1 put a =1 stored 0.0.0\nh 1 1 2 swap a 0.0.0 =2 stored 0.1.0\nh 1 1 3 swap a 0.0.0 =3 differs 0.1.0\nh 1 1 4 delete a deleted 0.2.0\nh 1 1 5 get a absent\naccesses 52\nend\n",
+        status: 0,
+    },
+    // another client's get
+    Session {
+        text: "pool nodes=1 buffers=8 slots=2 words=1 wear=9 clients=2 batch=2\ncall 1 put a =x\ncall 2 get a\n",
+        printed: "1 stored 0.0.0\n2 found 0.0.0 =x\nhistory\nh 1 1 1 put a =x stored 0.0.0\nh 1 2 1 get a found 0.0.0 =x\naccesses 15\nend\n",
+        status: 0,
+    },
+    // the raise behind an exchange is refused
+    Session {
+        text: "pool nodes=1 buffers=4 slots=1 words=1 wear=3 clients=1 batch=2\ncall 1 put a =1\nbegin 1 put a =2\nstep 1 9\nrefuse 1\nfinish 1\ncall 1 get a\n",
+        printed: "1 stored 0.0.0\n1 linked 0.1.0\n1 found 0.1.0 =2\nhistory\nh 1 1 1 put a =1 stored 0.0.0\nh 1 1 2 put a =2 stored 0.1.0\nh 1 1 3 get a found 0.1.0 =2\naccesses 26\nend\n",
+        status: 0,
+    },
+    // lines that are passed over; a client that is busy, one that there is not, a value that is too long, a refused access, steps with nothing to do
+    Session {
+        text: "pool nodes=1 buffers=8 slots=2 words=1 wear=9 clients=2 batch=2\n# two clients\n\nbegin 1 put a =x\nbegin 1 get a\nbegin 3 get a\nstep 3 4\nfinish 2\ncall 2 put a =123456789\nrefuse 2\ncall 2 get a\nfinish 1\ncall 2 get a\n",
+        printed: "1 busy\n3 none\n2 toolong 9 8\n2 unreached\n1 stored 0.0.0\n2 found 0.0.0 =x\nhistory\nh 1 1 1 put a =x stored 0.0.0\nh 1 2 1 get a found 0.0.0 =x\naccesses 15\nend\n",
+        status: 0,
+    },
+    // a refused access of a client that is not there comes to nothing, and several refusals are one
+    Session {
+        text: "pool nodes=1 buffers=8 slots=2 words=1 wear=9 clients=2 batch=2\nrefuse 3\nrefuse 1\nrefuse 1\nstep 1 2\ncall 1 get a\ncall 1 get a\n",
+        printed: "1 unreached\n1 absent\nhistory\nh 1 1 1 get a absent\naccesses 4\nend\n",
+        status: 0,
+    },
+    // a delete that the client has no buffer for, counted by lines whatever comes of them
+    Session {
+        text: "pool nodes=1 buffers=4 slots=2 words=1 wear=9 clients=1 batch=2\ncall 1 delete a\nbegin 1 swap a 0.1.0 =1\ncall 1 delete a\n",
+        printed: "error badline 4 unbuilt\n",
+        status: 1,
+    },
+    // a put of a client that there is not, which has no buffer
+    Session {
+        text: "pool nodes=1 buffers=8 slots=2 words=1 wear=9 clients=2 batch=2\ncall 3 put a =x\n",
+        printed: "error badline 2 unbuilt\n",
+        status: 1,
+    },
+    // only lines that are passed over, and no pool line
+    Session {
+        text: "# no pool\n\n",
+        printed: "error badline 3 unbuilt\n",
+        status: 1,
+    },
+    // a call before the pool line
+    Session {
+        text: "call 1 get a\npool nodes=1 buffers=8 slots=2 words=1 wear=9 clients=2 batch=2\n",
+        printed: "error badline 1 unbuilt\n",
+        status: 1,
+    },
 ];
 
 #[test]
@@ -102,38 +162,19 @@ fn sessions_are_printed_byte_for_byte(rt: HostRuntime) -> Result<(), Fail> {
     Ok(())
 }
 
-// The second session with a trace: every access, before the answer to its call.
-const TRACED: &str = "a 1 store M0.0 0001000000000005
-a 1 store V0.0.0 68656c6c6f000000
-a 1 store fM0.0 0001000000000005
-a 1 store fV0.0.0 68656c6c6f000000
-a 1 load R0 = 0000040000300000
-a 1 load N0.3 = 0000000000000000
-a 1 exchange N0.3 0000000000000000 0000040000000000 = 0000000000000000
-a 1 raise fN0.3 0000040000000000 = 0000000000000000
-1 stored 0.0.0
-a 1 load R0 = 0000040000300000
-a 1 load N0.3 = 0000040000000000
-a 1 raise fN0.3 0000040000000000 = 0000040000000000
-a 1 load N0.0 = 0000000000000000
-a 1 load M0.0 = 0001000000000005
-a 1 load V0.0.0 = 68656c6c6f000000
-a 1 load N0.0 = 0000000000000000
-1 found 0.0.0 =hello
-history
-h 1 1 1 put a =hello stored 0.0.0
-h 1 1 2 get a found 0.0.0 =hello
-accesses 15
-end
-";
+const TRACED: Session = Session {
+    text: "pool nodes=1 buffers=4 slots=2 words=2 wear=3 clients=1 batch=2\ncall 1 put a =hello\nrefuse 1\ncall 1 get a\ncall 1 get a\n",
+    printed: "a 1 store M0.0 0001000000000005\na 1 store V0.0.0 68656c6c6f000000\na 1 store fM0.0 0001000000000005\na 1 store fV0.0.0 68656c6c6f000000\na 1 load R0 = 0000040000300000\na 1 load N0.3 = 0000000000000000\na 1 exchange N0.3 0000000000000000 0000040000000000 = 0000000000000000\na 1 raise fN0.3 0000040000000000 = 0000000000000000\n1 stored 0.0.0\na 1 load R0 refused\n1 unreached\na 1 load R0 = 0000040000300000\na 1 load N0.3 = 0000040000000000\na 1 raise fN0.3 0000040000000000 = 0000040000000000\na 1 load N0.0 = 0000000000000000\na 1 load M0.0 = 0001000000000005\na 1 load V0.0.0 = 68656c6c6f000000\na 1 load N0.0 = 0000000000000000\n1 found 0.0.0 =hello\nhistory\nh 1 1 1 put a =hello stored 0.0.0\nh 1 1 2 get a found 0.0.0 =hello\naccesses 15\nend\n",
+    status: 0,
+};
 
 #[test]
-fn a_trace_prints_every_access(rt: HostRuntime) -> Result<(), Fail> {
+fn the_trace_has_each_access(rt: HostRuntime) -> Result<(), Fail> {
     let alloc = rt.alloc();
-    let text = bulk(alloc, SESSIONS[1].text.as_bytes())?;
+    let text = bulk(alloc, TRACED.text.as_bytes())?;
     let (status, sink) = run(alloc, &["replay", "--trace"], text, &[], 4096, &[])?;
-    assert_eq!(rt; status, 0);
-    assert_eq!(rt; sink.bytes(), TRACED.as_bytes());
+    assert_eq!(rt; status, TRACED.status);
+    assert_eq!(rt; sink.bytes(), TRACED.printed.as_bytes());
     Ok(())
 }
 
@@ -143,9 +184,9 @@ fn words_of_no_command_are_refused(rt: HostRuntime) -> Result<(), Fail> {
     let lists: [&[&str]; 8] = [
         &[],
         &[""],
-        &["replay", "--json"],
         &["--trace", "replay"],
         &["replay", "--trace", "--trace"],
+        &["replay", "--json"],
         &["replay", "replay"],
         &["Replay"],
         &["--help"],
