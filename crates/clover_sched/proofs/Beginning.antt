@@ -46,8 +46,8 @@ use Rattle.clover_sched.specs.Folds.{Doing}
 use Rattle.clover_sched.specs.Run.{Opening, begin_note, room}
 
 -- the tag of a dealt buffer is of the pool
-pub dealt_range : (s : Setup) (c k n : ℕ) (b : Buffer) → HasDealt s k n → b ≡ buffer_of s.pool (dealt_number s k n) → InRange s.pool (tag_number (record { node = b.node; index = b.index; generation = 0 }))
-dealt_range s c k n b h e =
+pub dealt_range : (s : Setup) (k n : ℕ) (b : Buffer) → HasDealt s k n → b ≡ buffer_of s.pool (dealt_number s k n) → InRange s.pool (tag_number (record { node = b.node; index = b.index; generation = 0 }))
+dealt_range s k n b h e =
     let below : dealt_number s k n < buffers_total s.pool = (let l = h.number in omega arith) in
     let wear = s.pool.some_wear in
     subst (λ (z : Buffer). InRange s.pool (tag_number (record { node = z.node; index = z.index; generation = 0 }))) (sym e)

@@ -7,7 +7,7 @@ use Rattle.clover_map.specs.declared.bytes.OutOfMemory.{OutOfMemory}
 use Rattle.clover_map.specs.declared.call.Entry.{Entry}
 use Rattle.clover_words.specs.Preset.{HasDealt}
 use Rattle.clover_words.specs.declared.setup.Setup.{Setup}
-use Rattle.clover_map.specs.History.{own, key_of}
+use Rattle.clover_map.specs.History.{key_of}
 use Rattle.clover_walk.specs.Walking.{key_at}
 use Rattle.clover_rule.specs.Lists.{nth, Within}
 use Rattle.clover_rule.specs.Preset.{bindings_from}
@@ -30,6 +30,7 @@ use Rattle.clover_sched.specs.declared.event.Event.{Event}
 use Rattle.clover_sched.specs.declared.event.Event.TheVariants.{Begin, Step, Refuse}
 use Rattle.clover_sched.specs.declared.event.Note.{Note}
 use Rattle.clover_sched.specs.declared.event.Note.TheVariants.{Quiet, Busy, Missing}
+use Rattle.clover_sched.proofs.Stepping.{stands_kept}
 use Rattle.clover_sched.proofs.Busies.{busy_within, busy_here}
 use Rattle.clover_sched.proofs.Lefts.{since_few, left_less}
 use Rattle.clover_sched.proofs.Onward.{with_client, with_pool, refusing, begun_missing, begun_busy, begun_client, idled_far, idled_client, refused_client, refused_far, stepped_client}
@@ -90,24 +91,6 @@ module _ (m : Parts) (a : ℕ) (one : 1 ≤ a) where
       let w = went o (a - 1) same_actor (at.each (a - 1) x here).stands in
       let legal : Legal finite.empty [] (history q) = (running (w.moved.opened ∙ at.pool.opened)).rule.history_and_map.legal in
       (_, ap Step same_actor, refl, stepped_client o m rs at (a - 1) x y q note here w (subst (λ (h : List Entry). Legal finite.empty [] h) (sym w.moved.entered) legal))
-
--- the client stands where it stood, also where the pool's lists have more room
-stands_kept : (o : Opening) (p q : Plain) (i : ℕ) (x : ClientState) → Kept p q → Stands o p i x → Stands o q i x
-stands_kept o p q i x k s =
-    let same : view_at q i ≡ view_at p i = ap (λ (s : Setup). get_or q.views i (outset s)) k.setup ∙ ap (λ (vs : List View). get_or vs i (outset p.setup)) k.views in
-    record {
-      setup = k.setup ∙ s.setup;
-      opened = k.opened ∙ s.opened;
-      entered = k.entries ∙ s.entered ∙ ap longest (sym k.views);
-      seat = s.seat;
-      seats = ap length k.views ∙ s.seats;
-      pool = ap (λ (v : View). v.pass.pool) same ∙ s.pool;
-      role = ap (λ (v : View). v.pass.role) same ∙ s.role;
-      names = ap (λ (v : View). v.pass.names) same ∙ s.names;
-      stock = ap (λ (v : View). v.pass.stock) same ∙ s.stock;
-      number = s.number ∙ ap (λ (h : List Entry). length (own h (suc i))) (sym k.entries);
-      under = subst (λ (v : View). IsUnder o.setup.pool v x.under) (sym same) s.under;
-    }
 
 pub kept_at : (o : Opening) (m n : Parts) (rs : List Record) → IsSame m n → IsAt o m rs → IsAt o n rs
 kept_at o m n rs same at =

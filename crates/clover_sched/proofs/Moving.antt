@@ -2,7 +2,6 @@
 use Rattle.std.proofs.Common.{◌≡◌, ◌≢◌, ℕ, suc, ◌-◌, ◌^◌, ◌<◌, List, [], ◌∷◌, ◌++◌, length, get_or, Bool, true, false, ◌&&◌, cond, eqb, if◌then◌else◌, refl, sym, ap, ◌∙◌, subst, ◌==◌, inl, inr, arith, append-nil}
 use Rattle.std.specs.Prelude.{Option, Some, None}
 use Rattle.std.proofs.lemmas.List.{get_or-set_other, get_or-set_same, length-set}
-use Rattle.clover_words.specs.declared.pool.Pool.{Pool}
 use Rattle.clover_map.specs.History.{own}
 use Rattle.clover_map.specs.declared.call.Entry.{Entry}
 use Rattle.clover_map.specs.declared.call.Call.{Call}
@@ -20,6 +19,7 @@ use Rattle.clover_rule.specs.declared.view.Role.TheVariants.{Client as ClientRol
 use Rattle.clover_rule.specs.declared.view.View.{View}
 use Rattle.clover_rule.proofs.Accessing.{access_law}
 use Rattle.clover_port.specs.Told.{Open, Made}
+use Rattle.clover_walk.proofs.Endings.{stepped}
 use Rattle.clover_plain.specs.Plain.{Plain, Stepped, Accessed, KeptButEntries, outset, view_at, history, open_of, grown, access}
 use Rattle.clover_plain.proofs.Learned.{role_kept as role_stays}
 use Rattle.clover_sched.specs.Client.{Moved}
@@ -47,9 +47,9 @@ one_last xs ys a b e = sym (last_snoc a xs a) ∙ ap (last_of a) e ∙ last_snoc
 pub role_kept : (a : Step) (b : Bool) (h : List Entry) (v : View) (x : ℕ) → (next_view b a h v x).pass.role ≡ v.pass.role
 role_kept a b h v x = role_stays a b h v x
 
--- what no step but by its access alone changes: the pool, the names, the acts of the call, and how many were made
-abbrev core : View → Pool × (List (ℕ × List ℕ) × (List Act × ℕ))
-core v = (v.pass.pool, (v.pass.names, (v.pass.since, v.pass.made)))
+-- what no step but by its access alone changes: the names, the acts of the call, and how many were made
+abbrev core : View → List (ℕ × List ℕ) × (List Act × ℕ)
+core v = (v.pass.names, (v.pass.since, v.pass.made))
 
 core_seen : (s t : ℕ) (v : View) (n : Next) → core (seen s t v n) ≡ core v
 core_seen s t v (word a None) = refl
@@ -78,16 +78,13 @@ core_learned ReadCount h v x = refl
 core_learned (AbsentCount c) h v x = core_choice (x == length v.pass.names) (missed v h c x) (counts v x) v refl refl
 
 pub names_kept : (a : Step) (b : Bool) (h : List Entry) (v : View) (x : ℕ) → (next_view b a h v x).pass.names ≡ v.pass.names
-names_kept a b h v x = ap (λ (c : Pool × (List (ℕ × List ℕ) × (List Act × ℕ))). c.1.0) (core_learned a h v x)
-
-pub pool_kept : (a : Step) (b : Bool) (h : List Entry) (v : View) (x : ℕ) → (next_view b a h v x).pass.pool ≡ v.pass.pool
-pool_kept a b h v x = ap (λ (c : Pool × (List (ℕ × List ℕ) × (List Act × ℕ))). c.0) (core_learned a h v x)
+names_kept a b h v x = ap (λ (c : List (ℕ × List ℕ) × (List Act × ℕ)). c.0) (core_learned a h v x)
 
 pub since_next : (a : Step) (b : Bool) (h : List Entry) (v : View) (x : ℕ) → (next_view b a h v x).pass.since ≡ cond b [] v.pass.since ++ act_of a x ∷ []
-since_next a b h v x = ap (λ (c : Pool × (List (ℕ × List ℕ) × (List Act × ℕ))). cond b [] c.1.1.0 ++ act_of a x ∷ []) (core_learned a h v x)
+since_next a b h v x = ap (λ (c : List (ℕ × List ℕ) × (List Act × ℕ)). cond b [] c.1.0 ++ act_of a x ∷ []) (core_learned a h v x)
 
 made_next : (a : Step) (b : Bool) (h : List Entry) (v : View) (x : ℕ) → (next_view b a h v x).pass.made ≡ suc v.pass.made
-made_next a b h v x = ap (λ (c : Pool × (List (ℕ × List ℕ) × (List Act × ℕ))). suc c.1.1.1) (core_learned a h v x)
+made_next a b h v x = ap (λ (c : List (ℕ × List ℕ) × (List Act × ℕ)). suc c.1.1) (core_learned a h v x)
 
 -- a step that commits nothing, whatever it finds
 abbrev pub IsNoLink : Step → Type 0
@@ -134,6 +131,7 @@ pub record MadeSo (i : ℕ) (p q : Plain) (a : Step) (b : Bool) (x : ℕ) : Type
   pub others : (j : ℕ) → j ≢ i → view_at q j ≡ view_at p j
   pub seats : length q.views ≡ length p.views
   pub view : view_at q i ≡ next_view b a (history p) (view_at p i) x
+  pub pool : (view_at q i).pass.pool ≡ (view_at p i).pass.pool
   pub since : (view_at q i).pass.since ≡ cond b [] (view_at p i).pass.since ++ act_of a x ∷ []
   pub history : history q ≡ next_history a (history p) (view_at p i) x
   pub entries : q.entries ≡ p.entries
@@ -220,6 +218,7 @@ module _ (i : ℕ) (p q : Plain) (a : Step) (b : Bool) (x : ℕ) (few : p.made <
         others = λ j ne. ap (λ (l : List View). get_or l j (outset q.setup)) s.views ∙ get_or-set_other p.views i j _ _ ne ∙ ap (λ z. get_or p.views j (outset z)) s.same.setup;
         seats = ap length s.views ∙ length-set p.views i _;
         view = view;
+        pool = (stepped p.setup.pool a b (view_at p i) (Some (open_of p)) x (view_at q i) (Some (open_of q)) m).pool;
         since = ap (λ (v : View). v.pass.since) view ∙ since_next a b (history p) (view_at p i) x;
         history = history_now;
         entries = s.same.entries;

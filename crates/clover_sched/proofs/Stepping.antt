@@ -21,7 +21,7 @@ use Rattle.clover_sched.specs.declared.event.Note.TheVariants.{Refused}
 use Rattle.clover_sched.specs.Client.{stock_at, Stands, Moved, Went, Matches, IsUnder, since_of, step_record}
 use Rattle.clover_sched.specs.Folds.{Doing, listed, words_by, made_by}
 use Rattle.clover_sched.specs.Run.{Opening, IsStep, IsEntry, IsCause, IsBlank, Wrote, lost}
-use Rattle.clover_sched.proofs.Moving.{MadeSo, RefusedSo, IsNoLink, role_kept, pool_kept, names_kept, stock_kept}
+use Rattle.clover_sched.proofs.Moving.{MadeSo, RefusedSo, IsNoLink, role_kept, names_kept, stock_kept}
 
 pub some_is : {A : Type 0} (y z : A) → Some y ≡ Some z → y ≡ z
 some_is y z e = cc
@@ -132,7 +132,7 @@ module _ (o : Opening) (i : ℕ) (p : Plain) (x y : ClientState) (s : Stands o p
     entered = m.entries ∙ s.entered ∙ sym same ∙ sym m.history;
     seat = s.seat;
     seats = m.seats ∙ s.seats;
-    pool = ap (λ (v : View). v.pass.pool) m.view ∙ pool_kept a b (history p) (view_at p i) n ∙ s.pool;
+    pool = m.pool ∙ s.pool;
     role = ap (λ (v : View). v.pass.role) m.view ∙ role_kept a b (history p) (view_at p i) n ∙ s.role;
     names = ap (λ (v : View). v.pass.names) m.view ∙ names_kept a b (history p) (view_at p i) n ∙ s.names;
     stock = ap (λ (v : View). v.pass.stock) m.view ∙ stock_kept a b (history p) (view_at p i) n free ∙ s.stock ∙ ap (stock_at o.setup (suc i)) (sym taken);
@@ -151,7 +151,7 @@ module _ (o : Opening) (i : ℕ) (p : Plain) (x y : ClientState) (s : Stands o p
         entered = moved.entered;
         seat = s.seat;
         seats = moved.seats ∙ s.seats;
-        pool = ap (λ (v : View). v.pass.pool) (there ∙ m.view) ∙ pool_kept a b (history p) (view_at p i) n ∙ s.pool;
+        pool = ap (λ (v : View). v.pass.pool) there ∙ m.pool ∙ s.pool;
         role = ap (λ (v : View). v.pass.role) (there ∙ m.view) ∙ role_kept a b (history p) (view_at p i) n ∙ s.role;
         names = ap (λ (v : View). v.pass.names) (there ∙ m.view) ∙ names_kept a b (history p) (view_at p i) n ∙ s.names;
         stock = ap (λ (v : View). v.pass.stock) (there ∙ m.view) ∙ stock_kept a b (history p) (view_at p i) n free ∙ s.stock ∙ ap (stock_at o.setup (suc i)) (sym taken);

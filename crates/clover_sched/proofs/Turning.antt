@@ -20,6 +20,7 @@ use Rattle.clover_sched.specs.declared.event.Note.TheVariants.{Quiet, Answered, 
 use Rattle.clover_sched.specs.Client.{Stands, Went, IsUnder}
 use Rattle.clover_sched.specs.Run.{Opening}
 use Rattle.clover_sched.specs.Writing.{IsWriting, IsCommitted, IsDecided, PutAccess, next_entry}
+use Rattle.clover_sched.proofs.Stepping.{room_left}
 use Rattle.clover_sched.proofs.WriteAccess.{same_asked}
 use Rattle.clover_sched.proofs.Writing.{exact_made, exact_refused, went_more, went_behind, went_unreached, last_enters, went_answered, commit_enters, went_decided, went_stored, went_deleted, went_linked}
 
@@ -37,8 +38,7 @@ committed (Write c call) h = absurd h
 committed (Raise c) h = (c, refl)
 
 room_still : (i : ℕ) (p q : Plain) → Accessed i true p q → 1 ≤ p.entry_room → 1 ≤ q.entry_room
-room_still i p q (inl (a, b, x, s)) h = subst (λ (n : ℕ). 1 ≤ n) (sym s.same.entry_room) h
-room_still i p q (inr (a, r)) h = subst (λ (n : ℕ). 1 ≤ n) (sym r.same.entry_room) h
+room_still i p q a h = subst (λ (n : ℕ). 1 ≤ n) (sym (room_left i p q a).0) h
 
 before_raises : (s : Stage) → IsBefore s → IsRaising s → ⊥
 before_raises (Storing j) b r = r

@@ -45,7 +45,8 @@ use Rattle.clover_sched.specs.Client.{Stands, Moved, Matches, UnderMatches, Went
 use Rattle.clover_sched.specs.Folds.{Doing}
 use Rattle.clover_sched.specs.Run.{Opening, IsStep, IsCause, IsAnswer, IsCommit, Flushes, lost}
 use Rattle.clover_sched.specs.Writing.{PutAccess, next_entry}
-use Rattle.clover_sched.proofs.Going.{step_made, step_refused, seat_below, stands_moved, number_same, number_more}
+use Rattle.clover_sched.proofs.Stepping.{made_step}
+use Rattle.clover_sched.proofs.Going.{step_refused, seat_below, stands_moved, number_same, number_more}
 use Rattle.clover_sched.proofs.Moving.{MadeSo, made_so, RefusedSo, refused_so, role_kept, names_kept, stock_kept, moved_quiet, moved_entered, moved_refused}
 use Rattle.clover_sched.proofs.PutOnward.{SameCall, same_call, later_call, Misses, quiet_history, quiet_stock, quiet_writes, before_misses, behind_misses, linked_hit}
 
@@ -124,7 +125,7 @@ module _ (o : Opening) (i : ℕ) (x : ClientState) (c n : Putting) (call : Call)
         → IsStep o (suc i) d p.words (length (own p.entries (suc i))) (step_record i (access i (act_of (put_step c v) a) false) None note)
     step d note m going cause =
         let u : UnderMatches (Write c call) v d = subst (λ (z : Underway). UnderMatches z v d) is m.under in
-        step_made o i d p.words (length (own p.entries (suc i))) (act_of (put_step c v) a) None note (ClientTask call u.0.0) u.0.1 (sym m.refusing ∙ going) (subst (λ (z : Setup). CameBack z.pool p.words (act_of (put_step c v) a)) st.setup so.came) tt (λ h. absurd (quiet_writes c v a miss h)) cause
+        made_step o i d p.words (length (own p.entries (suc i))) (ClientTask call u.0.0) u.0.1 (act_of (put_step c v) a) None note (sym m.refusing ∙ going) (subst (λ (z : Setup). CameBack z.pool p.words (act_of (put_step c v) a)) st.setup so.came) tt (λ h. absurd (quiet_writes c v a miss h)) cause
 
   pub went_more : PutAccess i x.refusing c n p q More → Went o i x (with_under x (Write n call)) p q Quiet
   went_more f =
@@ -224,7 +225,7 @@ module _ (o : Opening) (i : ℕ) (x : ClientState) (c n : Putting) (call : Call)
           → IsStep o (suc i) d p.words (length (own p.entries (suc i))) (step_record i (access i (act_of a found) false) (Some entry) note)
       step2 d note m going cause =
           let u : UnderMatches (Write c call) v d = subst (λ (y : Underway). UnderMatches y v d) is m.under in
-          step_made o i d p.words (length (own p.entries (suc i))) (act_of a found) (Some entry) note (ClientTask call u.0.0) u.0.1 (sym m.refusing ∙ going) (subst (λ (y : Setup). CameBack y.pool p.words (act_of a found)) st.setup so2.came)
+          made_step o i d p.words (length (own p.entries (suc i))) (ClientTask call u.0.0) u.0.1 (act_of a found) (Some entry) note (sym m.refusing ∙ going) (subst (λ (y : Setup). CameBack y.pool p.words (act_of a found)) st.setup so2.came)
           (record {
             access = access i (act_of a found) false;
             last = refl;
@@ -443,7 +444,7 @@ module _ (o : Opening) (i : ℕ) (x : ClientState) (c n : Putting) (p q : Plain)
           (ap (λ (y : View). y.pass.stock) so5.view ∙ stock_kept raise false (history p) v5 m.0 tt ∙ st.stock) (number_same x.number (suc i) p.entries q.entries st.number moved5.entries) tt;
       follows = λ d h.
           let u : UnderMatches (Raise c) v5 d = subst (λ (y : Underway). UnderMatches y v5 d) is h.under in
-          (step_made o i d p.words (length (own p.entries (suc i))) (act_of raise m.0) None (Answered k r) (ClientTask (call_at c v5) u.0.0) u.0.1 (sym h.refusing ∙ going) (subst (λ (y : Setup). CameBack y.pool p.words (act_of raise m.0)) st.setup so5.came) tt (λ z. absurd z) (sym seat, answers d u), record { refusing = refl; under = refl });
+          (made_step o i d p.words (length (own p.entries (suc i))) (ClientTask (call_at c v5) u.0.0) u.0.1 (act_of raise m.0) None (Answered k r) (sym h.refusing ∙ going) (subst (λ (y : Setup). CameBack y.pool p.words (act_of raise m.0)) st.setup so5.came) tt (λ z. absurd z) (sym seat, answers d u), record { refusing = refl; under = refl });
       longer = λ b. absurd (b refl);
       spent = subst (λ (u : Underway). x.taken ≤ spent_by u x.taken) (sym is) (omega arith);
     }

@@ -1,6 +1,6 @@
 // A client of the machine: what it has under way, and how it goes on.
 ghost use Prim.Native.Nat.{suc};
-ghost use Rattle.std.specs.Prelude.{◌≡◌, ◌≢◌, ◌<◌, ◌↔◌, ℕ, false, IsTrue, IfOk, OnErr};
+ghost use Rattle.std.specs.Prelude.{◌≡◌, ◌≢◌, ◌≤◌, ◌<◌, ◌↔◌, ℕ, false, IsTrue, IfOk, OnErr};
 ghost use Rattle.clover_words.specs.Preset.{HasDealt};
 ghost use Rattle.clover_script.specs.Form.{call_in};
 ghost use Rattle.clover_script.specs.Lines.{takes};
@@ -81,6 +81,7 @@ impl ClientState {
     /// value is longer than the room of a buffer.
     pub(crate) fn begin(&mut self, setup: &Setup, slot: u32, client: u32, task: Task) -> Note
         requires idle { self.old.under ≡ IsNothing }
+        requires client { 1 ≤ client }
         requires task { IsTask task }
         requires slot { slot < setup.now.pool.slots }
         requires stock { takes (call_in task) ≡ 1 → HasDealt setup.now client self.old.taken }

@@ -19,12 +19,12 @@ use clover_words::{Setup, Tag, ValueBuf, dealt};
 
 // The tag of the buffer that is dealt to a client for a put: at generation 0.
 fn own_tag(setup: &Setup, client: u32, put: u32) -> Tag
-    requires { HasDealt setup.now client put }
+    requires client { 1 ≤ client }
+    requires dealt { HasDealt setup.now client put }
     ensures value { tag_number result ≡ tag_at setup.now.pool (dealt_number setup.now client put) }
     ensures range { InRange setup.now.pool (tag_number result) }
 {
-    // Clients are counted from 1.
-    match dealt(setup, client.max(1), put) {
+    match dealt(setup, client, put) {
         Some(buffer) => Tag {
             node: buffer.node,
             index: buffer.index,
@@ -51,6 +51,7 @@ fn put_call(setup: &Setup, slot: u32, own: Tag, job: Job, flags: u32, bytes: &[u
 /// What is under way once a client that has committed so many buffers was asked for a call.
 pub(super) fn under_for(setup: &Setup, slot: u32, client: u32, taken: u32, asked: Call) -> Underway
     requires slot { slot < setup.now.pool.slots }
+    requires client { 1 ≤ client }
     requires fits { size_of asked ≤ 8 * setup.now.pool.words }
     requires expects { ExpectsTag asked }
     requires stock { takes asked ≡ 1 → HasDealt setup.now client taken }

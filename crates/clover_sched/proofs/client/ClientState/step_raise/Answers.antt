@@ -1,4 +1,4 @@
-use Rattle.clover_sched.proofs.Going.{stands_kept, went_kept}
+use Rattle.clover_sched.proofs.Stepping.{stands_kept, went_kept}
 use Rattle.clover_sched.proofs.client.ClientState.step_raise.Goals as goal
 
 pub raise-requires-clause-stands : goal.raise-requires-clause-stands

@@ -1,4 +1,4 @@
-use Rattle.clover_sched.proofs.Going.{stands_kept, went_kept}
+use Rattle.clover_sched.proofs.Stepping.{stands_kept, went_kept}
 use Rattle.clover_sched.proofs.client.ClientState.step_write.Goals as goal
 
 pub write-requires-clause-stands : goal.write-requires-clause-stands
