@@ -5,7 +5,6 @@ use Rattle.std.proofs.lemmas.List.Elements.{All-nil, All-cons, All-append}
 use Rattle.clover_script.specs.Line.{lines_of, IsLineOf, IsNoLine}
 use Rattle.std.proofs.lemmas.Bool.Decides.{nat_tests}
 use Rattle.clover_script.specs.declared.line.Line.{Line}
-use Rattle.clover_script.specs.declared.line.Line.TheVariants as line
 use Rattle.clover_script.specs.declared.line.Task.{Task}
 use Rattle.clover_script.proofs.SpokenLemmas.{one_line}
 use Rattle.clover_sched.specs.Folds.{doing}
@@ -14,7 +13,7 @@ use Rattle.clover_sched.specs.Machine.{Parts, IsAt, IsBusy}
 use Rattle.clover_sched.specs.Record.{Record}
 use Rattle.clover_sched.specs.Run.{Opening}
 use Rattle.clover_sched.specs.declared.event.Event.{Event}
-use Rattle.clover_sched.specs.declared.event.Event.TheVariants.{Begin, Step, Refuse}
+use Rattle.clover_sched.specs.declared.event.Event.TheVariants.{Begin, Step}
 use Rattle.clover_sched.specs.declared.event.Note.{Note}
 use Rattle.clover_main.specs.Beginnings.{BeginsCall, IsBegun, Opens}
 use Rattle.clover_main.specs.Hearing.{Heard}
@@ -25,9 +24,6 @@ use Rattle.clover_main.proofs.Pieces.{ran_then, fails_then, ran_nothing}
 
 pub continues_then : (m n k : Parts) → Continues m n → Continues n k → Continues m k
 continues_then m n k f g = record { setup = g.setup ∙ f.setup; names = g.names ∙ f.names; traced = g.traced ∙ f.traced }
-
-pub continues_same : (m : Parts) → Continues m m
-continues_same m = record { setup = refl; names = refl; traced = refl }
 
 abbrev AllAre : Event → List Record → Type 0
 AllAre e rs = All (λ (r : Record). r.event ≡ e) rs
@@ -84,16 +80,6 @@ module _ (o : Opening) (t : Bool) (rs : List Record) (m n : Parts) (a b c : Opti
           | inr one ↦ step_works y.more one
         ])
 
-pub call_away : (a : ℕ) (t : Task) (note : Note) (before more : List Record) → IsTurnedAway note → IsOne (Begin a t) note more → Calls a t before more
-call_away a t note before more away o = record {
-  first = o.told;
-  more = [];
-  all = o.all;
-  begins = o.event;
-  away = λ _. refl;
-  on = λ kept. absurd (kept (subst IsTurnedAway (sym o.note_is) away));
-}
-
 pub call_on : (a : ℕ) (t : Task) (note : Note) (before one more : List Record) → (IsTurnedAway note → ⊥) → IsOne (Begin a t) note one → Finishes a (before ++ one) more → Calls a t before (one ++ more)
 call_on a t note before one more kept o f = record {
   first = o.told;
@@ -106,17 +92,6 @@ call_on a t note before one more kept o f = record {
 
 pub call_part : (a : ℕ) (t : Task) (note : Note) (before one more : List Record) → IsOne (Begin a t) note one → Works a (before ++ one) more → BeginsCall a t before (one ++ more)
 call_part a t note before one more o f = inr (o.told, more, ap (λ l. l ++ more) o.all, o.event, subst (λ l. Works a (before ++ l) more) o.all f)
-
--- a call of which at most the begin was made
-pub call_most : (a : ℕ) (t : Task) (before more : List Record) → IsAtMostOne (Begin a t) more → BeginsCall a t before more
-call_most a t before more (inl none) = inl none
-call_most a t before more (inr (r, all, is)) = inr (r, [], all, is, tt)
-
-pub one_begins : (a : ℕ) (t : Task) (note : Note) (before more : List Record) → IsOne (Begin a t) note more → Stands (line.Begin a t) before more
-one_begins a t note before more o = (o.told, o.all, o.event)
-
-pub one_refuses : (a : ℕ) (note : Note) (before more : List Record) → IsOne (Refuse a) note more → Stands (line.Refuse a) before more
-one_refuses a note before more o = (o.told, o.all, o.event)
 
 pub covers_push : (ls : List Line) (l : Line) (before xs ys : List Record) → Covers ls before xs → Stands l (before ++ xs) ys → Covers (ls ++ l ∷ []) before (xs ++ ys)
 covers_push [] l before xs ys h k = (ys, [], ap (λ z. z ++ ys) h ∙ sym (append-nil ys), subst (λ z. Stands l z ys) (ap (λ z. before ++ z) h ∙ append-nil before) k, refl)

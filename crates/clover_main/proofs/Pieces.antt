@@ -15,6 +15,7 @@ use Rattle.clover_main.specs.Causes.{AppendsFront}
 use Rattle.clover_main.specs.Running.{Says, Puts, PutsEnding, Ran, Fails, IsOne, IsAtMostOne}
 use Rattle.clover_main.specs.declared.output.Stop.{Stop}
 use Rattle.clover_main.specs.declared.output.Stop.TheVariants.{Memory, Write}
+use Rattle.clover_main.proofs.Puts.{front_of_first}
 
 pub all_said : (t : Bool) (rs qs : List Record) → flat_map (said t) (rs ++ qs) ≡ flat_map (said t) rs ++ flat_map (said t) qs
 all_said t [] qs = refl
@@ -39,15 +40,6 @@ pub listed_line : (t : Bool) (xs : List Access) (n : ℕ) (rs : List Record) (r 
     → new ≡ old ++ traced true (slice_get xs n) → new ≡ old ++ traced t r.access
 listed_line t xs n rs r old new on all here grown =
     grown ∙ ap (λ o. old ++ traced true o) (ap (λ l. slice_get l n) all ∙ ap (λ k. slice_get (accesses_in (rs ++ r ∷ [])) k) here ∙ listed_last rs r) ∙ ap (λ b. old ++ traced b r.access) (sym on)
-
-pub front_nothing : (a : Option (List ℕ)) (all : List ℕ) → AppendsFront a a all
-front_nothing a all = ([], all, refl, Appends-nil a)
-
-pub front_more : (a b : Option (List ℕ)) (all more : List ℕ) → AppendsFront a b all → AppendsFront a b (all ++ more)
-front_more a b all more (front, rest, e, put) = (front, rest ++ more, ap (λ l. l ++ more) e ∙ append_assoc front rest more, put)
-
-pub front_whole : (a b : Option (List ℕ)) (all : List ℕ) → Appends a b all → AppendsFront a b all
-front_whole a b all put = (all, [], sym (append-nil all), put)
 
 pub says_then : (a b c : Option (List ℕ)) (w v u x y : List ℕ) → Says a b w v x → Says b c v u y → Says a c w u (x ++ y)
 says_then a b c w v u x y s t = record {
@@ -78,7 +70,7 @@ puts_then Write a b c w v x y s put = front_then a b c w v x y s put
 -- what was put of all that waits was put of it and of an end
 pub puts_end : (stop : Stop) (a b : Option (List ℕ)) (w end : List ℕ) → Puts stop a b w → PutsEnding stop a b w end
 puts_end Memory a b w end put = put
-puts_end Write a b w end put = front_more a b w end put
+puts_end Write a b w end put = front_of_first a b w end put
 
 pub puts_nothing : (stop : Stop) (a b : Option (List ℕ)) (w : List ℕ) → Puts stop a b w → Puts stop a b (w ++ [])
 puts_nothing stop a b w put = subst (λ l. Puts stop a b l) (sym (append-nil w)) put
@@ -104,12 +96,6 @@ module _ (o : Opening) (t : Bool) (rs : List Record) where
     run = subst (λ l. IsRun o l) (append_assoc rs x.more y.more) y.run;
     puts = subst (λ l. Puts stop a c (w ++ l)) (sym (all_said t x.more y.more)) (puts_then stop a b c w v (flat_map (said t) x.more) (flat_map (said t) y.more) x.says y.puts);
   }
-
-  pub ran_as : (m : Parts) (a b : Option (List ℕ)) (w v : List ℕ) (P Q : List Record → Type 0) → ((more : List Record) → P more → Q more) → Ran o t rs m a b w v P → Ran o t rs m a b w v Q
-  ran_as m a b w v P Q f x = record { more = x.more; kind = f x.more x.kind; at = x.at; says = x.says }
-
-  pub fails_as : (stop : Stop) (a b : Option (List ℕ)) (w : List ℕ) (P Q : List Record → Type 0) → ((more : List Record) → P more → Q more) → Fails o t rs stop a b w P → Fails o t rs stop a b w Q
-  fails_as stop a b w P Q f x = record { more = x.more; kind = f x.more x.kind; run = x.run; puts = x.puts }
 
   -- nothing happened
   pub fails_none : (stop : Stop) (m : Parts) (a b : Option (List ℕ)) (w : List ℕ) (Is : List Record → Type 0) → IsAt o m rs → Is [] → Puts stop a b w → Fails o t rs stop a b w Is
