@@ -10,15 +10,17 @@ use Rattle.clover_words.specs.declared.word.Word.TheVariants.{Next as NextOf}
 use Rattle.clover_words.specs.declared.word.Side.TheVariants.{Current, Flushed}
 use Rattle.clover_words.specs.Place.{IsWithin, address_of, copy_in}
 use Rattle.clover_words.proofs.Places.{copy_kept, has_current}
-use Rattle.clover_rule.specs.Content.{inside, InRange}
-use Rattle.clover_rule.specs.Lists.{Each}
+use Rattle.clover_map.specs.declared.bytes.Value.{Value}
+use Rattle.clover_rule.specs.Content.{content, inside, words_from, Fits, InRange}
+use Rattle.clover_rule.specs.Lists.{Each, nth}
 use Rattle.clover_rule.specs.Memory.{Mem, Next, word, gen, link, home, age}
 use Rattle.clover_rule.specs.Parts.{Walk}
 use Rattle.clover_rule.specs.Steps.{Step, LoadNext, RaiseNext, ReadRoot, word_of, side_of, becomes, found, words_after_step}
-use Rattle.clover_rule.specs.Words.{next_of, buffer_at, mem_of}
+use Rattle.clover_rule.specs.Words.{next_of, buffer_at, content_at, mem_of}
 use Rattle.clover_rule.proofs.Keeping.{read_next, read_root}
-use Rattle.clover_rule.proofs.Ties.{buffer_in, guard}
-use Rattle.clover_walk.specs.Alone.{after_alone, alone, LeadsOver, raised_from, raised, ReachesAfter, TagLaw, RootLaw, RaisedLaw}
+use Rattle.clover_rule.proofs.Ties.{buffer_in, content_in, guard}
+use Rattle.clover_words.specs.Pack.{words_of}
+use Rattle.clover_walk.specs.Alone.{after_alone, alone, LeadsOver, HasVersion, raised_from, raised, ReachesAfter, TagLaw, RootLaw, RaisedLaw}
 use Rattle.clover_walk.specs.Walking.{Walking, Stand, AtRoot, AtTag, AtLink, OnTail, Ended, IsOnWay, budget, turned, hops, followed, rooted, next_start, begins, walk_step, goes_on}
 use Rattle.clover_walk.specs.declared.start.Start.{Start}
 
@@ -161,3 +163,29 @@ root_law ws w ts u e low l h = subst (λ (x : Walking). ReachesAfter (2 * length
 pub raised_law : RaisedLaw
 raised_law p s [] ws r v h = refl
 raised_law p s (t ∷ us) ws r v h = raised_leaves p s t us ws r v h
+
+-- what a version's words hold after the raises
+content_within : (p : Pool) (b : ℕ) (o : Option Value) (j x : ℕ) → inside p b ≡ true → Fits p o → nth (content o) j ≡ Some x → IsWithin p (content_at b j)
+unfolding content
+content_within p b o zero x i f e = buffer_in p b i
+content_within p b None (suc k) x i f e = absurd cc
+content_within p b (Some y) (suc k) x i f e = let q = words_within (length y.bytes) 0 k x y.bytes e in content_in p b (suc k) i (let z = f.1 in omega arith)
+  where
+    words_count : (bytes : List ℕ) (k n j x : ℕ) → nth (words_from bytes k n) j ≡ Some x → j < n
+    words_count bytes k zero j x e = absurd cc
+    words_count bytes k (suc n) zero x e = omega arith
+    words_count bytes k (suc n) (suc j) x e = let z = words_count bytes (suc k) n j x e in omega arith
+
+    words_within : (n k j x : ℕ) (bytes : List ℕ) → nth (words_from bytes k (words_of n)) j ≡ Some x → j < words_of n
+    words_within n k j x bytes e = words_count bytes k (words_of n) j x e
+
+pub raised_version : (p : Pool) (s : ℕ) (ts ws : List ℕ) (t : ℕ) (o : Option Value) → Each (InRange p) ts → InRange p t → HasVersion p ws t o → HasVersion p (raised p s ts ws) t o
+raised_version p s ts ws t o r i h = record {
+  next = raised_law p s ts ws r (NextOf (buffer_at (home t))) (buffer_in p (home t) i.0) ∙ h.next;
+  fits = h.fits;
+  words = λ j x e. raised_law p s ts ws r (content_at (home t) j) (content_within p (home t) o j x i.0 h.fits e) ∙ h.words j x e;
+}
+
+pub last_range : (p : Pool) (ts : List ℕ) (u : ℕ) → Each (InRange p) (ts ++ u ∷ []) → InRange p u
+last_range p [] u r = r.0
+last_range p (t ∷ ts) u r = last_range p ts u r.1

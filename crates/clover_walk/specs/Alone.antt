@@ -3,13 +3,16 @@ use Prim.Native.Nat.{zero, suc}
 use Rattle.std.specs.Prelude.{◌≡◌, ℕ, ◌+◌, ◌*◌, ◌<◌, List, [], ◌∷◌, ◌++◌, length, false, Option, Some}
 use Rattle.clover_words.specs.declared.pool.Pool.{Pool}
 use Rattle.clover_words.specs.declared.word.Word.{Word}
+use Rattle.clover_words.specs.declared.word.Word.TheVariants.{Next as NextOf}
 use Rattle.clover_words.specs.declared.word.Side.TheVariants.{Current}
 use Rattle.clover_words.specs.Place.{IsWithin, copy_in}
-use Rattle.clover_rule.specs.Content.{InRange}
-use Rattle.clover_rule.specs.Lists.{Each}
+use Rattle.clover_map.specs.declared.bytes.Value.{Value}
+use Rattle.clover_rule.specs.Content.{InRange, Fits, content}
+use Rattle.clover_rule.specs.Lists.{Each, nth}
+use Rattle.clover_rule.specs.Memory.{home}
 use Rattle.clover_rule.specs.Parts.{Walk}
-use Rattle.clover_rule.specs.Steps.{Step, RaiseNext, found, words_after_step}
-use Rattle.clover_rule.specs.Words.{mem_of}
+use Rattle.clover_rule.specs.Steps.{Step, RaiseNext, found, words_after_step, unlinked}
+use Rattle.clover_rule.specs.Words.{mem_of, buffer_at, content_at}
 use Rattle.clover_walk.specs.Walking.{Walking, AtRoot, AtTag, OnTail, IsOnWay, budget, walk_step, goes_on}
 
 -- the words and a call after so many accesses made alone: access i is the step that step i says of the call, and the call goes on by the number that it found
@@ -40,6 +43,12 @@ pub record ReachesAfter (n : ℕ) (ws : List ℕ) (w : Walking) (ts : List ℕ) 
   pub before : (k : ℕ) → k < n → IsOnWay (alone w.pool k ws w).1.stand
   pub there : (alone w.pool n ws w).1 ≡ record w { turns = w.turns + length ts; first = false; stand = OnTail u }
   pub words : (alone w.pool n ws w).0 ≡ raised w.pool w.slot (ts ++ u ∷ []) ws
+
+-- the tag's next word is its number unlinked, and its content words are those of the version, which fits
+pub record HasVersion (p : Pool) (ws : List ℕ) (t : ℕ) (o : Option Value) : Type 0 where
+  pub next : copy_in p ws (NextOf (buffer_at (home t))) Current ≡ unlinked t
+  pub fits : Fits p o
+  pub words : (j x : ℕ) → nth (content o) j ≡ Some x → copy_in p ws (content_at (home t) j) Current ≡ x
 
 -- From a tag with d links before the tail a walk makes 2 d + 1 accesses, where its turns do not reach the budget.
 abbrev pub TagLaw : Type 0
