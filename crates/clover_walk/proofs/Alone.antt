@@ -165,7 +165,7 @@ raised_law p s [] ws r v h = refl
 raised_law p s (t ∷ us) ws r v h = raised_leaves p s t us ws r v h
 
 -- what a version's words hold after the raises
-content_within : (p : Pool) (b : ℕ) (o : Option Value) (j x : ℕ) → inside p b ≡ true → Fits p o → nth (content o) j ≡ Some x → IsWithin p (content_at b j)
+pub content_within : (p : Pool) (b : ℕ) (o : Option Value) (j x : ℕ) → inside p b ≡ true → Fits p o → nth (content o) j ≡ Some x → IsWithin p (content_at b j)
 unfolding content
 content_within p b o zero x i f e = buffer_in p b i
 content_within p b None (suc k) x i f e = absurd cc

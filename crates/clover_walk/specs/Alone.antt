@@ -29,11 +29,12 @@ pub record LeadsOver (p : Pool) (ws : List ℕ) (from : Option ℕ) (ts : List �
   pub walk : Walk (mem_of p ws) from (ts ++ u ∷ [])
   pub range : Each (InRange p) (ts ++ u ∷ [])
 
--- the words after the flushed copies of the links between these tags of a slot are raised, in order
+-- the words after the flushed copies of the links of a slot from the tag t over these tags are raised, in order
 abbrev pub raised_from : Pool → ℕ → ℕ → List ℕ → List ℕ → List ℕ
 raised_from p s t [] ws = ws
 raised_from p s t (u ∷ us) ws = raised_from p s u us (words_after_step p (RaiseNext (record { slot = s; from = t; to = u })) ws)
 
+-- the words after the flushed copies of the links between these tags are raised, in order
 abbrev pub raised : Pool → ℕ → List ℕ → List ℕ → List ℕ
 raised p s [] ws = ws
 raised p s (t ∷ ts) ws = raised_from p s t ts ws
