@@ -1,3 +1,4 @@
+pub mod Alone
 pub mod Begins
 pub mod Copies
 pub mod Counting

@@ -5,3 +5,4 @@ pub mod Answering
 pub mod Going
 pub mod Standing
 pub mod Kept
+pub mod Alone

@@ -5,8 +5,10 @@
 
 mod call;
 mod last;
+mod laws;
 mod stage;
 mod turn;
 
 pub use call::GetCall;
+pub use laws::get_law;
 pub use turn::GetTurn;

@@ -4,3 +4,4 @@ pub mod Holding
 pub mod Stepping
 pub mod Standing
 pub mod Kept
+pub mod Alone

@@ -5,9 +5,11 @@
 mod access;
 mod call;
 mod job;
+mod laws;
 mod stage;
 mod turn;
 
 pub use call::PutCall;
 pub use job::{Job, TooLong};
+pub use laws::put_law;
 pub use turn::PutTurn;

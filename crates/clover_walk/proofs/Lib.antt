@@ -1,3 +1,4 @@
+pub mod Alone
 pub mod Calling
 pub mod Codes
 pub mod Endings

@@ -3,3 +3,4 @@ pub mod Turning
 pub mod Standing
 pub mod Kept
 pub mod Ending
+pub mod Alone

@@ -1,0 +1,64 @@
+-- What a call does that runs alone: nobody else changes a word between its accesses, and none of them is refused.
+use Prim.Native.Nat.{zero, suc}
+use Rattle.std.specs.Prelude.{◌≡◌, ℕ, ◌+◌, ◌*◌, ◌<◌, List, [], ◌∷◌, ◌++◌, length, false, Option, Some}
+use Rattle.clover_words.specs.declared.pool.Pool.{Pool}
+use Rattle.clover_words.specs.declared.word.Word.{Word}
+use Rattle.clover_words.specs.declared.word.Word.TheVariants.{Next as NextOf}
+use Rattle.clover_words.specs.declared.word.Side.TheVariants.{Current}
+use Rattle.clover_words.specs.Place.{IsWithin, copy_in}
+use Rattle.clover_map.specs.declared.bytes.Value.{Value}
+use Rattle.clover_rule.specs.Content.{InRange, Fits, content}
+use Rattle.clover_rule.specs.Lists.{Each, nth}
+use Rattle.clover_rule.specs.Memory.{home}
+use Rattle.clover_rule.specs.Parts.{Walk}
+use Rattle.clover_rule.specs.Steps.{Step, RaiseNext, found, words_after_step, unlinked}
+use Rattle.clover_rule.specs.Words.{mem_of, buffer_at, content_at}
+use Rattle.clover_walk.specs.Walking.{Walking, AtRoot, AtTag, OnTail, IsOnWay, budget, walk_step, goes_on}
+
+-- the words and a call after so many accesses made alone: access i is the step that step i says of the call, and the call goes on by the number that it found
+abbrev pub after_alone : {S : Type 0} → Pool → (ℕ → S → Step) → (S → ℕ → S) → ℕ → List ℕ → S → List ℕ × S
+after_alone p step on zero ws c = (ws, c)
+after_alone p step on (suc n) ws c = after_alone p (λ (i : ℕ). step (suc i)) on n (words_after_step p (step 0 c) ws) (on c (found p (step 0 c) ws))
+
+-- the words and a walk after so many accesses made alone
+abbrev pub alone : Pool → ℕ → List ℕ → Walking → List ℕ × Walking
+alone p n ws w = after_alone p (λ (i : ℕ) (x : Walking). walk_step x) (λ (x : Walking) (y : ℕ). goes_on x y) n ws w
+
+-- the current copies lead from there over the tags ts to the tail u, all of the pool
+pub record LeadsOver (p : Pool) (ws : List ℕ) (from : Option ℕ) (ts : List ℕ) (u : ℕ) : Type 0 where
+  pub walk : Walk (mem_of p ws) from (ts ++ u ∷ [])
+  pub range : Each (InRange p) (ts ++ u ∷ [])
+
+-- the words after the flushed copies of the links of a slot from the tag t over these tags are raised, in order
+abbrev pub raised_from : Pool → ℕ → ℕ → List ℕ → List ℕ → List ℕ
+raised_from p s t [] ws = ws
+raised_from p s t (u ∷ us) ws = raised_from p s u us (words_after_step p (RaiseNext (record { slot = s; from = t; to = u })) ws)
+
+-- the words after the flushed copies of the links between these tags are raised, in order
+abbrev pub raised : Pool → ℕ → List ℕ → List ℕ → List ℕ
+raised p s [] ws = ws
+raised p s (t ∷ ts) ws = raised_from p s t ts ws
+
+-- a walk that is made alone is at the tail u after exactly so many accesses, with a turn for each tag of ts, and has raised the flushed copies of their links
+pub record ReachesAfter (n : ℕ) (ws : List ℕ) (w : Walking) (ts : List ℕ) (u : ℕ) : Type 0 where
+  pub before : (k : ℕ) → k < n → IsOnWay (alone w.pool k ws w).1.stand
+  pub there : (alone w.pool n ws w).1 ≡ record w { turns = w.turns + length ts; first = false; stand = OnTail u }
+  pub words : (alone w.pool n ws w).0 ≡ raised w.pool w.slot (ts ++ u ∷ []) ws
+
+-- the tag's next word is its number unlinked, and its content words are those of the version, which fits
+pub record HasVersion (p : Pool) (ws : List ℕ) (t : ℕ) (o : Option Value) : Type 0 where
+  pub next : copy_in p ws (NextOf (buffer_at (home t))) Current ≡ unlinked t
+  pub fits : Fits p o
+  pub words : (j x : ℕ) → nth (content o) j ≡ Some x → copy_in p ws (content_at (home t) j) Current ≡ x
+
+-- From a tag with d links before the tail a walk makes 2 d + 1 accesses, where its turns do not reach the budget.
+abbrev pub TagLaw : Type 0
+TagLaw = (ws : List ℕ) (w : Walking) (t : ℕ) (ts : List ℕ) (u : ℕ) → w.stand ≡ AtTag t → LeadsOver w.pool ws (Some t) ts u → w.turns + length ts < budget w.pool → ReachesAfter (2 * length ts + 1) ws w ts u
+
+-- From the root it makes one more.
+abbrev pub RootLaw : Type 0
+RootLaw = (ws : List ℕ) (w : Walking) (ts : List ℕ) (u : ℕ) → w.stand ≡ AtRoot → w.slot < w.pool.slots → LeadsOver w.pool ws ((mem_of w.pool ws).root w.slot) ts u → w.turns + length ts < budget w.pool → ReachesAfter (2 * length ts + 2) ws w ts u
+
+-- The raises of links leave the current copy of each word as it was.
+abbrev pub RaisedLaw : Type 0
+RaisedLaw = (p : Pool) (s : ℕ) (ts ws : List ℕ) → Each (InRange p) ts → (v : Word) → IsWithin p v → copy_in p (raised p s ts ws) v Current ≡ copy_in p ws v Current
