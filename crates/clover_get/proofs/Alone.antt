@@ -244,7 +244,7 @@ module _ (w : Walking) (ws : List ℕ) (u : ℕ) where
   OpenNow b = IsOpen b.call.stage
 
   abbrev Last : Option Value → Moment → Type 0
-  Last o b = (y : View) → next_step y b ≡ DecideNext w.slot u (Get (key_at y.pass.names w.slot)) (reply_at u o)
+  Last o b = (y : View) → (next_step y b ≡ DecideNext w.slot u (Get (key_at y.pass.names w.slot)) (reply_at u o)) × (found w.pool (next_step y b) b.words ≡ unlinked u)
 
   abbrev Done : Option Value → Moment → Type 0
   Done o b = (b.call.stage ≡ Over) × StandsIn o b.room × (b.words ≡ ws)
@@ -263,12 +263,12 @@ module _ (w : Walking) (ws : List ℕ) (u : ℕ) where
 
   tail_last : (o : Option Value) → HasVersion w.pool ws u o → (v : ℕ → View) (room : ValueBuf) → Comes w.pool v (length (content o)) (moment ws (getting w (AtMeta u)) room) (Last o)
   tail_last None h v room = subst (λ (k : ℕ). Comes w.pool v k (moment ws (getting w (AtMeta u)) room) (Last None)) (sym length_dead)
-      (meta_dead (Last None) h 0 (λ y r. stay w.pool y (moment ws (getting w (AtDead u)) r) (Last None) (λ z. refl)) v room)
+      (meta_dead (Last None) h 0 (λ y r. stay w.pool y (moment ws (getting w (AtDead u)) r) (Last None) (λ z. (refl, h.next))) v room)
   tail_last (Some x) h v room =
       let n : ℕ = words_of (length x.bytes) in
       subst (λ (k : ℕ). Comes w.pool v k (moment ws (getting w (AtMeta u)) room) (Last (Some x))) (let z : suc (n + 0) ≡ suc n = omega arith in z ∙ sym (length_value x))
       (meta_values x (Last (Some x)) h n 0 (omega arith) (λ y r has. subst (λ (s : Stage). Comes w.pool y 0 (moment ws (getting w s) r) (Last (Some x))) (sym (all_found x))
-      (stay w.pool y (moment ws (getting w (AtFound u x.flags)) r) (Last (Some x)) (λ z. ap (λ (k : Value). DecideNext w.slot u (Get (key_at z.pass.names w.slot)) (reply_at u (Some k))) (has_all x r h.fits.2 (short_enough w.pool (length x.bytes) h.fits.1) has)))) v room)
+      (stay w.pool y (moment ws (getting w (AtFound u x.flags)) r) (Last (Some x)) (λ z. (ap (λ (k : Value). DecideNext w.slot u (Get (key_at z.pass.names w.slot)) (reply_at u (Some k))) (has_all x r h.fits.2 (short_enough w.pool (length x.bytes) h.fits.1) has), h.next)))) v room)
 
   tail_over : (o : Option Value) → HasVersion w.pool ws u o → (v : ℕ → View) (room : ValueBuf) → Comes w.pool v (suc (length (content o))) (moment ws (getting w (AtMeta u)) room) (Done o)
   tail_over None h v room = subst (λ (k : ℕ). Comes w.pool v (suc k) (moment ws (getting w (AtMeta u)) room) (Done None)) (sym length_dead)
