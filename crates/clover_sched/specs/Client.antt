@@ -120,6 +120,8 @@ pub record Went (o : Opening) (i : ℕ) (x y : ClientState) (p q : Plain) (note 
   -- a call that goes on has made one access more
   pub longer : y.under ≢ Nothing → length (since_of y.under (view_at q i)) ≡ suc (length (since_of x.under (view_at p i)))
   pub spent : spent y ≤ spent x
+  -- where its call is to end in so many accesses made alone, this one was one of them
+  pub alone : (n : ℕ) → access.refused ≡ false → EndsIn o.setup.pool p.words n x.under → Advances (suc i) o.setup.pool n q.words y.under note
 
 -- The client of seat i, which had nothing under way, was asked for this task, which came to this note: it stands where that leads.
 pub record Begins (o : Opening) (p : Plain) (i : ℕ) (x y : ClientState) (t : Task) (note : Note) : Type 0 where
