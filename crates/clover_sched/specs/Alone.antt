@@ -46,7 +46,7 @@ pub record Finds (o : Opening) (ws : List ℕ) (call : Call) (tags : List ℕ) (
   pub slot : ℕ
   pub named : Within (slot, key_of call) o.names
   pub leads : LeadsOver o.setup.pool ws ((mem_of o.setup.pool ws).root slot) tags tail
-  pub version : HasVersion o.setup.pool ws tail version
+  pub has : HasVersion o.setup.pool ws tail version
 
 -- somewhere in the records a client begins a call, and from there on makes these steps alone
 pub record RunsAlone (o : Opening) (rs : List Record) : Type 0 where

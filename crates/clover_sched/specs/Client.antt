@@ -1,6 +1,6 @@
 -- A client of the machine: what it has under way and what it knows, that this is what the records say of it, and what one step of it does.
 use Prim.Native.Nat.{suc}
-use Rattle.std.specs.Prelude.{◌≡◌, ◌≢◌, ℕ, ◌+◌, ◌-◌, ◌*◌, ◌≤◌, ◌<◌, ◌^◌, min, List, [], ◌∷◌, ◌++◌, length, true, cond, if◌then◌else◌, Option, Some, None}
+use Rattle.std.specs.Prelude.{◌≡◌, ◌≢◌, ℕ, ◌+◌, ◌-◌, ◌*◌, ◌≤◌, ◌<◌, ◌^◌, min, List, [], ◌∷◌, ◌++◌, length, true, false, cond, if◌then◌else◌, Option, Some, None}
 use Rattle.clover_words.specs.declared.pool.Pool.{Pool}
 use Rattle.clover_words.specs.declared.setup.Setup.{Setup}
 use Rattle.clover_words.specs.Preset.{buffers_total}
@@ -32,6 +32,7 @@ use Rattle.clover_sched.specs.declared.client.Underway.{Underway}
 use Rattle.clover_sched.specs.declared.client.Underway.TheVariants.{Nothing, Get, Write, Raise}
 use Rattle.clover_sched.specs.declared.event.Event.TheVariants.{Step}
 use Rattle.clover_sched.specs.declared.event.Note.{Note}
+use Rattle.clover_sched.specs.Alone.{EndsIn, Advances}
 use Rattle.clover_sched.specs.Folds.{Doing, listed, words_by, made_by, begun, stepped}
 use Rattle.clover_sched.specs.Record.{Record}
 use Rattle.clover_sched.specs.Run.{Opening, IsStep, begin_note}
