@@ -126,7 +126,7 @@ module _ (o : Opening) (p : Plain) (i : ℕ) (x : ClientState) (st : Stands o p 
     swaps t expected value e None h key = h
     swaps t expected value e (Some z) h key = subst (λ (n : ℕ). PutEnds o.setup.pool (2 * length (content (Some value)) + 2 * length ts + 2 + cond (eqb n u) 3 2) p.words (made_put (made_walk o.setup.pool slot None) (Swap t) own_tag value)) e h
 
-    starts : (call : Call) (under : Underway) → IsBegun o.setup slot (suc i) x.taken call under → size_of call ≤ room o.setup → (takes call ≡ 1 → HasDealt o.setup (suc i) x.taken) → EndsIn o.setup.pool p.words (cost call (length ts) u y) under
+    pub starts : (call : Call) (under : Underway) → IsBegun o.setup slot (suc i) x.taken call under → size_of call ≤ room o.setup → (takes call ≡ 1 → HasDealt o.setup (suc i) x.taken) → EndsIn o.setup.pool p.words (cost call (length ts) u y) under
     starts (GetOf key) under b fits dealt =
         let n : 2 * length ts + 3 + length (content y) ≡ cost (GetOf key) (length ts) u y = omega arith in
         subst (EndsIn o.setup.pool p.words (cost (GetOf key) (length ts) u y)) (sym b.1) (subst (λ (k : ℕ). GetEnds o.setup.pool k (record { words = p.words; call = getting (made_walk o.setup.pool slot None) Seeking; room = b.0 })) n (get_starts o.setup.pool p.words slot low ts u y l has b.0))
