@@ -8,7 +8,7 @@ use Rattle.clover_words.specs.declared.meta.Kind.{Kind}
 use Rattle.clover_words.specs.declared.meta.Kind.TheVariants.{Value as IsValue, Tombstone}
 use Rattle.clover_words.specs.declared.pool.Pool.{Pool}
 use Rattle.clover_words.specs.Meta.{MetaParts, IsVersion, meta_word}
-use Rattle.clover_words.specs.Pack.{packed, words_of}
+use Rattle.clover_words.specs.Pack.{packed, words_of, with_eight}
 use Rattle.clover_words.specs.Tag.{TagParts, tag_number}
 use Rattle.clover_map.specs.declared.call.Call.{Call}
 use Rattle.clover_map.specs.declared.call.Call.TheVariants.{Get}
@@ -26,7 +26,7 @@ use Rattle.clover_walk.specs.Walking.{Walking, Stand, StandsOn as WalkStandsOn, 
 use Rattle.clover_walk.proofs.Endings.{stepped, copied_one, at_tail}
 use Rattle.clover_get.specs.declared.turn.GetTurn.TheVariants.{More, Found as IsFound, Absent as IsAbsent}
 use Rattle.clover_get.specs.Copying.{Copied}
-use Rattle.clover_get.specs.Getting.{Getting, Stage, AtMeta, AtValue, AtFound, AtDead, AtBad, Over, getting, sought, Reads, read_stage, read_kind, valued, value_in, GoesOn, get_step}
+use Rattle.clover_get.specs.Getting.{Getting, Stage, AtMeta, AtValue, AtFound, AtDead, AtBad, Over, getting, sought, Reads, read_stage, read_kind, valued, value_in, GoesOn, FillsFrom, get_step}
 use Rattle.clover_get.specs.Going.{Went, key_of, most_accesses}
 use Rattle.clover_get.specs.Holding.{GetHolds, StandsOn, IsAt, copied}
 use Rattle.clover_get.proofs.Copies.{more_value, first_value, first_dead, first_bad, undecoded, too_long}
@@ -81,11 +81,11 @@ module _ (p : Pool) (f f1 : ℕ) (w : Walking) (t : ℕ) (v : View) (o : Option 
         (omega arith);
   }
 
-  tail_went : (a : Step) (s : Stage) (g1 : Getting) (into into1 : ValueBuf) (extra : ℕ) → Holds w v1 → IsAt w t → (made : (x : ℕ) × Made p a w.first v o x v1 o1 × GoesOn (getting w s) into1.length x g1)
+  tail_went : (a : Step) (s : Stage) (g1 : Getting) (into into1 : ValueBuf) (extra : ℕ) → Holds w v1 → IsAt w t → (made : (x : ℕ) × Made p a w.first v o x v1 o1 × GoesOn (getting w s) into1.length x g1 × FillsFrom s x into into1)
       → a ≡ get_step (getting w s) (key_of (getting w s) v) into
       → GetHolds g1 v1 into1 → length v1.pass.since ≤ w.turns * (w.pool.words + 4) + extra → extra ≤ 4 + w.pool.words → Went p f f1 (getting w s) g1 into into1 v o v1 o1 More
   tail_went a s g1 into into1 extra h at made is holds n few = record {
-    made = (made.0, subst (λ (b : Step). Made p b w.first v o made.0 v1 o1) is made.1, made.2);
+    made = (made.0, subst (λ (b : Step). Made p b w.first v o made.0 v1 o1) is made.1, made.2, made.3);
     found = tt;
     at = tt;
     absent = tt;
@@ -130,19 +130,19 @@ module _ (p : Pool) (f f1 : ℕ) (w : Walking) (t : ℕ) (v : View) (o : Option 
   meta_stands (Some m) into1 at made r size = kind_stands m.kind m.flags m.length into1 at made r.found.0 r.found.1 size
 
   pub meta_went : (om : Option MetaParts) (g1 : Getting) (into into1 : ValueBuf) → GetHolds (getting w (AtMeta t)) v into → Made p (LoadContent w.slot t 0) false v o x v1 o1 → Reads x om
-      → g1 ≡ getting w (read_stage w.pool t om) → IfSome om (λ m. into1.length ≡ m.length) → Went p f f1 (getting w (AtMeta t)) g1 into into1 v o v1 o1 More
-  meta_went om g1 into into1 h made r value size =
+      → g1 ≡ getting w (read_stage w.pool t om) → IfSome om (λ m. into1.length ≡ m.length) → into1.bytes ≡ into.bytes → Went p f f1 (getting w (AtMeta t)) g1 into into1 v o v1 o1 More
+  meta_went om g1 into into1 h made r value size bytes =
       let at = h.stage in
       let s = meta_stands om into1 at made r size in
       let n = counts (LoadContent w.slot t 0) 2 at made h.bound in
       let k = still_holds 0 h.walk at made in
-      tail_went (LoadContent w.slot t 0) (AtMeta t) g1 into into1 3 k at (x, later (LoadContent w.slot t 0) at.1 made, (om, r, value)) refl
+      tail_went (LoadContent w.slot t 0) (AtMeta t) g1 into into1 3 k at (x, later (LoadContent w.slot t 0) at.1 made, (om, r, value), (bytes, λ m i e. subst (λ (z : Option MetaParts). IfSome z (λ (y : MetaParts). into1.length ≡ y.length)) (r.only m i e) size)) refl
       (subst (λ (z : Getting). GetHolds z v1 into1) (sym value) (on_tail (read_stage w.pool t om) into1 3 k at s.0 n s.1)) n (omega arith)
 
   pub value_went : (fl j : ℕ) (g1 : Getting) (into into1 : ValueBuf) → GetHolds (getting w (AtValue t fl j)) v into → Made p (LoadContent w.slot t (suc j)) false v o x v1 o1
       → g1 ≡ getting w (valued t fl into1.length (suc j)) → into1.length ≡ into.length → packed into1.bytes j ≡ x → ((k : ℕ) → k ≢ j → packed into1.bytes k ≡ packed into.bytes k)
-      → Went p f f1 (getting w (AtValue t fl j)) g1 into into1 v o v1 o1 More
-  value_went fl j g1 into into1 h made value size packs others =
+      → into1.bytes ≡ with_eight into.bytes j x → Went p f f1 (getting w (AtValue t fl j)) g1 into into1 v o v1 o1 More
+  value_went fl j g1 into into1 h made value size packs others bytes =
       let at = h.stage.0 in
       let less : j < words_of into.length = h.stage.1 in
       let c = copied_one p w.slot t (suc j) false v o x v1 o1 made in
@@ -154,7 +154,7 @@ module _ (p : Pool) (f f1 : ℕ) (w : Walking) (t : ℕ) (v : View) (o : Option 
       let n0 = counts (LoadContent w.slot t (suc j)) (3 + j) at made h.bound in
       let n : length v1.pass.since ≤ w.turns * (w.pool.words + 4) + (3 + suc j) = omega arith in
       let k = still_holds (suc j) h.walk at made in
-      tail_went (LoadContent w.slot t (suc j)) (AtValue t fl j) g1 into into1 (3 + suc j) k at (x, later (LoadContent w.slot t (suc j)) at.1 made, value) refl
+      tail_went (LoadContent w.slot t (suc j)) (AtValue t fl j) g1 into into1 (3 + suc j) k at (x, later (LoadContent w.slot t (suc j)) at.1 made, value, (bytes, size)) refl
       (subst (λ (z : Getting). GetHolds z v1 into1) (sym value) (on_tail (valued t fl into1.length (suc j)) into1 (3 + suc j) k at stands.0 n stands.1)) n (omega arith)
 
 -- the last load showed the tag unlinked
@@ -185,7 +185,7 @@ module _ (p : Pool) (f f1 : ℕ) (w : Walking) (tag : TagParts) (v : View) (o : 
       let one : AreOneVersion w.pool w.slot (tag_number tag) v = subst (λ (z : Pool). AreOneVersion z w.slot (tag_number tag) v) of (m.told.says refl).1 in
       let saw : SawWhole (tag_number tag) (value_in fl into) v.pass.since = saw_whole w.pool w.slot (tag_number tag) fl v into h.stage.1 one in
       record {
-        made = (x, later p f f1 w (tag_number tag) v o x v1 o1 of a at.1 made, value ∙ sym (ap (λ (b : Bool). cond b (getting w Over) (sought (goes_on w x))) (eq-eqb x (unlinked (tag_number tag)) e)));
+        made = (x, later p f f1 w (tag_number tag) v o x v1 o1 of a at.1 made, value ∙ sym (ap (λ (b : Bool). cond b (getting w Over) (sought (goes_on w x))) (eq-eqb x (unlinked (tag_number tag)) e)), refl);
         found = (record { slot = w.slot; tag = tag_number tag; made = m; decides = at_tail p w.slot (tag_number tag) key reply (SawWhole (tag_number tag) (value_in fl into)) v o v1 o1 m saw }, refl, refl);
         at = (refl, refl);
         absent = tt;
@@ -209,7 +209,7 @@ module _ (p : Pool) (f f1 : ℕ) (w : Walking) (tag : TagParts) (v : View) (o : 
       let n = counts p f f1 w (tag_number tag) v o x v1 o1 of a 3 at made h.bound in
       let ended : AtTail p m.now.words key (tag_number tag) (SawDead (tag_number tag)) v1.pass.since = at_tail p w.slot (tag_number tag) key Absent (SawDead (tag_number tag)) v o v1 o1 m h.stage.1.load in
       record {
-        made = (x, later p f f1 w (tag_number tag) v o x v1 o1 of a at.1 made, value ∙ sym (ap (λ (b : Bool). cond b (getting w Over) (sought (goes_on w x))) (eq-eqb x (unlinked (tag_number tag)) e)));
+        made = (x, later p f f1 w (tag_number tag) v o x v1 o1 of a at.1 made, value ∙ sym (ap (λ (b : Bool). cond b (getting w Over) (sought (goes_on w x))) (eq-eqb x (unlinked (tag_number tag)) e)), refl);
         found = tt;
         at = tt;
         absent = (record { slot = w.slot; tag = tag_number tag; made = m; decides = inl (tag_number tag, ended) }, refl, refl);

@@ -21,7 +21,7 @@ use Rattle.clover_walk.specs.declared.turn.Turn.TheVariants.{More as WalksOn, At
 use Rattle.clover_walk.proofs.Endings.{stepped}
 use Rattle.clover_get.specs.declared.turn.GetTurn.{GetTurn}
 use Rattle.clover_get.specs.declared.turn.GetTurn.TheVariants.{Unreached}
-use Rattle.clover_get.specs.Getting.{Getting, Stage, Seeking, AtMeta, AtFound, AtDead, AtBad, Over, getting, sought, stage_at, get_step, GoesOn}
+use Rattle.clover_get.specs.Getting.{Getting, Stage, Seeking, AtMeta, AtFound, AtDead, AtBad, Over, getting, sought, stage_at, get_step, GoesOn, FillsFrom}
 use Rattle.clover_get.specs.Going.{Went, Follows, answer_of, key_of, most_accesses}
 use Rattle.clover_get.specs.Holding.{GetHolds, IsAt, walked, most}
 use Rattle.clover_get.proofs.Counting.{InTurns, HasRoot, goes, misses, bounded, length_snoc, length_first}
@@ -57,7 +57,7 @@ at_most (OnTail t) = omega arith
 at_most Ended = omega arith
 
 module _ (p : Pool) (f f1 : ℕ) (g : Getting) (into : ValueBuf) (v : View) (o : Option Open) (x : ℕ) (v1 : View) (o1 : Option Open) (w1 : Walking)
-    (made : Made p (get_step g (key_of g v) into) g.walk.first v o x v1 o1) (goes_so : GoesOn g into.length x (sought w1))
+    (made : Made p (get_step g (key_of g v) into) g.walk.first v o x v1 o1) (goes_so : GoesOn g into.length x (sought w1)) (fills : FillsFrom g.stage x into into)
     (of : w1.pool ≡ p) (later : w1.first ≡ false) (count : InTurns w1 (length v1.pass.since)) where
   allowed : w1.turns ≡ v1.pass.turns → length v1.pass.since ≤ most_accesses p v1.pass.turns
   allowed e =
@@ -90,9 +90,9 @@ module _ (p : Pool) (f f1 : ℕ) (g : Getting) (into : ValueBuf) (v : View) (o :
 
   went_by : (turn : Turn) → Answers w1 turn → OnWalking turn (Holds w1 v1) → IfWalkBehind turn (λ (n : ℕ). (n ≡ budget p) × (v1.pass.turns ≡ budget p)) → OnWalkAhead turn (v1.pass.turns < budget p)
       → Went p f f1 g (sought w1) into into v o v1 o1 (answer_of turn)
-  went_by WalksOn a h b c = record { made = (x, made, goes_so); found = tt; at = tt; absent = tt; behind = tt; ahead = c; unreached = tt; stands = seeks h a; ends = tt; bound = allowed (counted_so h) }
-  went_by (AtTail t) a h b c = record { made = (x, made, goes_so); found = tt; at = tt; absent = tt; behind = tt; ahead = c; unreached = tt; stands = arrives (tag_number t) h a; ends = tt; bound = allowed (counted_so h) }
-  went_by (WalkBehind n) a h b c = record { made = (x, made, goes_so); found = tt; at = tt; absent = tt; behind = b; ahead = tt; unreached = tt; stands = tt; ends = ap stage_at a.0; bound = allowed (sym a.1 ∙ b.0 ∙ sym b.1) }
+  went_by WalksOn a h b c = record { made = (x, made, goes_so, fills); found = tt; at = tt; absent = tt; behind = tt; ahead = c; unreached = tt; stands = seeks h a; ends = tt; bound = allowed (counted_so h) }
+  went_by (AtTail t) a h b c = record { made = (x, made, goes_so, fills); found = tt; at = tt; absent = tt; behind = tt; ahead = c; unreached = tt; stands = arrives (tag_number t) h a; ends = tt; bound = allowed (counted_so h) }
+  went_by (WalkBehind n) a h b c = record { made = (x, made, goes_so, fills); found = tt; at = tt; absent = tt; behind = b; ahead = tt; unreached = tt; stands = tt; ends = ap stage_at a.0; bound = allowed (sym a.1 ∙ b.0 ∙ sym b.1) }
   went_by Refused a h b c = absurd a
 
   pub went_on : (r : GetTurn) → Follows p w1 v1 r → Went p f f1 g (sought w1) into into v o v1 o1 r
@@ -116,7 +116,7 @@ module _ (p : Pool) (f f1 : ℕ) (w : Walking) (into : ValueBuf) (v : View) (o :
       let go = goes w x (cond w.first 0 (length v.pass.since)) holds.stage root holds.bound in
       let count : InTurns (goes_on w x) (length v1.pass.since) = subst (InTurns (goes_on w x)) (sym (one_more p (walk_step w) w.first v o x v1 o1 made)) go.count in
       subst (λ (z : Getting). Went p f f1 (getting w Seeking) z into into v o v1 o1 (answer_of turn)) (sym (value ∙ ap sought e))
-      (went_on p f f1 (getting w Seeking) into v o x v1 o1 (goes_on w x) made refl (go.pool ∙ sym of) go.first count (answer_of turn)
+      (went_on p f f1 (getting w Seeking) into v o x v1 o1 (goes_on w x) made refl refl (go.pool ∙ sym of) go.first count (answer_of turn)
       (record {
         turn = turn;
         answers = subst (λ (z : Walking). Answers z turn) e answer;
@@ -144,13 +144,13 @@ module _ (p : Pool) (f f1 : ℕ) (w : Walking) (into : ValueBuf) (v : View) (o :
 module _ (p : Pool) (f f1 : ℕ) (w : Walking) (t : ℕ) (into : ValueBuf) (v : View) (o : Option Open) (x : ℕ) (v1 : View) (o1 : Option Open) (of : p ≡ w.pool) where
   -- a last load that showed the tag not unlinked
   missed : (s : Stage) → IsAt w t → cond w.first 0 (length v.pass.since) ≤ w.turns * (w.pool.words + 4) + (3 + w.pool.words)
-      → Made p (get_step (getting w s) (key_of (getting w s) v) into) w.first v o x v1 o1 → GoesOn (getting w s) into.length x (sought (goes_on w x))
+      → Made p (get_step (getting w s) (key_of (getting w s) v) into) w.first v o x v1 o1 → GoesOn (getting w s) into.length x (sought (goes_on w x)) → FillsFrom s x into into
       → next_code (next_of x) ≡ x → x ≢ unlinked t → (g1 : Getting) (r : GetTurn) → g1 ≡ sought (goes_on w x) → Follows p g1.walk v1 r → Went p f f1 (getting w s) g1 into into v o v1 o1 r
-  missed s at bound made so code d g1 r value follows =
+  missed s at bound made so fills code d g1 r value follows =
       let go = misses w t x (cond w.first 0 (length v.pass.since)) at.0 code d bound in
       let count : InTurns (goes_on w x) (length v1.pass.since) = subst (InTurns (goes_on w x)) (sym (one_more p _ w.first v o x v1 o1 made)) go.count in
       subst (λ (z : Getting). Went p f f1 (getting w s) z into into v o v1 o1 r) (sym value)
-      (went_on p f f1 (getting w s) into v o x v1 o1 (goes_on w x) made so (go.pool ∙ sym of) go.first count r
+      (went_on p f f1 (getting w s) into v o x v1 o1 (goes_on w x) made so fills (go.pool ∙ sym of) go.first count r
       (subst (λ (z : Walking). Follows p z v1 r) (ap (λ (z : Getting). z.walk) value) follows))
 
   made_later : (a : Step) → w.first ≡ false → Made p a false v o x v1 o1 → Made p a w.first v o x v1 o1
@@ -158,11 +158,11 @@ module _ (p : Pool) (f f1 : ℕ) (w : Walking) (t : ℕ) (into : ValueBuf) (v : 
 
   pub found_missed : (fl : ℕ) → GetHolds (getting w (AtFound t fl)) v into → Made p (get_step (getting w (AtFound t fl)) (key_of (getting w (AtFound t fl)) v) into) false v o x v1 o1
       → x ≢ unlinked t → (g1 : Getting) (r : GetTurn) → g1 ≡ sought (goes_on w x) → Follows p g1.walk v1 r → Went p f f1 (getting w (AtFound t fl)) g1 into into v o v1 o1 r
-  found_missed fl h made d = missed (AtFound t fl) h.stage.0 h.bound (made_later _ h.stage.0.1 made) (sym (ap (λ (b : Bool). cond b (getting w Over) (sought (goes_on w x))) (ne_eqb x (unlinked t) d))) made.told.number.0 d
+  found_missed fl h made d = missed (AtFound t fl) h.stage.0 h.bound (made_later _ h.stage.0.1 made) (sym (ap (λ (b : Bool). cond b (getting w Over) (sought (goes_on w x))) (ne_eqb x (unlinked t) d))) refl made.told.number.0 d
 
   pub dead_missed : GetHolds (getting w (AtDead t)) v into → Made p (get_step (getting w (AtDead t)) (key_of (getting w (AtDead t)) v) into) false v o x v1 o1
       → x ≢ unlinked t → (g1 : Getting) (r : GetTurn) → g1 ≡ sought (goes_on w x) → Follows p g1.walk v1 r → Went p f f1 (getting w (AtDead t)) g1 into into v o v1 o1 r
-  dead_missed h made d = let b = h.bound in missed (AtDead t) h.stage.0 (omega arith) (made_later _ h.stage.0.1 made) (sym (ap (λ (b : Bool). cond b (getting w Over) (sought (goes_on w x))) (ne_eqb x (unlinked t) d))) made.told.number.0 d
+  dead_missed h made d = let b = h.bound in missed (AtDead t) h.stage.0 (omega arith) (made_later _ h.stage.0.1 made) (sym (ap (λ (b : Bool). cond b (getting w Over) (sought (goes_on w x))) (ne_eqb x (unlinked t) d))) refl made.told.number.0 d
 
   -- a tag whose meta word is no version's is not found unlinked
   pub bad_differs : GetHolds (getting w (AtBad t)) v into → Made p (LoadNext w.slot t) false v o x v1 o1 → x ≢ unlinked t
@@ -170,4 +170,4 @@ module _ (p : Pool) (f f1 : ℕ) (w : Walking) (t : ℕ) (into : ValueBuf) (v : 
 
   pub bad_missed : GetHolds (getting w (AtBad t)) v into → Made p (LoadNext w.slot t) false v o x v1 o1
       → (g1 : Getting) (r : GetTurn) → g1 ≡ sought (goes_on w x) → Follows p g1.walk v1 r → Went p f f1 (getting w (AtBad t)) g1 into into v o v1 o1 r
-  bad_missed h made = let b = h.bound in missed (AtBad t) h.stage.0 (omega arith) (made_later _ h.stage.0.1 made) refl made.told.number.0 (bad_differs h made)
+  bad_missed h made = let b = h.bound in missed (AtBad t) h.stage.0 (omega arith) (made_later _ h.stage.0.1 made) refl refl made.told.number.0 (bad_differs h made)

@@ -3,18 +3,17 @@ use Prim.Native.Nat.{zero, suc}
 use Rattle.std.specs.Prelude.{◌≡◌, ℕ, ◌+◌, ◌*◌, ◌<◌, List, ◌∷◌, ◌++◌, [], length, Option, Some, None}
 use Rattle.clover_words.specs.declared.bytes.ValueBuf.{ValueBuf}
 use Rattle.clover_words.specs.declared.pool.Pool.{Pool}
-use Rattle.clover_words.specs.Meta.{MetaParts, IsMeta, meta_word}
-use Rattle.clover_words.specs.Pack.{with_eight}
 use Rattle.clover_map.specs.declared.bytes.Value.{Value}
 use Rattle.clover_map.specs.declared.call.Call.TheVariants.{Get}
 use Rattle.clover_map.specs.declared.call.Reply.{Reply}
 use Rattle.clover_map.specs.declared.call.Reply.TheVariants.{Found, Absent}
-use Rattle.clover_rule.specs.Steps.{Step, DecideNext, found, words_after_step}
+use Rattle.clover_rule.specs.Content.{content}
+use Rattle.clover_rule.specs.Steps.{Step, DecideNext, found, words_after_step, unlinked}
 use Rattle.clover_rule.specs.Words.{mem_of}
 use Rattle.clover_rule.specs.declared.view.View.{View}
-use Rattle.clover_walk.specs.Alone.{LeadsOver, HasVersion, raised, version_words}
+use Rattle.clover_walk.specs.Alone.{LeadsOver, HasVersion, raised}
 use Rattle.clover_walk.specs.Walking.{Walking, AtRoot, budget}
-use Rattle.clover_get.specs.Getting.{Getting, Stage, Seeking, AtMeta, AtValue, Over, IsOpen, getting, get_step, value_in, GoesOn}
+use Rattle.clover_get.specs.Getting.{Getting, Seeking, Over, IsOpen, getting, get_step, value_in, GoesOn, FillsFrom}
 use Rattle.clover_get.specs.Going.{key_of}
 
 -- the words of the pool, the get and its room
@@ -22,12 +21,6 @@ pub record Moment : Type 0 where
   pub words : List ℕ
   pub call : Getting
   pub room : ValueBuf
-
--- how the room changes by an access that found this number: a meta word gives the length, and a value word its eight bytes
-abbrev pub FillsFrom : Stage → ℕ → ValueBuf → ValueBuf → Type 0
-FillsFrom (AtMeta t) x room room1 = (room1.bytes ≡ room.bytes) × ((m : MetaParts) → IsMeta m → meta_word m ≡ x → room1.length ≡ m.length)
-FillsFrom (AtValue t f j) x room room1 = (room1.bytes ≡ with_eight room.bytes j x) × (room1.length ≡ room.length)
-FillsFrom at x room room1 = room1 ≡ room
 
 -- the step that the get's next access is, for a client with this view
 abbrev pub next_step : View → Moment → Step
@@ -54,14 +47,14 @@ abbrev pub StandsIn : Option Value → ValueBuf → Type 0
 StandsIn None room = Unit {0}
 StandsIn (Some x) room = value_in x.flags room ≡ x
 
--- a get that is made alone is over after exactly so many accesses, of which the last is the load that decides it with the tail's version; the value stands in the room, and the words are these
+-- a get that is made alone is over after exactly so many accesses, of which the last is the load that decides it with the tail's version and shows the tail unlinked; the value stands in the room, and the words are these
 pub record EndsAfter (n : ℕ) (v : ℕ → View) (a : Moment) (t : ℕ) (o : Option Value) (words : List ℕ) : Type 0 where
   pub runs : (b : Moment) × LeadsAlone a.call.walk.pool v n a b
   pub before : (k : ℕ) (b : Moment) → k < n → LeadsAlone a.call.walk.pool v k a b → IsOpen b.call.stage
-  pub last : (k : ℕ) (b : Moment) (w : View) → suc k ≡ n → LeadsAlone a.call.walk.pool v k a b → next_step w b ≡ DecideNext a.call.walk.slot t (Get (key_of a.call w)) (reply_at t o)
+  pub last : (k : ℕ) (b : Moment) (w : View) → suc k ≡ n → LeadsAlone a.call.walk.pool v k a b → (next_step w b ≡ DecideNext a.call.walk.slot t (Get (key_of a.call w)) (reply_at t o)) × (found a.call.walk.pool (next_step w b) b.words ≡ unlinked t)
   pub over : (b : Moment) → LeadsAlone a.call.walk.pool v n a b → (b.call.stage ≡ Over) × StandsIn o b.room × (b.words ≡ words)
 
 -- From the root of a slot with d links before the tail a get makes 2 d + 3 accesses and one for each content word of the tail, where its turns do not reach the budget.
 abbrev pub GetLaw : Type 0
 GetLaw = (v : ℕ → View) (ws : List ℕ) (w : Walking) (room : ValueBuf) (ts : List ℕ) (u : ℕ) (o : Option Value) → w.stand ≡ AtRoot → w.slot < w.pool.slots → LeadsOver w.pool ws ((mem_of w.pool ws).root w.slot) ts u → w.turns + length ts < budget w.pool → HasVersion w.pool ws u o
-    → EndsAfter (2 * length ts + 3 + version_words o) v (record { words = ws; call = getting w Seeking; room = room }) u o (raised w.pool w.slot (ts ++ u ∷ []) ws)
+    → EndsAfter (2 * length ts + 3 + length (content o)) v (record { words = ws; call = getting w Seeking; room = room }) u o (raised w.pool w.slot (ts ++ u ∷ []) ws)

@@ -6,7 +6,7 @@ use Rattle.clover_words.specs.declared.meta.Kind.{Kind}
 use Rattle.clover_words.specs.declared.meta.Kind.TheVariants.{Value as IsValue, Tombstone}
 use Rattle.clover_words.specs.declared.pool.Pool.{Pool}
 use Rattle.clover_words.specs.Meta.{MetaParts, IsMeta, meta_word}
-use Rattle.clover_words.specs.Pack.{words_of}
+use Rattle.clover_words.specs.Pack.{words_of, with_eight}
 use Rattle.clover_map.specs.declared.bytes.Value.{Value}
 use Rattle.clover_map.specs.declared.call.Call.TheVariants.{Get}
 use Rattle.clover_map.specs.declared.call.Reply.TheVariants.{Found, Absent}
@@ -92,3 +92,9 @@ GoesFrom Over w size x g = ⊥
 
 abbrev pub GoesOn : Getting → ℕ → ℕ → Getting → Type 0
 GoesOn g size x g1 = GoesFrom g.stage g.walk size x g1
+
+-- how the room changes by an access that found this number: a meta word gives the length, and a value word its eight bytes
+abbrev pub FillsFrom : Stage → ℕ → ValueBuf → ValueBuf → Type 0
+FillsFrom (AtMeta t) x room room1 = (room1.bytes ≡ room.bytes) × ((m : MetaParts) → IsMeta m → meta_word m ≡ x → room1.length ≡ m.length)
+FillsFrom (AtValue t f j) x room room1 = (room1.bytes ≡ with_eight room.bytes j x) × (room1.length ≡ room.length)
+FillsFrom at x room room1 = room1 ≡ room

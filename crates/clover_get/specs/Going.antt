@@ -16,16 +16,16 @@ use Rattle.clover_walk.specs.declared.turn.Turn.TheVariants.{More as WalksOn, At
 use Rattle.clover_get.specs.declared.turn.GetTurn.TheVariants.{More, Behind, Unreached}
 use Rattle.clover_get.specs.declared.turn.GetTurn.{GetTurn}
 use Rattle.clover_get.specs.Answering.{OnReached, OnUnreached, OnGoing, OnOver, OnAhead, IfFound, IfAbsent, IfBehind}
-use Rattle.clover_get.specs.Getting.{Getting, AtFound, Over, get_step, value_in, GoesOn}
+use Rattle.clover_get.specs.Getting.{Getting, AtFound, Over, get_step, value_in, GoesOn, FillsFrom}
 use Rattle.clover_get.specs.Holding.{GetHolds}
 
 -- the key of the get, as its actor's copy of the bindings has it
 abbrev pub key_of : Getting → View → List ℕ
 key_of g v = key_at v.pass.names g.walk.slot
 
--- exactly one access was made, the one that the get's stage says, and the get went on by what it found
+-- exactly one access was made, the one that the get's stage says, and the get went on and the room was filled by what it found
 abbrev pub OneAccess : Pool → Getting → Getting → ValueBuf → ValueBuf → View → Option Open → View → Option Open → Type 0
-OneAccess p g g1 into into1 v o v1 o1 = (x : ℕ) × Made p (get_step g (key_of g v) into) g.walk.first v o x v1 o1 × GoesOn g into1.length x g1
+OneAccess p g g1 into into1 v o v1 o1 = (x : ℕ) × Made p (get_step g (key_of g v) into) g.walk.first v o x v1 o1 × GoesOn g into1.length x g1 × FillsFrom g.stage x into into1
 
 -- the last load showed the tag unlinked, and the accesses of the call decide that the key has this value under it
 abbrev pub FoundAt : Pool → Getting → ℕ → Value → View → Option Open → View → Option Open → Type 0

@@ -15,19 +15,19 @@ use Rattle.clover_words.specs.Place.{IsWithin, copy_in, address_of}
 use Rattle.clover_words.specs.Tag.{tag_number}
 use Rattle.clover_words.proofs.Places.{copy_kept, has_current}
 use Rattle.clover_map.specs.declared.bytes.Value.{Value}
-use Rattle.clover_rule.specs.Content.{inside, InRange, Fits, content, tombstone, value_meta}
+use Rattle.clover_rule.specs.Content.{inside, InRange, content, tombstone, value_meta}
 use Rattle.clover_rule.specs.Lists.{Each}
 use Rattle.clover_rule.specs.Memory.{word, home}
 use Rattle.clover_rule.specs.Parts.{Walk}
-use Rattle.clover_rule.specs.Steps.{LoadContent, found, words_after_step, unlinked}
+use Rattle.clover_rule.specs.Steps.{LoadContent, found, words_after_step, unlinked, turn_of, turn_at}
 use Rattle.clover_rule.specs.Words.{next_of, root_of, buffer_at, content_at, mem_of}
 use Rattle.clover_rule.specs.declared.view.View.{View}
 use Rattle.clover_rule.proofs.Spelling.{short_enough}
 use Rattle.clover_rule.proofs.Ties.{kind_of as word_kind, content_kind, buffer_in, content_in, content_side, buffer_same, guard}
 use Rattle.clover_rule.proofs.Keeping.{read_root}
-use Rattle.clover_walk.specs.Alone.{LeadsOver, HasVersion, raised, version_words, alone as walk_alone}
+use Rattle.clover_walk.specs.Alone.{LeadsOver, HasVersion, raised, alone as walk_alone}
 use Rattle.clover_walk.specs.Walking.{Walking, Stand, AtRoot, AtTag, AtLink as OnLink, OnTail, Ended, IsOnWay, budget, begun, walk_step, goes_on}
-use Rattle.clover_walk.proofs.Alone.{load_leaves, walk_same, root_law, raised_version, last_range, content_within, content_words}
+use Rattle.clover_walk.proofs.Alone.{load_leaves, walk_same, root_law, raised_version, last_range, content_within}
 use Rattle.clover_put.specs.declared.job.Job.{Job}
 use Rattle.clover_put.specs.declared.job.Job.TheVariants.{Put, Delete, Swap}
 use Rattle.clover_put.specs.Alone.{alone, IsOpen, last_stage, tail_accesses, EndsAfter, PutLaw}
@@ -40,6 +40,7 @@ ends_more : (p : Pool) (n : ℕ) (v : ℕ → View) (ws : List ℕ) (c : Putting
 ends_more p n v ws c at ws1 c1 some way e f h = record {
   before = before;
   last = last;
+  still = still;
   over = ap (λ (r : List ℕ × Putting). r.1.stage) (next n) ∙ h.over;
 }
   where
@@ -54,9 +55,13 @@ ends_more p n v ws c at ws1 c1 some way e f h = record {
     last zero l = absurd (omega arith)
     last (suc k) l = ap (λ (r : List ℕ × Putting). r.1.stage) (next k) ∙ h.last k (omega arith)
 
+    still : (k : ℕ) (w : View) → suc k ≡ suc n → turn_of (put_step (alone p v k ws c).1 w) (found p (put_step (alone p v k ws c).1 w) (alone p v k ws c).0) ≡ 0
+    still zero w l = absurd (omega arith)
+    still (suc k) w l = ap (λ (r : List ℕ × Putting). turn_of (put_step r.1 w) (found p (put_step r.1 w) r.0)) (next k) ∙ h.still k w (omega arith)
+
 -- the last access
-ends_last : (p : Pool) (v : ℕ → View) (ws : List ℕ) (c : Putting) (at : Stage) → IsOpen c.stage → c.stage ≡ at → (put_on c (found p (put_step c (v 0)) ws)).stage ≡ Over → EndsAfter p 1 v ws c at
-ends_last p v ws c at way e f = record { before = before; last = last; over = f }
+ends_last : (p : Pool) (v : ℕ → View) (ws : List ℕ) (c : Putting) (at : Stage) → IsOpen c.stage → c.stage ≡ at → ((w : View) → turn_of (put_step c w) (found p (put_step c w) ws) ≡ 0) → (put_on c (found p (put_step c (v 0)) ws)).stage ≡ Over → EndsAfter p 1 v ws c at
+ends_last p v ws c at way e s f = record { before = before; last = last; still = still; over = f }
   where
     before : (k : ℕ) → k < 1 → IsOpen (alone p v k ws c).1.stage
     before zero l = way
@@ -66,6 +71,10 @@ ends_last p v ws c at way e f = record { before = before; last = last; over = f 
     last zero l = e
     last (suc k) l = absurd (omega arith)
 
+    still : (k : ℕ) (w : View) → suc k ≡ 1 → turn_of (put_step (alone p v k ws c).1 w) (found p (put_step (alone p v k ws c).1 w) (alone p v k ws c).0) ≡ 0
+    still zero w l = s w
+    still (suc k) w l = absurd (omega arith)
+
 -- at the tail
 module _ (p : Pool) (v : ℕ → View) (ws : List ℕ) (c : Putting) (u : ℕ) where
   abbrev next : ℕ
@@ -74,15 +83,18 @@ module _ (p : Pool) (v : ℕ → View) (ws : List ℕ) (c : Putting) (u : ℕ) w
   found_unlinked : (at : Stage) → next ≡ unlinked u → unless_left c u at next ≡ staged c at
   found_unlinked at e = ap (λ (b : Bool). cond b (staged c at) (walked c (goes_on c.walk next))) (eq-eqb next (unlinked u) e)
 
+  no_turn : next ≡ unlinked u → turn_at u next ≡ 0
+  no_turn e = ap (λ (b : Bool). cond b 0 1) (eq-eqb next (unlinked u) e)
+
 commit : (p : Pool) (v : ℕ → View) (ws : List ℕ) (c : Putting) (u : ℕ) → copy_in p ws (NextOf (buffer_at (home u))) Current ≡ unlinked u → EndsAfter p 2 v ws (staged c (AtLink u)) (AtRaise u)
 commit p v ws c u e = ends_more p 1 v ws (staged c (AtLink u)) (AtRaise u) _ (staged c (AtRaise u)) (omega arith) tt refl (found_unlinked p v ws (staged c (AtLink u)) u (AtRaise u) e)
-    (ends_last p _ _ (staged c (AtRaise u)) (AtRaise u) tt refl refl)
+    (ends_last p _ _ (staged c (AtRaise u)) (AtRaise u) tt refl (λ w. refl) refl)
 
 dead : (p : Pool) (v : ℕ → View) (ws : List ℕ) (c : Putting) (u : ℕ) → copy_in p ws (NextOf (buffer_at (home u))) Current ≡ unlinked u → EndsAfter p 1 v ws (staged c (AtDead u)) (AtDead u)
-dead p v ws c u e = ends_last p v ws (staged c (AtDead u)) (AtDead u) tt refl (ap (λ (x : Putting). x.stage) (found_unlinked p v ws (staged c (AtDead u)) u Over e))
+dead p v ws c u e = ends_last p v ws (staged c (AtDead u)) (AtDead u) tt refl (λ w. no_turn p v ws c u e) (ap (λ (x : Putting). x.stage) (found_unlinked p v ws (staged c (AtDead u)) u Over e))
 
 other : (p : Pool) (v : ℕ → View) (ws : List ℕ) (c : Putting) (u : ℕ) → copy_in p ws (NextOf (buffer_at (home u))) Current ≡ unlinked u → EndsAfter p 1 v ws (staged c (AtOther u)) (AtOther u)
-other p v ws c u e = ends_last p v ws (staged c (AtOther u)) (AtOther u) tt refl (ap (λ (x : Putting). x.stage) (found_unlinked p v ws (staged c (AtOther u)) u Over e))
+other p v ws c u e = ends_last p v ws (staged c (AtOther u)) (AtOther u) tt refl (λ w. no_turn p v ws c u e) (ap (λ (x : Putting). x.stage) (found_unlinked p v ws (staged c (AtOther u)) u Over e))
 
 -- the kind of a tail's version
 abbrev kind_at : Option Value → Kind
@@ -180,9 +192,9 @@ module _ (p : Pool) (own : ℕ) (ws ws1 : List ℕ) (k : Kept p own ws ws1) wher
     words = λ j x e. k (content_at (home u) j) (content_within p (home u) o j x r.0 h.fits e) (λ i q. d (content_home (home u) j (home own) i q)) ∙ h.words j x e;
   }
 
-body_fits : (p : Pool) (o : Option Value) → Fits p o → (0 < length (content o)) × (length (content o) ≤ 1 + p.words)
-body_fits p None f = let e = tombstone_length in (omega arith, omega arith)
-body_fits p (Some x) f = let e = value_length x in let h = f.1 in (omega arith, omega arith)
+body_some : (o : Option Value) → 0 < length (content o)
+body_some None = let e = tombstone_length in omega arith
+body_some (Some x) = let e = value_length x in omega arith
 
 not_below : (a b : ℕ) → b ≤ a → ltb a b ≡ false
 not_below a b h = grind (arith, nat_tests)
@@ -254,12 +266,11 @@ pub put_law : PutLaw
 put_law v ws c ts u o st root low l below h own apart fits =
     let p : Pool = c.walk.pool in
     let n : ℕ = 2 * length ts + 2 + tail_accesses c.job u o in
-    let b = body_fits p (commits c.job c.value) fits in
+    let b = body_some (commits c.job c.value) in
     let r = last_range p ts u l.range in
     let d = last_apart (home c.own) ts u apart in
     let more = tail_some c.job u o in
-    let size : length (body c) ≡ version_words (commits c.job c.value) = content_words (commits c.job c.value) in
-    subst (λ (i : ℕ). EndsAfter p i v ws c (last_stage c.job u o)) (let z : 2 * length (body c) + n ≡ 2 * version_words (commits c.job c.value) + 2 * length ts + 2 + tail_accesses c.job u o = omega arith in z)
+    subst (λ (i : ℕ). EndsAfter p i v ws c (last_stage c.job u o)) (let z : 2 * length (body c) + n ≡ 2 * length (body c) + 2 * length ts + 2 + tail_accesses c.job u o = omega arith in z)
     (subst (λ (s : Stage). EndsAfter p (2 * length (body c) + n) v ws (staged c s) (last_stage c.job u o)) (sym st)
-    (begins p c ws (last_stage c.job u o) own b.1 n (omega arith) b.0
+    (begins p c ws (last_stage c.job u o) own (omega arith) n (omega arith) b
     (λ y ws1 k. seeks c ws1 ts u o root low below (kept_leads p c.own ws ws1 k c.walk.slot ts u low l) (kept_version p c.own ws ws1 k u o r d h) y) v))

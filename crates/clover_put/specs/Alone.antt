@@ -1,19 +1,20 @@
 -- A put, delete or swap that runs alone: nobody else changes a word between its accesses, and none of them is refused.
 use Prim.Native.Nat.{suc}
-use Rattle.std.specs.Prelude.{◌≡◌, ◌≢◌, ℕ, ◌+◌, ◌*◌, ◌<◌, List, [], ◌∷◌, ◌++◌, length, cond, eqb, Option, Some, None}
+use Rattle.std.specs.Prelude.{◌≡◌, ◌≢◌, ℕ, ◌+◌, ◌*◌, ◌<◌, ◌≤◌, List, [], ◌∷◌, ◌++◌, length, cond, eqb, Option, Some, None}
 use Rattle.clover_words.specs.declared.pool.Pool.{Pool}
 use Rattle.clover_words.specs.Tag.{tag_number}
 use Rattle.clover_map.specs.declared.bytes.Value.{Value}
-use Rattle.clover_rule.specs.Content.{InRange, Fits}
+use Rattle.clover_rule.specs.Content.{InRange}
 use Rattle.clover_rule.specs.Lists.{Each}
 use Rattle.clover_rule.specs.Memory.{home}
+use Rattle.clover_rule.specs.Steps.{found, turn_of}
 use Rattle.clover_rule.specs.Words.{mem_of}
 use Rattle.clover_rule.specs.declared.view.View.{View}
-use Rattle.clover_walk.specs.Alone.{after_alone, LeadsOver, HasVersion, version_words}
+use Rattle.clover_walk.specs.Alone.{after_alone, LeadsOver, HasVersion}
 use Rattle.clover_walk.specs.Walking.{AtRoot, budget}
 use Rattle.clover_put.specs.declared.job.Job.{Job}
 use Rattle.clover_put.specs.declared.job.Job.TheVariants.{Put, Delete, Swap}
-use Rattle.clover_put.specs.Putting.{Putting, Stage, Storing, AtDead, AtOther, AtRaise, Over, commits, put_step, put_on}
+use Rattle.clover_put.specs.Putting.{Putting, Stage, Storing, AtDead, AtOther, AtRaise, Over, body, put_step, put_on}
 
 -- the words and the call after so many accesses made alone; v i is what the client knows at access i
 abbrev pub alone : Pool → (ℕ → View) → ℕ → List ℕ → Putting → List ℕ × Putting
@@ -40,15 +41,16 @@ tail_accesses Delete u None = 2
 tail_accesses (Swap e) u (Some x) = cond (eqb (tag_number e) u) 3 2
 tail_accesses (Swap e) u None = 2
 
--- a call that is made alone is over after exactly so many accesses, and stands there at the last one
+-- a call that is made alone is over after exactly so many accesses, and stands there at the last one, which makes no turn
 pub record EndsAfter (p : Pool) (n : ℕ) (v : ℕ → View) (ws : List ℕ) (c : Putting) (at : Stage) : Type 0 where
   pub before : (k : ℕ) → k < n → IsOpen (alone p v k ws c).1.stage
   pub last : (k : ℕ) → suc k ≡ n → (alone p v k ws c).1.stage ≡ at
+  pub still : (k : ℕ) (w : View) → suc k ≡ n → turn_of (put_step (alone p v k ws c).1 w) (found p (put_step (alone p v k ws c).1 w) (alone p v k ws c).0) ≡ 0
   pub over : (alone p v n ws c).1.stage ≡ Over
 
 -- From the root of a slot with d links before the tail a call makes a store and a flush of each content word of its own version, 2 d + 2 accesses of its walk, and those at the tail, where its turns do not reach the budget and its own tag's buffer is none of the chain's.
 abbrev pub PutLaw : Type 0
 PutLaw = (v : ℕ → View) (ws : List ℕ) (c : Putting) (ts : List ℕ) (u : ℕ) (o : Option Value) → c.stage ≡ Storing 0 → c.walk.stand ≡ AtRoot → c.walk.slot < c.walk.pool.slots
     → LeadsOver c.walk.pool ws ((mem_of c.walk.pool ws).root c.walk.slot) ts u → c.walk.turns + length ts < budget c.walk.pool → HasVersion c.walk.pool ws u o
-    → InRange c.walk.pool c.own → Each (λ (t : ℕ). home t ≢ home c.own) (ts ++ u ∷ []) → Fits c.walk.pool (commits c.job c.value)
-    → EndsAfter c.walk.pool (2 * version_words (commits c.job c.value) + 2 * length ts + 2 + tail_accesses c.job u o) v ws c (last_stage c.job u o)
+    → InRange c.walk.pool c.own → Each (λ (t : ℕ). home t ≢ home c.own) (ts ++ u ∷ []) → length (body c) ≤ c.walk.pool.words + 1
+    → EndsAfter c.walk.pool (2 * length (body c) + 2 * length ts + 2 + tail_accesses c.job u o) v ws c (last_stage c.job u o)

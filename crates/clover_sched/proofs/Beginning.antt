@@ -2,7 +2,7 @@
 use Prim.Native.Nat.{zero, suc}
 use Rattle.std.proofs.Common.{◌≡◌, ℕ, ltb, ◌+◌, ◌-◌, ◌*◌, ◌<◌, ◌≤◌, List, [], ◌∷◌, Bool, false, cond, if◌then◌else◌, refl, sym, ap, ◌∙◌, subst, arith}
 use Rattle.std.specs.Prelude.{Option, Some, None}
-use Rattle.std.proofs.Math.Nat.{mul-le-mul_left}
+use Rattle.std.proofs.Math.Nat.{min-le_left, mul-le-mul_left}
 use Rattle.std.proofs.lemmas.Bool.Decides.{nat_tests}
 use Rattle.clover_words.specs.declared.bytes.ValueBuf.{ValueBuf}
 use Rattle.clover_words.specs.declared.setup.Setup.{Setup}
@@ -41,7 +41,7 @@ use Rattle.clover_sched.specs.declared.client.Underway.TheVariants.{Nothing, Get
 use Rattle.clover_sched.specs.declared.event.Note.TheVariants.{Quiet, Missing, Refused}
 use Rattle.clover_sched.specs.declared.event.CallRefusal.TheVariants.{TooLong}
 use Rattle.clover_sched.specs.Beginning.{IsBegun, begun_put, no_value}
-use Rattle.clover_sched.specs.Client.{Stands, Begins, UnderMatches, IsUnder, spent_by, stock_at}
+use Rattle.clover_sched.specs.Client.{Stands, Starts, Begins, IsTask, size_of, UnderMatches, IsUnder, spent_by, stock_at}
 use Rattle.clover_sched.specs.Folds.{Doing}
 use Rattle.clover_sched.specs.Run.{Opening, begin_note, room}
 
@@ -57,7 +57,7 @@ pub get_begun : (s : Setup) (slot c n : ℕ) (call : Call) (key : List ℕ) (w :
 get_begun s slot c n call key w g into e ew eg = subst (λ (y : Call). IsBegun s slot c n y (Get g into y)) (sym e) (into, λ j. Get ((eg ∙ ap (λ (z : Walking). getting z Seeking) ew) j) into (GetOf key))
 
 -- the stock begins with the tag that is dealt for the next put
-stock_first : (s : Setup) (c n : ℕ) → HasDealt s c n → (rest : List ℕ) × (stock_at s c n ≡ tag_at s.pool (dealt_number s c n) ∷ rest)
+pub stock_first : (s : Setup) (c n : ℕ) → HasDealt s c n → (rest : List ℕ) × (stock_at s c n ≡ tag_at s.pool (dealt_number s c n) ∷ rest)
 stock_first s c n h =
     let l = h.number in let z : n * 1 ≤ n * s.clients = mul-le-mul_left n s.some_client in
     go (buffers_total s.pool - n) (omega arith)
@@ -89,13 +89,14 @@ module _ (o : Opening) (p : Plain) (i slot : ℕ) (x : ClientState) (idle : x.un
         (tt, refl, put_holds walk v j (tag_at o.setup.pool (dealt_number o.setup (suc i) x.taken)) value held refl tt (first.0, st.stock ∙ first.1), e ∙ ap (λ (k : List ℕ). call_of j k value) (sym key_is))
 
   module _ (u : Underway) (call : Call) (written : ℕ) (is : IsUnder o.setup.pool v u) (new : (d : Doing) → UnderMatches u v (record { task = Some (ClientTask call written); decided = None; since = []; refusing = d.refusing }))
-      (more : spent_by u x.taken ≤ x.taken + takes call) (fits : written ≤ room o.setup) where
+      (more : spent_by u x.taken ≤ x.taken + takes call) (fits : written ≤ room o.setup) (first : Starts o (suc i) x.taken call u) where
     going : Begins o p i x (record { under = u; refusing = x.refusing; taken = x.taken; number = x.number }) (ClientTask call written) Quiet
     going = record {
       stands = record { setup = st.setup; opened = st.opened; entered = st.entered; seat = st.seat; seats = st.seats; pool = st.pool; role = st.role; names = st.names; stock = st.stock; number = st.number; under = is };
       says = λ d none. says d none;
       matches = λ d m. record { refusing = m.refusing; under = new d };
       spent = subst (λ (z : Underway). spent_by u x.taken ≤ spent_by z x.taken + takes call) (sym idle) more;
+      starts = λ q. first;
     }
       where
         there : ltb o.setup.clients (suc i) ≡ false
@@ -107,32 +108,37 @@ module _ (o : Opening) (p : Plain) (i slot : ℕ) (x : ClientState) (idle : x.un
         says : (d : Doing) → d.task ≡ None → Quiet ≡ begin_note o.setup d (suc i) (ClientTask call written)
         says d none = sym (ap (λ (t : Option Task). begin_note o.setup (record d { task = t }) (suc i) (ClientTask call written)) none ∙ ap (λ (b : Bool). if b then Missing (suc i) else (if ltb (room o.setup) written then Refused (suc i) (TooLong written (room o.setup)) else Quiet)) there ∙ ap (λ (b : Bool). if b then Refused (suc i) (TooLong written (room o.setup)) else Quiet) short)
 
-  begins_write : (slot1 : ℕ) (j : Job) (value : Value) (call : Call) (written : ℕ) → IsUnder o.setup.pool v (begun_put o.setup slot1 (suc i) x.taken j value call) → takes call ≡ 1 → written ≤ room o.setup
+  begins_write : (slot1 : ℕ) (j : Job) (value : Value) (call : Call) (written : ℕ) → IsUnder o.setup.pool v (begun_put o.setup slot1 (suc i) x.taken j value call) → takes call ≡ 1 → written ≤ room o.setup → Starts o (suc i) x.taken call (begun_put o.setup slot1 (suc i) x.taken j value call)
       → Begins o p i x (record { under = begun_put o.setup slot1 (suc i) x.taken j value call; refusing = x.refusing; taken = x.taken; number = x.number }) (ClientTask call written) Quiet
-  begins_write slot1 j value call written h one fits = going (begun_put o.setup slot1 (suc i) x.taken j value call) call written h (λ d. ((written, refl), refl, refl)) (omega arith) fits
+  begins_write slot1 j value call written h one fits first = going (begun_put o.setup slot1 (suc i) x.taken j value call) call written h (λ d. ((written, refl), refl, refl)) (omega arith) fits first
 
-  begins : (call : Call) (written : ℕ) (u : Underway) → Within (slot, key_of call) o.names → key_at o.names slot ≡ key_of call → IsBegun o.setup slot (suc i) x.taken call u → (takes call ≡ 1 → HasDealt o.setup (suc i) x.taken) → written ≤ room o.setup
+  begins : (call : Call) (written : ℕ) (u : Underway) → Within (slot, key_of call) o.names → key_at o.names slot ≡ key_of call → IsBegun o.setup slot (suc i) x.taken call u → (takes call ≡ 1 → HasDealt o.setup (suc i) x.taken) → written ≤ room o.setup → size_of call ≤ room o.setup
       → Begins o p i x (record { under = u; refusing = x.refusing; taken = x.taken; number = x.number }) (ClientTask call written) Quiet
-  begins (GetOf k) written u named key b stock fits =
+  begins (GetOf k) written u named key b stock fits size =
       subst (λ (z : Underway). Begins o p i x (record { under = z; refusing = x.refusing; taken = x.taken; number = x.number }) (ClientTask (GetOf k) written) Quiet) (sym b.1)
-      (going (Get (getting walk Seeking) b.0 (GetOf k)) (GetOf k) written (get_under (GetOf k) named key b.0 refl) (λ d. ((written, refl), refl, refl)) (omega arith) fits)
-  begins (PutOf k value) written u named key b stock fits =
+      (going (Get (getting walk Seeking) b.0 (GetOf k)) (GetOf k) written (get_under (GetOf k) named key b.0 refl) (λ d. ((written, refl), refl, refl)) (omega arith) fits (record { slot = slot; named = named; begun = (b.0, refl); fits = size; dealt = stock }))
+  begins (PutOf k value) written u named key b stock fits size =
       subst (λ (z : Underway). Begins o p i x (record { under = z; refusing = x.refusing; taken = x.taken; number = x.number }) (ClientTask (PutOf k value) written) Quiet) (sym b)
-      (begins_write slot Put value (PutOf k value) written (put_under (PutOf k value) named key Put value (stock refl) refl) refl fits)
-  begins (DeleteOf k) written u named key b stock fits =
+      (begins_write slot Put value (PutOf k value) written (put_under (PutOf k value) named key Put value (stock refl) refl) refl fits (record { slot = slot; named = named; begun = refl; fits = size; dealt = stock }))
+  begins (DeleteOf k) written u named key b stock fits size =
       subst (λ (z : Underway). Begins o p i x (record { under = z; refusing = x.refusing; taken = x.taken; number = x.number }) (ClientTask (DeleteOf k) written) Quiet) (sym b)
-      (begins_write slot Delete no_value (DeleteOf k) written (put_under (DeleteOf k) named key Delete no_value (stock refl) refl) refl fits)
-  begins (SwapOf k expected value) written u named key b stock fits =
+      (begins_write slot Delete no_value (DeleteOf k) written (put_under (DeleteOf k) named key Delete no_value (stock refl) refl) refl fits (record { slot = slot; named = named; begun = refl; fits = size; dealt = stock }))
+  begins (SwapOf k expected value) written u named key b stock fits size =
       subst (λ (z : Underway). Begins o p i x (record { under = z; refusing = x.refusing; taken = x.taken; number = x.number }) (ClientTask (SwapOf k expected value) written) Quiet) (sym b.2)
-      (begins_write slot (Swap b.0) value (SwapOf k expected value) written (put_under (SwapOf k expected value) named key (Swap b.0) value (stock refl) (ap (λ (t : ℕ). SwapOf k t value) (sym b.1))) refl fits)
+      (begins_write slot (Swap b.0) value (SwapOf k expected value) written (put_under (SwapOf k expected value) named key (Swap b.0) value (stock refl) (ap (λ (t : ℕ). SwapOf k t value) (sym b.1))) refl fits (record { slot = slot; named = named; begun = (b.0, b.1, refl); fits = size; dealt = stock }))
+
+-- what is kept of a value is no longer than what was written of it
+task_size : (s : Setup) (call : Call) (written : ℕ) → IsTask (ClientTask call written) → written ≤ room s → size_of call ≤ room s
+task_size s call written t h = let e = t.0 in let l = min-le_left written 1024 in omega arith
 
 -- the client begins the call of its task
-pub begins_task : (o : Opening) (p : Plain) (i slot client : ℕ) (x : ClientState) (s : Setup) (task : Task) (call : Call) (written : ℕ) (u : Underway) → x.under ≡ Nothing → task ≡ ClientTask call written → IsBegun s slot client x.taken call u → (takes (call_in task) ≡ 1 → HasDealt s client x.taken) → written ≤ 8 * s.pool.words
+pub begins_task : (o : Opening) (p : Plain) (i slot client : ℕ) (x : ClientState) (s : Setup) (task : Task) (call : Call) (written : ℕ) (u : Underway) → IsTask task → x.under ≡ Nothing → task ≡ ClientTask call written → IsBegun s slot client x.taken call u → (takes (call_in task) ≡ 1 → HasDealt s client x.taken) → written ≤ 8 * s.pool.words
     → suc i ≡ client → o.setup ≡ s → Within (slot, key_of (call_in task)) o.names → key_at o.names slot ≡ key_of (call_in task) → Stands o p i x
     → Begins o p i x (record { under = u; refusing = x.refusing; taken = x.taken; number = x.number }) task Quiet
-begins_task o p i slot client x s task call written u idle is begun stock fits seat setup named key st =
+begins_task o p i slot client x s task call written u kept idle is begun stock fits seat setup named key st =
     subst (λ (t : Task). Begins o p i x (record { under = u; refusing = x.refusing; taken = x.taken; number = x.number }) t Quiet) (sym is)
     (begins o p i slot x idle st call written u (subst (λ (t : Task). Within (slot, key_of (call_in t)) o.names) is named) (subst (λ (t : Task). key_at o.names slot ≡ key_of (call_in t)) is key)
     (subst (λ (c : ℕ). IsBegun o.setup slot c x.taken call u) (sym seat) (subst (λ (z : Setup). IsBegun z slot client x.taken call u) (sym setup) begun))
     (λ one. subst (λ (c : ℕ). HasDealt o.setup c x.taken) (sym seat) (subst (λ (z : Setup). HasDealt z client x.taken) (sym setup) (stock (subst (λ (t : Task). takes (call_in t) ≡ 1) (sym is) one))))
-    (subst (λ (z : Setup). written ≤ 8 * z.pool.words) (sym setup) fits))
+    (subst (λ (z : Setup). written ≤ 8 * z.pool.words) (sym setup) fits)
+    (task_size o.setup call written (subst IsTask is kept) (subst (λ (z : Setup). written ≤ 8 * z.pool.words) (sym setup) fits)))

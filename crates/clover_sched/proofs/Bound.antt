@@ -1,14 +1,28 @@
 -- A slot of a key among the bindings.
-use Rattle.std.proofs.Common.{◌≡◌, ℕ, zero, suc, ◌+◌, List, [], ◌∷◌, Bool, cond, inl, inr, ap, ◌∙◌, arith, eq-eqb, ne_eqb}
+use Rattle.std.proofs.Common.{◌≡◌, ℕ, zero, suc, ◌+◌, ◌<◌, List, [], ◌∷◌, length, Bool, cond, inl, inr, ap, ◌∙◌, arith, eq-eqb, ne_eqb}
 use Rattle.std.specs.Prelude.{Some}
 use Rattle.clover_rule.specs.Lists.{nth, Within}
 use Rattle.clover_rule.specs.Preset.{bindings_from}
+use Rattle.clover_plain.specs.Preset.{AreDistinct}
 use Rattle.clover_walk.specs.Walking.{key_at}
+use Rattle.clover_sched.proofs.Places.{nth_within}
 
 pub bound_within : (n : ℕ) (keys : List (List ℕ)) (i s : ℕ) (k : List ℕ) → s ≡ n + i → nth keys i ≡ Some k → Within (s, k) (bindings_from n keys)
 bound_within n [] i s k at e = absurd cc
 bound_within n (x ∷ xs) zero s k at e = let key : x ≡ k = cc in let slot : n ≡ s = omega arith in inl (ap (λ (z : List ℕ). (n, z)) key ∙ ap (λ (z : ℕ). (z, k)) slot)
 bound_within n (x ∷ xs) (suc i) s k at e = inr (bound_within (suc n) xs i s k (omega arith) e)
+
+bound_at : (n : ℕ) (keys : List (List ℕ)) (s : ℕ) (k : List ℕ) → Within (s, k) (bindings_from n keys) → (i : ℕ) × (s ≡ n + i) × (nth keys i ≡ Some k)
+bound_at n [] s k w = absurd w
+bound_at n (x ∷ xs) s k (inl e) = (0, (let q : n ≡ s = ap (λ (z : ℕ × List ℕ). z.0) e in omega arith), ap (λ (z : ℕ × List ℕ). Some z.1) e)
+bound_at n (x ∷ xs) s k (inr w) = let r = bound_at (suc n) xs s k w in (suc r.0, (let q = r.1 in omega arith), r.2)
+
+-- a key has one slot, and it is one of as many as there are keys
+pub one_slot : (keys : List (List ℕ)) (s r : ℕ) (k : List ℕ) → AreDistinct keys → Within (s, k) (bindings_from 0 keys) → Within (r, k) (bindings_from 0 keys) → s ≡ r
+one_slot keys s r k apart a b = let x = bound_at 0 keys s k a in let y = bound_at 0 keys r k b in let e = apart x.0 y.0 k x.2 y.2 in let f = x.1 in let g = y.1 in omega arith
+
+pub slot_low : (keys : List (List ℕ)) (s : ℕ) (k : List ℕ) → Within (s, k) (bindings_from 0 keys) → s < length keys
+slot_low keys s k a = let x = bound_at 0 keys s k a in let l = nth_within keys x.0 k x.2 in let f = x.1 in omega arith
 
 pub bound_key : (n : ℕ) (keys : List (List ℕ)) (i s : ℕ) (k : List ℕ) → s ≡ n + i → nth keys i ≡ Some k → key_at (bindings_from n keys) s ≡ k
 bound_key n [] i s k at e = absurd cc

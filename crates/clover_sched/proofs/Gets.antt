@@ -13,7 +13,7 @@ use Rattle.clover_script.specs.declared.line.Task.TheVariants.{Client as ClientT
 use Rattle.clover_rule.specs.Accesses.{CameBack, Decides}
 use Rattle.clover_rule.specs.Knowing.{link_entry}
 use Rattle.clover_rule.specs.Memory.{Next, word, age}
-use Rattle.clover_rule.specs.Steps.{Step, DecideNext, act_of, turn_of, next_history, unlinked, client, number_of}
+use Rattle.clover_rule.specs.Steps.{Step, DecideNext, act_of, found, turn_of, words_after_step, next_history, unlinked, client, number_of}
 use Rattle.clover_rule.specs.Words.{next_of, root_of}
 use Rattle.clover_rule.specs.declared.access.Act.{Act}
 use Rattle.clover_rule.specs.declared.view.View.{View}
@@ -22,7 +22,8 @@ use Rattle.clover_plain.specs.Plain.{Plain, Accessed, KeptButEntries, view_at, h
 use Rattle.clover_walk.specs.Ending.{Ended}
 use Rattle.clover_walk.specs.Walking.{Walking, Stand, AtRoot, AtTag, AtLink, OnTail, Ended as StandEnded, IsOnWay, hops, followed, rooted, goes_from, goes_on, key_at, budget, step_at}
 use Rattle.clover_walk.proofs.Endings.{stepped as stepped_so}
-use Rattle.clover_get.specs.Getting.{Getting, Stage, Seeking, AtMeta, AtValue, AtFound, AtDead, AtBad, Over, IsOpen, getting, sought, step_from, get_step, GoesFrom, GoesOn, value_in}
+use Rattle.clover_get.specs.Alone.{Moment, GoesAlone}
+use Rattle.clover_get.specs.Getting.{Getting, Stage, Seeking, AtMeta, AtValue, AtFound, AtDead, AtBad, Over, IsOpen, getting, sought, step_from, get_step, GoesFrom, GoesOn, FillsFrom, value_in}
 use Rattle.clover_get.specs.Going.{key_of}
 use Rattle.clover_get.specs.Holding.{GetHolds, StandsOn}
 use Rattle.clover_sched.specs.declared.client.ClientState.{ClientState}
@@ -30,9 +31,11 @@ use Rattle.clover_sched.specs.declared.client.Underway.{Underway}
 use Rattle.clover_sched.specs.declared.client.Underway.TheVariants.{Nothing, Get}
 use Rattle.clover_sched.specs.declared.event.CallRefusal.TheVariants.{Unreached, Behind}
 use Rattle.clover_sched.specs.declared.event.Note.TheVariants.{Quiet, Answered, Refused}
+use Rattle.clover_sched.specs.Alone.{GetEnds, EndsIn, Advances}
 use Rattle.clover_sched.specs.Client.{Stands, Moved, Went, Matches, UnderMatches, IsUnder, since_of, spent, spent_by}
 use Rattle.clover_sched.specs.Folds.{Doing}
 use Rattle.clover_sched.specs.Run.{Opening, IsCommit, Wrote}
+use Rattle.clover_sched.proofs.Advancing.{get_goes_on, get_answers, get_stays_ahead}
 use Rattle.clover_sched.proofs.Moving.{MadeSo, IsNoLink, made_so, refused_so, names_kept, moved_quiet, moved_entered, moved_refused}
 use Rattle.clover_sched.proofs.Stepping.{made_step, refused_step, stands_made, stands_entered, stands_refused}
 
@@ -200,6 +203,9 @@ at_rest x = record { under = Nothing; refusing = false; taken = x.taken; number 
 abbrev pub answered : ClientState → ClientState
 answered x = record { under = Nothing; refusing = false; taken = x.taken; number = x.number + 1 }
 
+abbrev moment : List ℕ → Getting → ValueBuf → Moment
+moment ws g room = record { words = ws; call = g; room = room }
+
 module _ (o : Opening) (i : ℕ) (p : Plain) (x : ClientState) (g : Getting) (into : ValueBuf) (asked : Call) (s : Stands o p i x) (is : x.under ≡ Get g into asked) where
   under : IsUnder o.setup.pool (view_at p i) (Get g into asked)
   under = subst (λ (u : Underway). IsUnder o.setup.pool (view_at p i) u) is s.under
@@ -224,9 +230,23 @@ module _ (o : Opening) (i : ℕ) (p : Plain) (x : ClientState) (g : Getting) (in
     so : MadeSo i p q (get_step g (key_of g (view_at p i)) into) g.walk.first n
     so = made_so i p q (get_step g (key_of g (view_at p i)) into) g.walk.first n few below s.role s.entered made accessed
 
+    -- the access is one of a get that is made alone
+    alone : (g1 : Getting) (into1 : ValueBuf) → GoesOn g into1.length n g1 → FillsFrom g.stage n into into1 → GoesAlone o.setup.pool (view_at p i) (moment p.words g into) (moment q.words g1 into1)
+    alone g1 into1 go fills =
+        let a : Step = get_step g (key_of g (view_at p i)) into in
+        let here : n ≡ found o.setup.pool a p.words = so.here ∙ ap (λ (z : Setup). found z.pool a p.words) s.setup in
+        record {
+          words = so.after ∙ ap (λ (z : Setup). words_after_step z.pool a p.words) s.setup;
+          call = subst (λ (y : ℕ). GoesOn g into1.length y g1) here go;
+          room = subst (λ (y : ℕ). FillsFrom g.stage y into into1) here fills;
+        }
+
+    ends : (k : ℕ) → EndsIn o.setup.pool p.words k x.under → GetEnds o.setup.pool k (moment p.words g into)
+    ends k h = subst (λ (u : Underway). EndsIn o.setup.pool p.words k u) is h
+
     -- the access decides nothing, and the get goes on
-    pub went_on : (g1 : Getting) (into1 : ValueBuf) → x.refusing ≡ false → GoesOn g into1.length n g1 → GetHolds g1 (view_at q i) into1 → Went o i x (with_get x g1 into1 asked) p q Quiet
-    went_on g1 into1 free go h =
+    pub went_on : (g1 : Getting) (into1 : ValueBuf) → x.refusing ≡ false → GoesOn g into1.length n g1 → FillsFrom g.stage n into into1 → GetHolds g1 (view_at q i) into1 → Went o i x (with_get x g1 into1 asked) p q Quiet
+    went_on g1 into1 free go fills h =
         let k = key_of g (view_at p i) in
         let a : Step = get_step g k into in
         let act : Act = act_of a n in
@@ -247,11 +267,12 @@ module _ (o : Opening) (i : ℕ) (p : Plain) (x : ClientState) (g : Getting) (in
               );
           longer = λ ne. ap (λ (b : Bool). length (cond b [] (view_at q i).pass.since)) gs.first ∙ ap length so.since ∙ length_more _ act ∙ ap (λ (l : List Act). suc (length l)) (sym since);
           spent = spends;
+          alone = λ m free e. get_goes_on (suc i) o.setup.pool m (view_at p i) (moment p.words g into) (moment q.words g1 into1) (ends m e) under.0 (alone g1 into1 go fills) asked opens;
         }
 
     -- the turns of the call have reached the budget
-    pub went_behind : (turns : ℕ) → x.refusing ≡ false → turns ≡ budget p.setup.pool → (view_at q i).pass.turns ≡ budget p.setup.pool → Went o i x (at_rest x) p q (Refused (suc i) (Behind turns))
-    went_behind turns free much all =
+    pub went_behind : (turns : ℕ) (g1 : Getting) (into1 : ValueBuf) → GoesOn g into1.length n g1 → FillsFrom g.stage n into into1 → g1.stage ≡ Over → x.refusing ≡ false → turns ≡ budget p.setup.pool → (view_at q i).pass.turns ≡ budget p.setup.pool → Went o i x (at_rest x) p q (Refused (suc i) (Behind turns))
+    went_behind turns g1 into1 go fills over free much all =
         let k = key_of g (view_at p i) in
         let a : Step = get_step g k into in
         let act : Act = act_of a n in
@@ -274,6 +295,8 @@ module _ (o : Opening) (i : ℕ) (p : Plain) (x : ClientState) (g : Getting) (in
               );
           longer = λ ne. absurd (ne refl);
           spent = spends;
+          alone = λ m free e. absurd (get_stays_ahead (suc i) o.setup.pool m (view_at p i) (moment p.words g into) (moment q.words g1 into1) (ends m e) under.0 (alone g1 into1 go fills) over
+              (subst (λ (y : ℕ). turn_of a y ≢ 0) (so.here ∙ ap (λ (z : Setup). found z.pool a p.words) s.setup) turned));
         }
 
     module _ (c : ℕ) (reply : Reply) (mine : suc i ≡ c) (ended : Ended p.setup.pool (GetOf (key_of g (view_at p i))) reply (view_at p i) (Some (open_of p)) (view_at q i) (Some (open_of q))) where
@@ -294,9 +317,9 @@ module _ (o : Opening) (i : ℕ) (p : Plain) (x : ClientState) (g : Getting) (in
       enters = grows ∙ ap (λ (h : List Entry). h ++ record { client = c; number = x.number + 1; call = asked; reply = reply } ∷ []) (sym s.entered ∙ sym so.entries)
 
       -- the access decides the call, and its entry was entered
-      pub went_answered : (r : Plain) → x.refusing ≡ false → IsCommit reply ≡ false → r.entries ≡ q.entries ++ record { client = c; number = x.number + 1; call = asked; reply = reply } ∷ [] → KeptButEntries q r
+      pub went_answered : (r : Plain) (g1 : Getting) (into1 : ValueBuf) → GoesOn g into1.length n g1 → FillsFrom g.stage n into into1 → g1.stage ≡ Over → x.refusing ≡ false → IsCommit reply ≡ false → r.entries ≡ q.entries ++ record { client = c; number = x.number + 1; call = asked; reply = reply } ∷ [] → KeptButEntries q r
           → Went o i x (answered x) p r (Answered c reply)
-      went_answered r free commit entries kept =
+      went_answered r g1 into1 go fills over free commit entries kept =
           let v = view_at p i in
           let k = key_of g v in
           let a : Step = get_step g k into in
@@ -324,6 +347,8 @@ module _ (o : Opening) (i : ℕ) (p : Plain) (x : ClientState) (g : Getting) (in
                 );
             longer = λ ne. absurd (ne refl);
             spent = spends;
+            alone = λ m free e. subst (λ (y : ℕ). Advances (suc i) o.setup.pool m r.words Nothing (Answered y reply)) mine
+                (get_answers (suc i) o.setup.pool m (view_at p i) (moment p.words g into) (moment q.words g1 into1) (ends m e) under.0 (alone g1 into1 go fills) r.words reply over);
           }
 
   -- the access was refused
@@ -340,4 +365,5 @@ module _ (o : Opening) (i : ℕ) (p : Plain) (x : ClientState) (g : Getting) (in
             (refused_step o i d p.words (length (own p.entries (suc i))) (ClientTask asked u.0.0) u.0.1 r.act (sym m.refusing ∙ refused) r.blank u.1, record { refusing = refl; under = refl });
         longer = λ ne. absurd (ne refl);
         spent = spends;
+        alone = λ m free e. absurd (let z : true ≡ false = free in cc);
       }

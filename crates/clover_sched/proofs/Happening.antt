@@ -18,6 +18,8 @@ use Rattle.clover_script.specs.Form.{call_in}
 use Rattle.clover_script.specs.Lines.{takes}
 use Rattle.clover_script.specs.declared.line.Task.{Task}
 use Rattle.clover_script.specs.declared.line.Task.TheVariants.{Client as ClientTask}
+use Rattle.clover_plain.specs.Preset.{AreDistinct}
+use Rattle.clover_sched.specs.Alone.{AllUnderway}
 use Rattle.clover_sched.specs.Client.{Stands, Matches, Went, Begins, IsUnder, spent, spent_by, since_of, most_made}
 use Rattle.clover_sched.specs.Folds.{accesses_in, doing}
 use Rattle.clover_sched.specs.Machine.{Parts, IsAt, IsBehind, IsSame, IsBusy, IsFitting, HasCall, MayCome, left, left_of, left_by}
@@ -81,8 +83,8 @@ module _ (m : Parts) (a : ℕ) (one : 1 ≤ a) where
 
   -- a client without a call begins
   pub begin_happens : (t : Task) (x y : ClientState) (note : Note) → nth m.clients (a - 1) ≡ Some x → x.under ≡ Nothing
-      → ((o : Opening) (rs : List Record) → IsAt o m rs → Stands o m.pool (a - 1) x → Begins o m.pool (a - 1) x y t note) → Happens m (with_client m (a - 1) y) (Begin a t) note
-  begin_happens t x y note here idle begins o rs at = (_, ap (λ (b : ℕ). Begin b t) same_actor, refl, begun_client o m rs at (a - 1) x y t note here idle (begins o rs at (at.each (a - 1) x here).stands))
+      → ((o : Opening) (rs : List Record) → IsAt o m rs → Stands o m.pool (a - 1) x → Begins o m.pool (a - 1) x y t note) → (m.pool.opened ≡ true → Running m.pool) → Happens m (with_client m (a - 1) y) (Begin a t) note
+  begin_happens t x y note here idle begins running o rs at = (_, ap (λ (b : ℕ). Begin b t) same_actor, refl, begun_client o m rs at (a - 1) x y t note here idle (begins o rs at (at.each (a - 1) x here).stands) (running at.pool.opened))
 
   -- a client with a call makes an access
   pub step_happens : (x y : ClientState) (q : Plain) (note : Note) → nth m.clients (a - 1) ≡ Some x → ((o : Opening) (i : ℕ) → suc i ≡ a → Stands o m.pool i x → Went o i x y m.pool q note) → (q.opened ≡ true → Running q)
@@ -100,6 +102,7 @@ kept_at o m n rs same at =
       setup = same.setup ∙ at.setup;
       names = at.names ∙ ap (bindings_from 0) (sym same.names);
       slots = subst (λ (s : Setup). length n.names ≤ s.pool.slots) (sym same.setup) (subst (λ (l : List (List ℕ)). length l ≤ m.setup.pool.slots) (sym same.names) at.slots);
+      apart = subst AreDistinct (sym same.names) at.apart;
       pool = record {
         setup = k.setup ∙ at.pool.setup;
         start = k.start ∙ at.pool.start;
@@ -120,6 +123,8 @@ kept_at o m n rs same at =
       };
       far = at.far;
       legal = at.legal;
+      alone = at.alone;
+      underway = subst (λ (ws : List ℕ). AllUnderway o ws n.clients rs) (sym k.words) (subst (λ (cs : List ClientState). AllUnderway o m.pool.words cs rs) (sym same.clients) at.underway);
     }
   where
     view : (i : ℕ) → view_at n.pool i ≡ view_at m.pool i
@@ -169,11 +174,11 @@ may_stock m a (ClientTask call written) x may here idle takes =
 abbrev pub BeginsOn : Parts → ℕ → ℕ → ClientState → ClientState → Task → Note → Type 0
 BeginsOn m a slot x y t note = (o : Opening) (p : Plain) (i : ℕ) → suc i ≡ a → o.setup ≡ m.setup → Within (slot, key_of (call_in t)) o.names → key_at o.names slot ≡ key_of (call_in t) → Stands o p i x → Begins o p i x y t note
 
-pub begin_on : (m : Parts) (a slot : ℕ) (x y : ClientState) (t : Task) (note : Note) → 1 ≤ a → nth m.clients (a - 1) ≡ Some x → x.under ≡ Nothing → slice_get m.names slot ≡ Some (key_of (call_in t)) → BeginsOn m a slot x y t note
+pub begin_on : (m : Parts) (a slot : ℕ) (x y : ClientState) (t : Task) (note : Note) → 1 ≤ a → nth m.clients (a - 1) ≡ Some x → x.under ≡ Nothing → slice_get m.names slot ≡ Some (key_of (call_in t)) → BeginsOn m a slot x y t note → (m.pool.opened ≡ true → Running m.pool)
     → Happens m (with_client m (a - 1) y) (Begin a t) note
-begin_on m a slot x y t note one here idle named begins = begin_happens m a one t x y note here idle (λ o rs at s. begins o m.pool (a - 1) (omega arith) (sym at.setup)
+begin_on m a slot x y t note one here idle named begins running = begin_happens m a one t x y note here idle (λ o rs at s. begins o m.pool (a - 1) (omega arith) (sym at.setup)
     (subst (λ (l : List (ℕ × List ℕ)). Within (slot, key_of (call_in t)) l) (sym at.names) (bound_within 0 m.names slot slot (key_of (call_in t)) (omega arith) (sym (nth_get m.names slot) ∙ named)))
-    (ap (λ (l : List (ℕ × List ℕ)). key_at l slot) at.names ∙ bound_key 0 m.names slot slot (key_of (call_in t)) (omega arith) (sym (nth_get m.names slot) ∙ named)) s)
+    (ap (λ (l : List (ℕ × List ℕ)). key_at l slot) at.names ∙ bound_key 0 m.names slot slot (key_of (call_in t)) (omega arith) (sym (nth_get m.names slot) ∙ named)) s) running
 
 pub step_less : (m p : Parts) (a : ℕ) (x y : ClientState) (q : Plain) (r : Result Note OutOfMemory) → m ≡ p → 1 ≤ a → nth m.clients (a - 1) ≡ Some x → IfOk r (GoesOn m a x y q) → IsBehind m → x.under ≢ Nothing → IsFitting x.under
     → IfOk r (λ note. IsBusy p a → left (with_pool m (a - 1) y q) a < left p a)

@@ -17,6 +17,7 @@ use Rattle.clover_sched.specs.Machine.{Parts, IsAt, IsClientAt, IsOpening}
 use Rattle.clover_sched.specs.Run.{Opening}
 use Rattle.clover_sched.specs.declared.client.ClientState.{ClientState}
 use Rattle.clover_sched.specs.declared.client.Underway.TheVariants.{Nothing}
+use Rattle.clover_sched.proofs.Alone.{alone_first, underway_first}
 use Rattle.clover_sched.proofs.Places.{nth_within, nth_get, nth_replicate}
 
 -- the keys of the slots each stand once
@@ -51,13 +52,14 @@ pub is_opening : (s : Setup) (keys : List (List ℕ)) (p : Plain) → IsFresh s 
 unfolding opening
 is_opening s keys p fresh = record { setup = refl; names = refl; words = fresh.preset }
 
-pub made_at : (m : Parts) (s : Setup) (keys : List (List ℕ)) → m.setup ≡ s → m.names ≡ keys → length keys ≤ s.pool.slots → IsFresh s keys m.pool → m.clients ≡ replicate s.clients (record { under = Nothing; refusing = false; taken = 0; number = 0 }) → IsAt (opening s keys m.pool) m []
+pub made_at : (m : Parts) (s : Setup) (keys : List (List ℕ)) → m.setup ≡ s → m.names ≡ keys → length keys ≤ s.pool.slots → AreDistinct keys → IsFresh s keys m.pool → m.clients ≡ replicate s.clients (record { under = Nothing; refusing = false; taken = 0; number = 0 }) → IsAt (opening s keys m.pool) m []
 unfolding opening idle
-made_at m s keys setup names slots fresh clients = record {
+made_at m s keys setup names slots apart fresh clients = record {
   run = tt;
   setup = setup;
   names = ap (bindings_from 0) (sym names);
   slots = subst (λ (z : Setup). length m.names ≤ z.pool.slots) (sym setup) (subst (λ (l : List (List ℕ)). length l ≤ s.pool.slots) (sym names) slots);
+  apart = subst AreDistinct (sym names) apart;
   pool = record {
     setup = fresh.setup;
     start = fresh.start;
@@ -74,6 +76,8 @@ made_at m s keys setup names slots fresh clients = record {
   each = λ i x here. each i x (subst (λ (l : List ClientState). nth l i ≡ Some x) clients here);
   far = λ a above. refl;
   legal = tt;
+  alone = alone_first (record { setup = s; words = m.pool.words; names = bindings_from 0 keys });
+  underway = underway_first (record { setup = s; words = m.pool.words; names = bindings_from 0 keys }) m.pool.words m.clients;
 }
   where
     none : (b : Bool) → ◌≡◌ {A = List Access} [] (if b then [] else [])

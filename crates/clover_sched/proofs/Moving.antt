@@ -7,7 +7,7 @@ use Rattle.clover_map.specs.declared.call.Entry.{Entry}
 use Rattle.clover_map.specs.declared.call.Call.{Call}
 use Rattle.clover_rule.specs.Accesses.{CameBack, words_after_act}
 use Rattle.clover_rule.specs.History.{own as own_of}
-use Rattle.clover_rule.specs.Steps.{Step, LoadNext, DecideNext, RaiseNext, LinkNext, StoreContent, FlushContent, LoadContent, ReadRoot, ReadShort, StoreShort, ReadCount, AbsentCount, act_of, next_view, next_history, words_after_step, learned, seen, started, decided, missed, counts, unlinked, client, reply_of, rest_of}
+use Rattle.clover_rule.specs.Steps.{Step, LoadNext, DecideNext, RaiseNext, LinkNext, StoreContent, FlushContent, LoadContent, ReadRoot, ReadShort, StoreShort, ReadCount, AbsentCount, act_of, next_view, next_history, found, words_after_step, learned, seen, started, decided, missed, counts, unlinked, client, reply_of, rest_of}
 use Rattle.clover_rule.specs.Knowing.{link_view}
 use Rattle.clover_rule.specs.Views.{OwnCalls}
 use Rattle.clover_rule.specs.Words.{next_of, root_of}
@@ -128,6 +128,8 @@ stock_missed s u t c b h v x e = ap (λ (k : Bool). (cond k (link_view v h (clie
 pub record MadeSo (i : ℕ) (p q : Plain) (a : Step) (b : Bool) (x : ℕ) : Type 0 where
   pub came : CameBack p.setup.pool p.words (act_of a x)
   pub words : q.words ≡ words_after_act p.setup.pool p.words (act_of a x)
+  pub here : x ≡ found p.setup.pool a p.words
+  pub after : q.words ≡ words_after_step p.setup.pool a p.words
   pub others : (j : ℕ) → j ≢ i → view_at q j ≡ view_at p j
   pub seats : length q.views ≡ length p.views
   pub view : view_at q i ≡ next_view b a (history p) (view_at p i) x
@@ -215,6 +217,8 @@ module _ (i : ℕ) (p q : Plain) (a : Step) (b : Bool) (x : ℕ) (few : p.made <
       record {
         came = came;
         words = words;
+        here = m.told.here ∙ ap (found p.setup.pool a) words_now;
+        after = ap (λ (o : Open). o.words) open_now ∙ ap (words_after_step p.setup.pool a) words_now;
         others = λ j ne. ap (λ (l : List View). get_or l j (outset q.setup)) s.views ∙ get_or-set_other p.views i j _ _ ne ∙ ap (λ z. get_or p.views j (outset z)) s.same.setup;
         seats = ap length s.views ∙ length-set p.views i _;
         view = view;

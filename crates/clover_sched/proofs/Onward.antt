@@ -1,5 +1,5 @@
 -- The machine stands behind one record more: in general, and for each kind of event.
-use Rattle.std.proofs.Common.{◌≡◌, ◌≢◌, ℕ, ◌≤◌, ◌<◌, suc, length, set, List, [], ◌∷◌, ◌++◌, Bool, true, false, refl, sym, ap, ◌∙◌, subst, arith, append-nil, ltb, ne_eqb}
+use Rattle.std.proofs.Common.{◌≡◌, ◌≢◌, ℕ, ◌+◌, ◌≤◌, ◌<◌, suc, length, set, List, [], ◌∷◌, ◌++◌, Bool, true, false, refl, sym, ap, ◌∙◌, subst, arith, append-nil, ltb, ne_eqb}
 use Rattle.std.specs.Prelude.{Option, Some, None, ◌==◌, if◌then◌else◌, IfSome}
 use Rattle.std.specs.FinMap as finite
 use Rattle.std.proofs.lemmas.Bool.{lt-ltb, le-ltb}
@@ -9,17 +9,24 @@ use Rattle.std.proofs.lemmas.List.Elements.{filter-append}
 use native.Mathlib.Decide.{ℕ_discrete}
 use mathlib.Core.Logic.{dite}
 use Rattle.clover_words.specs.declared.setup.Setup.{Setup}
-use Rattle.clover_map.specs.History.{own}
+use Rattle.clover_map.specs.History.{own, key_of}
+use Rattle.clover_map.specs.declared.bytes.Value.{Value}
+use Rattle.clover_map.specs.declared.call.Call.{Call}
 use Rattle.clover_map.specs.Legal.{Legal}
 use Rattle.clover_map.specs.declared.call.Entry.{Entry}
-use Rattle.clover_rule.specs.Lists.{nth}
+use Rattle.clover_rule.specs.Lists.{nth, Within}
+use Rattle.clover_rule.specs.Words.{mem_of}
 use Rattle.clover_rule.specs.Preset.{bindings_from}
 use Rattle.clover_rule.specs.declared.access.Access.{Access}
 use Rattle.clover_rule.specs.declared.view.View.{View}
-use Rattle.clover_plain.specs.Plain.{Plain, view_at}
+use Rattle.clover_plain.specs.Plain.{Plain, Running, view_at}
+use Rattle.clover_plain.specs.Preset.{AreDistinct}
+use Rattle.clover_walk.specs.Alone.{LeadsOver, HasVersion}
+use Rattle.clover_script.specs.Form.{call_in}
 use Rattle.clover_script.specs.declared.line.Task.{Task}
 use Rattle.clover_script.specs.declared.line.Task.TheVariants.{Client as ClientTask}
-use Rattle.clover_sched.specs.Client.{Stands, Matches, UnderMatches, Moved, Went, Begins, IsUnder, spent, step_record}
+use Rattle.clover_sched.specs.Alone.{OpensCall, IsOwnStep, Finds, RunsAlone, cost, cost_of, AllAlone, EndsIn, NotesWith, AllUnderway}
+use Rattle.clover_sched.specs.Client.{Stands, Matches, UnderMatches, Moved, Went, Starts, Begins, IsUnder, spent, step_record}
 use Rattle.clover_sched.specs.Folds.{listed, accesses_in, entries_in, words_by, words_after, made_by, made_in, Doing, actor_of, does, doing}
 use Rattle.clover_sched.specs.Machine.{Parts, IsAt, IsPoolAt, IsClientAt, asked}
 use Rattle.clover_sched.specs.Record.{Record}
@@ -32,18 +39,22 @@ use Rattle.clover_sched.specs.declared.event.Event.TheVariants.{Begin, Step, Ref
 use Rattle.clover_sched.specs.declared.event.Note.{Note}
 use Rattle.clover_sched.specs.declared.event.Note.TheVariants.{Quiet, Busy, Missing}
 use Rattle.clover_sched.proofs.Pasts.{accesses_more, entries_more, words_more, made_more, goes_more, doing_own, doing_other, asked_least, asked_own}
+use Rattle.clover_sched.proofs.Alone.{all_alone_more, all_underway_more}
+use Rattle.clover_sched.proofs.Bound.{one_slot, slot_low}
+use Rattle.clover_sched.proofs.Starting.{starts}
 use Rattle.clover_sched.proofs.Places.{nth_within, nth_set, nth_other}
 
 -- one record more, from what it owes
 pub pushed : (o : Opening) (m n : Parts) (rs : List Record) (r : Record) → IsAt o m rs → Follows o rs r → n.setup ≡ m.setup → n.names ≡ m.names → IsPoolAt o n.pool (rs ++ r ∷ []) → length n.clients ≡ length m.clients
     → ((i : ℕ) (x : ClientState) → nth n.clients i ≡ Some x → IsClientAt o n.pool i x (rs ++ r ∷ []))
     → ((d : Doing) → o.setup.clients < actor_of r.event → d.task ≡ None → (does d r r.event).task ≡ None)
-    → Legal finite.empty [] (entries_in (rs ++ r ∷ [])) → IsAt o n (rs ++ r ∷ [])
-pushed o m n rs r at follows setup names pool clients each far legal = record {
+    → Legal finite.empty [] (entries_in (rs ++ r ∷ [])) → AllAlone o (rs ++ r ∷ []) → AllUnderway o n.pool.words n.clients (rs ++ r ∷ []) → IsAt o n (rs ++ r ∷ [])
+pushed o m n rs r at follows setup names pool clients each far legal alone underway = record {
   run = goes_more o [] rs r at.run follows;
   setup = setup ∙ at.setup;
   names = at.names ∙ ap (bindings_from 0) (sym names);
   slots = subst (λ (s : Setup). length n.names ≤ s.pool.slots) (sym setup) (subst (λ (l : List (List ℕ)). length l ≤ m.setup.pool.slots) (sym names) at.slots);
+  apart = subst AreDistinct (sym names) at.apart;
   pool = pool;
   clients = clients ∙ at.clients;
   each = each;
@@ -51,6 +62,8 @@ pushed o m n rs r at follows setup names pool clients each far legal = record {
       (λ e. ap (λ (d : Doing). d.task) (doing_own a rs r e) ∙ far (doing a rs) (subst (λ (b : ℕ). o.setup.clients < b) (sym e) above) (at.far a above))
       (λ e. ap (λ (d : Doing). d.task) (doing_other a rs r e) ∙ at.far a above);
   legal = legal;
+  alone = alone;
+  underway = underway;
 }
 
 -- no access and no entry
@@ -112,9 +125,31 @@ module _ (o : Opening) (m : Parts) (rs : List Record) (at : IsAt o m rs) where
   still_legal : (r : Record) → r.entry ≡ None → Legal finite.empty [] (entries_in (rs ++ r ∷ []))
   still_legal r e = subst (λ (l : List Entry). Legal finite.empty [] l) (sym (still_entries rs r e)) at.legal
 
+  -- a record without an access is no step of a call that runs alone
+  no_step : (e : Event) (note : Note) (c : ℕ) → IsOwnStep c (still e note) → ⊥
+  no_step e note c s = let q : None ≡ Some s.access = s.is in absurd cc
+
+  alone_still : (e : Event) (note : Note) → AllAlone o (rs ++ still e note ∷ [])
+  alone_still e note = all_alone_more o rs (still e note) at.alone (λ x now s. absurd (no_step e note x.client s))
+
+  -- what is told of the calls that such a record begins
+  abbrev BeginsSo : Event → Note → List ClientState → Type 0
+  BeginsSo e note clients = (c : ℕ) (call : Call) (tags : List ℕ) (tail : ℕ) (version : Option Value) → OpensCall c call (still e note) → Finds o (words_after o.setup.pool o.words rs) call tags tail version
+      → (i : ℕ) (y : ClientState) → suc i ≡ c → nth clients i ≡ Some y → EndsIn o.setup.pool m.pool.words (cost call (length tags) tail version) y.under
+
+  underway_still : (e : Event) (note : Note) (clients : List ClientState) → BeginsSo e note clients → AllUnderway o m.pool.words clients (rs ++ still e note ∷ [])
+  underway_still e note clients opens = all_underway_more o rs (still e note) m.pool.words clients (λ x now s. absurd (no_step e note x.client s)) opens
+
+  -- it begins none
+  abbrev Silent : Event → Note → Type 0
+  Silent e note = (c : ℕ) (call : Call) → OpensCall c call (still e note) → ⊥
+
+  silent_opening : (e : Event) (note : Note) (clients : List ClientState) → Silent e note → BeginsSo e note clients
+  silent_opening e note clients silent c call tags tail version opens finds i y seat here = absurd (silent c call opens)
+
   -- nothing is another
-  stayed : (e : Event) (note : Note) → Follows o rs (still e note) → ((d : Doing) → does d (still e note) e ≡ d) → IsAt o m (rs ++ still e note ∷ [])
-  stayed e note follows same = pushed o m m rs r at follows refl refl (still_pool o m.pool rs r at.pool refl refl) refl each (λ d above h. ap (λ (z : Doing). z.task) (same d) ∙ h) (still_legal r refl)
+  stayed : (e : Event) (note : Note) → Follows o rs (still e note) → ((d : Doing) → does d (still e note) e ≡ d) → Silent e note → IsAt o m (rs ++ still e note ∷ [])
+  stayed e note follows same silent = pushed o m m rs r at follows refl refl (still_pool o m.pool rs r at.pool refl refl) refl each (λ d above h. ap (λ (z : Doing). z.task) (same d) ∙ h) (still_legal r refl) (alone_still e note) (underway_still e note m.clients (silent_opening e note m.clients silent))
     where
       r : Record
       r = still e note
@@ -133,7 +168,7 @@ module _ (o : Opening) (m : Parts) (rs : List Record) (at : IsAt o m rs) where
       if_true false x y e = absurd cc
 
   pub begun_missing : (a : ℕ) (t : Task) → o.setup.clients < a → IsAt o m (rs ++ still (Begin a t) (Missing a) ∷ [])
-  begun_missing a t above = stayed (Begin a t) (Missing a) (refl, refl, begin_missing a t above) (λ d. refl)
+  begun_missing a t above = stayed (Begin a t) (Missing a) (refl, refl, begin_missing a t above) (λ d. refl) (λ c call s. let q : Missing a ≡ Quiet = s.quiet in absurd cc)
 
   -- the seat of a client that there is
   seated : (i : ℕ) (x : ClientState) → nth m.clients i ≡ Some x → suc i ≤ o.setup.clients
@@ -144,7 +179,7 @@ module _ (o : Opening) (m : Parts) (rs : List Record) (at : IsAt o m rs) where
 
   -- an actor whose call is not over
   pub begun_busy : (i : ℕ) (x : ClientState) (t : Task) → nth m.clients i ≡ Some x → x.under ≢ Nothing → IsAt o m (rs ++ still (Begin (suc i) t) (Busy (suc i)) ∷ [])
-  begun_busy i x t here busy = stayed (Begin (suc i) t) (Busy (suc i)) (refl, refl, told) (λ d. refl)
+  begun_busy i x t here busy = stayed (Begin (suc i) t) (Busy (suc i)) (refl, refl, told) (λ d. refl) (λ c call s. let q : Busy (suc i) ≡ Quiet = s.quiet in absurd cc)
     where
       has : (u : Underway) (v : View) (d : Doing) → UnderMatches u v d → u ≢ Nothing → (s : Task) × (d.task ≡ Some s)
       has Nothing v d h not = absurd (not refl)
@@ -166,25 +201,46 @@ module _ (o : Opening) (m : Parts) (rs : List Record) (at : IsAt o m rs) where
 
   -- one client is another, and the record has no access and no entry
   pub changed : (i : ℕ) (x y : ClientState) (e : Event) (note : Note) → nth m.clients i ≡ Some x → actor_of e ≡ suc i → Follows o rs (still e note) → Stands o m.pool i y
-      → Matches y (view_at m.pool i) (does (doing (suc i) rs) (still e note) e) → spent y ≤ asked (suc i) (rs ++ still e note ∷ []) → IsAt o (with_client m i y) (rs ++ still e note ∷ [])
-  changed i x y e note here actor follows stands matches few = pushed o m (with_client m i y) rs (still e note) at follows refl refl (still_pool o m.pool rs (still e note) at.pool refl refl) (length-set m.clients i y)
+      → Matches y (view_at m.pool i) (does (doing (suc i) rs) (still e note) e) → spent y ≤ asked (suc i) (rs ++ still e note ∷ []) → BeginsSo e note (set m.clients i y) → IsAt o (with_client m i y) (rs ++ still e note ∷ [])
+  changed i x y e note here actor follows stands matches few opens = pushed o m (with_client m i y) rs (still e note) at follows refl refl (still_pool o m.pool rs (still e note) at.pool refl refl) (length-set m.clients i y)
       (each_set (λ (j : ℕ) (z : ClientState). IsClientAt o m.pool j z (rs ++ still e note ∷ [])) m.clients i y (own_client o m.pool i y rs (still e note) actor stands matches few)
       (λ j z apart there. let was = at.each j z there in other_client o m.pool m.pool j z rs (still e note) was (λ (s : actor_of e ≡ suc j). apart (omega (arith, s, actor))) was.stands refl))
       (λ d above h. absurd (absent i x here (subst (λ (b : ℕ). o.setup.clients < b) actor above)))
-      (still_legal (still e note) refl)
+      (still_legal (still e note) refl) (alone_still e note) (underway_still e note (set m.clients i y) opens)
 
   -- a client with nothing under way has no task
   idle_task : (i : ℕ) (x : ClientState) → nth m.clients i ≡ Some x → x.under ≡ Nothing → (doing (suc i) rs).task ≡ None
   idle_task i x here idle = subst (λ (u : Underway). UnderMatches u (view_at m.pool i) (doing (suc i) rs)) idle (at.each i x here).matches.under
 
+  -- the call that a client begins ends in as many accesses as it costs
+  opened : (i : ℕ) (x y : ClientState) (t : Task) (note : Note) → nth m.clients i ≡ Some x → Begins o m.pool i x y t note → Running m.pool → BeginsSo (Begin (suc i) t) note (set m.clients i y)
+  opened i x y t note here b running c call tags tail version opens finds j z seat there =
+      let event : Begin (suc i) t ≡ Begin c (ClientTask call opens.written) = opens.event in
+      let own : suc i ≡ c = cc in
+      let task : t ≡ ClientTask call opens.written = cc in
+      let place : j ≡ i = (let s = seat in omega arith) in
+      let set_here : nth (set m.clients i y) i ≡ Some y = nth_set m.clients i y (nth_within m.clients i x here) in
+      let read : nth (set m.clients i y) i ≡ Some z = subst (λ (k : ℕ). nth (set m.clients i y) k ≡ Some z) place there in
+      let same : y ≡ z = (let q : Some y ≡ Some z = sym set_here ∙ read in cc) in
+      let s : Starts o (suc i) x.taken call y.under = subst (λ (k : Task). Starts o (suc i) x.taken (call_in k) y.under) task (b.starts opens.quiet) in
+      let in_names : (r : ℕ) → Within (r, key_of call) o.names → Within (r, key_of call) (bindings_from 0 m.names) = (λ r. subst (Within (r, key_of call)) at.names) in
+      let slot : finds.slot ≡ s.slot = one_slot m.names finds.slot s.slot (key_of call) at.apart (in_names finds.slot finds.named) (in_names s.slot s.named) in
+      let few = slot_low m.names s.slot (key_of call) (in_names s.slot s.named) in
+      let slots = subst (λ (k : Setup). length m.names ≤ k.pool.slots) at.setup at.slots in
+      let low : s.slot < o.setup.pool.slots = omega arith in
+      let leads = subst (λ (ws : List ℕ). LeadsOver o.setup.pool ws ((mem_of o.setup.pool ws).root s.slot) tags tail) (sym at.pool.words) (subst (λ (k : ℕ). LeadsOver o.setup.pool (words_after o.setup.pool o.words rs) ((mem_of o.setup.pool (words_after o.setup.pool o.words rs)).root k) tags tail) slot finds.leads) in
+      let has = subst (λ (ws : List ℕ). HasVersion o.setup.pool ws tail version) (sym at.pool.words) finds.has in
+      subst (λ (k : ClientState). EndsIn o.setup.pool m.pool.words (cost call (length tags) tail version) k.under) same
+      (starts o m.pool i x (at.each i x here).stands running s.slot low tags tail version leads has call y.under s.begun s.fits s.dealt)
+
   -- a client begins
-  pub begun_client : (i : ℕ) (x y : ClientState) (t : Task) (note : Note) → nth m.clients i ≡ Some x → x.under ≡ Nothing → Begins o m.pool i x y t note → IsAt o (with_client m i y) (rs ++ still (Begin (suc i) t) note ∷ [])
-  begun_client i x y t note here idle b =
+  pub begun_client : (i : ℕ) (x y : ClientState) (t : Task) (note : Note) → nth m.clients i ≡ Some x → x.under ≡ Nothing → Begins o m.pool i x y t note → Running m.pool → IsAt o (with_client m i y) (rs ++ still (Begin (suc i) t) note ∷ [])
+  begun_client i x y t note here idle b running =
       let was = at.each i x here in
       let own = asked_own (suc i) rs (still (Begin (suc i) t) note) t refl in
       let few = was.spent in
       let more = b.spent in
-      changed i x y (Begin (suc i) t) note here refl (refl, refl, b.says (doing (suc i) rs) (idle_task i x here idle)) b.stands (b.matches (doing (suc i) rs) was.matches) (omega arith)
+      changed i x y (Begin (suc i) t) note here refl (refl, refl, b.says (doing (suc i) rs) (idle_task i x here idle)) b.stands (b.matches (doing (suc i) rs) was.matches) (omega arith) (opened i x y t note here b running)
 
   -- an actor with no task steps
   idled : (a : ℕ) → (doing a rs).task ≡ None → IsAt o m (rs ++ still (Step a) Quiet ∷ [])
@@ -196,7 +252,7 @@ module _ (o : Opening) (m : Parts) (rs : List Record) (at : IsAt o m rs) where
     commits = λ z e. absurd cc;
     unreached = λ z e. absurd cc;
     cause = λ z e. absurd cc;
-  }) (λ d. refl)
+  }) (λ d. refl) (λ c call s. let q : Step a ≡ Begin c (ClientTask call s.written) = s.event in absurd cc)
 
   pub idled_far : (a : ℕ) → o.setup.clients < a → IsAt o m (rs ++ still (Step a) Quiet ∷ [])
   idled_far a above = idled a (at.far a above)
@@ -214,6 +270,7 @@ module _ (o : Opening) (m : Parts) (rs : List Record) (at : IsAt o m rs) where
       changed i x (refusing x) (Refuse (suc i)) Quiet here refl (refl, refl, refl)
       (record { setup = s.setup; opened = s.opened; entered = s.entered; seat = s.seat; seats = s.seats; pool = s.pool; role = s.role; names = s.names; stock = s.stock; number = s.number; under = s.under })
       (record { refusing = refl; under = same (doing (suc i) rs) x.under was.matches.under }) (omega arith)
+      (silent_opening (Refuse (suc i)) Quiet (set m.clients i (refusing x)) (λ c call s. let q : Refuse (suc i) ≡ Begin c (ClientTask call s.written) = s.event in absurd cc))
     where
       same : (d : Doing) (u : Underway) → UnderMatches u (view_at m.pool i) d → UnderMatches u (view_at m.pool i) (record { task = d.task; decided = d.decided; since = d.since; refusing = true })
       same d Nothing h = h
@@ -224,7 +281,8 @@ module _ (o : Opening) (m : Parts) (rs : List Record) (at : IsAt o m rs) where
   pub refused_far : (a : ℕ) → o.setup.clients < a → IsAt o m (rs ++ still (Refuse a) Quiet ∷ [])
   refused_far a above = pushed o m m rs (still (Refuse a) Quiet) at (refl, refl, refl) refl refl (still_pool o m.pool rs (still (Refuse a) Quiet) at.pool refl refl) refl
       (λ i x here. let was = at.each i x here in other_client o m.pool m.pool i x rs (still (Refuse a) Quiet) was (λ (e : a ≡ suc i). absent i x here (subst (λ (b : ℕ). o.setup.clients < b) e above)) was.stands refl)
-      (λ d over h. h) (still_legal (still (Refuse a) Quiet) refl)
+      (λ d over h. h) (still_legal (still (Refuse a) Quiet) refl) (alone_still (Refuse a) Quiet)
+      (underway_still (Refuse a) Quiet m.clients (silent_opening (Refuse a) Quiet m.clients (λ c call s. let q : Refuse a ≡ Begin c (ClientTask call s.written) = s.event in absurd cc)))
 
 -- the entries of a client are the same where the entry is another client's
 own_kept : (h : List Entry) (e : Option Entry) (c n : ℕ) → IfSome e (λ (x : Entry). x.client ≡ n) → n ≢ c → own (h ++ listed e) c ≡ own h c
@@ -273,6 +331,29 @@ moved_pool o i x e note p q rs at moved =
 abbrev pub with_pool : Parts → ℕ → ClientState → Plain → Parts
 with_pool m i y q = record m { pool = q; clients = set m.clients i y }
 
+-- the client that was put there is the one that stands there
+client_set : (m : Parts) (i : ℕ) (x y : ClientState) → nth m.clients i ≡ Some x → (j : ℕ) (z : ClientState) → suc j ≡ suc i → nth (set m.clients i y) j ≡ Some z → y ≡ z
+client_set m i x y here j z seat there =
+    let place : j ≡ i = (let s = seat in omega arith) in
+    let set_here : nth (set m.clients i y) i ≡ Some y = nth_set m.clients i y (nth_within m.clients i x here) in
+    let read : nth (set m.clients i y) i ≡ Some z = subst (λ (k : ℕ). nth (set m.clients i y) k ≡ Some z) place there in
+    let q : Some y ≡ Some z = sym set_here ∙ read in cc
+
+own_client_is : {c d : ℕ} → Step c ≡ Step d → c ≡ d
+own_client_is e = cc
+
+-- a step of a call that has run alone up to it
+gone : (o : Opening) (m : Parts) (rs : List Record) → IsAt o m rs → (i : ℕ) (x y : ClientState) (q : Plain) (note : Note) → nth m.clients i ≡ Some x → (w : Went o i x y m.pool q note)
+    → (s : RunsAlone o rs) → s.after ≡ [] → IsOwnStep s.client (step_record i w.access w.entry note) → (left : ℕ) × (suc (length s.steps) + left ≡ cost_of o rs s) × NotesWith s.client left note × EndsIn o.setup.pool q.words left y.under
+gone o m rs at i x y q note here w s now own =
+    let seat : suc i ≡ s.client = own_client_is own.event in
+    let access : w.access ≡ own.access = (let e : Some w.access ≡ Some own.access = own.is in cc) in
+    let free = ap (λ (z : Access). z.refused) access ∙ own.made in
+    let u = at.underway s now i x seat here in
+    let a = w.alone u.0 free u.2 in
+    let n = u.1 in let k = a.one in
+    (a.left, omega arith, subst (λ (c : ℕ). NotesWith c a.left note) seat a.notes, a.ends)
+
 -- a client makes the next access of its call
 pub stepped_client : (o : Opening) (m : Parts) (rs : List Record) → IsAt o m rs → (i : ℕ) (x y : ClientState) (q : Plain) (note : Note) → nth m.clients i ≡ Some x → (w : Went o i x y m.pool q note) → Legal finite.empty [] q.entries
     → IsAt o (with_pool m i y q) (rs ++ step_record i w.access w.entry note ∷ [])
@@ -294,3 +375,7 @@ stepped_client o m rs at i x y q note here w legal =
     (λ j z apart there. let was = at.each j z there in other_client o m.pool q j z rs r was (λ (s : suc i ≡ suc j). apart (omega arith)) (stands_on o i j z w.access w.entry m.pool q apart client w.moved was.stands) (w.moved.others j apart)))
     (λ d above h. absurd (let l = was.stands.seat in omega arith))
     (subst (λ (l : List Entry). Legal finite.empty [] l) pool.entries legal)
+    (all_alone_more o rs r at.alone (λ s now own. let g = gone o m rs at i x y q note here w s now own in (g.0, g.1, g.2)))
+    (all_underway_more o rs r q.words (set m.clients i y)
+    (λ s now own j z seat there. let g = gone o m rs at i x y q note here w s now own in (g.0, g.1, subst (λ (k : ClientState). EndsIn o.setup.pool q.words g.0 k.under) (client_set m i x y here j z (seat ∙ sym (own_client_is own.event)) there) g.3))
+    (λ c call tags tail version opens finds j z seat there. let e : Step (suc i) ≡ Begin c (ClientTask call opens.written) = opens.event in absurd cc))

@@ -18,6 +18,7 @@ use Rattle.clover_sched.specs.declared.client.ClientState.{ClientState}
 use Rattle.clover_sched.specs.declared.event.CallRefusal.TheVariants.{Unreached}
 use Rattle.clover_sched.specs.declared.event.Note.{Note}
 use Rattle.clover_sched.specs.declared.event.Note.TheVariants.{Refused}
+use Rattle.clover_sched.specs.Alone.{EndsIn}
 use Rattle.clover_sched.specs.Client.{stock_at, Stands, Moved, Went, Matches, IsUnder, since_of, step_record}
 use Rattle.clover_sched.specs.Folds.{Doing, listed, words_by, made_by}
 use Rattle.clover_sched.specs.Run.{Opening, IsStep, IsEntry, IsCause, IsBlank, Wrote, lost}
@@ -83,6 +84,7 @@ went_kept o i x y p p1 q note k w =
           );
       longer = λ n. w.longer n ∙ ap (λ (v : View). suc (length (since_of x.under v))) e;
       spent = w.spent;
+      alone = λ n free h. w.alone n free (subst (λ (ws : List ℕ). EndsIn o.setup.pool ws n x.under) (sym k.words) h);
     }
 
 -- an access leaves the room for an entry

@@ -145,7 +145,7 @@ module _ (x y : ClientState) (k : ℕ) (p q : Plain) (r : PutTurn) (tells : Tell
           let h = (subst (IsUnder o.setup.pool (view_at p i)) put.2 st.under).2 in
           subst (λ (s : ClientState). Went o i x s p z (Answered k reply)) (sym is2)
           (subst (λ (s : Reply). Went o i x (record { under = Nothing; refusing = false; taken = x.taken; number = suc x.number }) p z (Answered k s)) (sym er)
-          (went_answered o i x put.0 told.0 put.1 p q k seat put.2 st few Absent refl f.step.absent f.accessed (at_stage put.0 (AtDead (tag_number t)) (view_at p i) f.step.answer.0 h).1.1 z (more2 ∙ ap (λ (s : Reply). q.entries ++ next_entry k x.number put.1 s ∷ []) er) kept (exact_made x.refusing (AbsentTurn t) f.exact (λ s. s))))
+          (went_answered o i x put.0 told.0 put.1 p q k seat put.2 st few Absent refl f.step.absent f.accessed (at_stage put.0 (AtDead (tag_number t)) (view_at p i) f.step.answer.0 h).1.1 z (more2 ∙ ap (λ (s : Reply). q.entries ++ next_entry k x.number put.1 s ∷ []) er) kept (exact_made x.refusing (AbsentTurn t) f.exact (λ s. s)) f.step.made (ap (λ (m : Putting). m.stage) f.step.answer.1)))
 
       pub write_differs_done : (t : TagParts) → r ≡ DiffersTurn t → reply ≡ Differs (tag_number t) → Went o i x y2 p z (Answered k reply)
       write_differs_done t e er =
@@ -153,7 +153,7 @@ module _ (x y : ClientState) (k : ℕ) (p q : Plain) (r : PutTurn) (tells : Tell
           let h = (subst (IsUnder o.setup.pool (view_at p i)) put.2 st.under).2 in
           subst (λ (s : ClientState). Went o i x s p z (Answered k reply)) (sym is2)
           (subst (λ (s : Reply). Went o i x (record { under = Nothing; refusing = false; taken = x.taken; number = suc x.number }) p z (Answered k s)) (sym er)
-          (went_answered o i x put.0 told.0 put.1 p q k seat put.2 st few (Differs (tag_number t)) refl f.step.differs f.accessed (at_stage put.0 (AtOther (tag_number t)) (view_at p i) f.step.answer.0 h).1.1 z (more2 ∙ ap (λ (s : Reply). q.entries ++ next_entry k x.number put.1 s ∷ []) er) kept (exact_made x.refusing (DiffersTurn t) f.exact (λ s. s))))
+          (went_answered o i x put.0 told.0 put.1 p q k seat put.2 st few (Differs (tag_number t)) refl f.step.differs f.accessed (at_stage put.0 (AtOther (tag_number t)) (view_at p i) f.step.answer.0 h).1.1 z (more2 ∙ ap (λ (s : Reply). q.entries ++ next_entry k x.number put.1 s ∷ []) er) kept (exact_made x.refusing (DiffersTurn t) f.exact (λ s. s)) f.step.made (ap (λ (m : Putting). m.stage) f.step.answer.1)))
 
 -- the turns of a call that is to raise its link
 raising_ends : (c n : Putting) (u : ℕ) (r : PutTurn) → c.stage ≡ AtRaise u → Answers c n r → ((t : TagParts) → r ≡ Stored t → ⊥) → ((t : TagParts) → r ≡ Deleted t → ⊥) → ((t : TagParts) → r ≡ Linked t → ⊥) → ⊥

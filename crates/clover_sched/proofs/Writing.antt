@@ -1,6 +1,6 @@
 -- What each turn of a call that writes comes to: a step of the run, behind which the client stands.
 use Prim.Native.Nat.{zero, suc}
-use Rattle.std.proofs.Common.{◌≡◌, ℕ, nat_lt, ◌+◌, ◌-◌, ◌*◌, ◌^◌, ◌<◌, ◌≤◌, List, [], ◌∷◌, ◌++◌, length, get_or, Bool, true, false, cond, refl, sym, ap, ◌∙◌, subst, arith, eq-eqb}
+use Rattle.std.proofs.Common.{◌≡◌, ◌≢◌, ℕ, nat_lt, ◌+◌, ◌-◌, ◌*◌, ◌^◌, ◌<◌, ◌≤◌, List, [], ◌∷◌, ◌++◌, length, get_or, Bool, true, false, cond, refl, sym, ap, ◌∙◌, subst, arith, eq-eqb}
 use Rattle.std.specs.Prelude.{Some, None}
 use Rattle.clover_words.specs.Tag.{TagParts, tag_number}
 use Rattle.clover_words.specs.declared.setup.Setup.{Setup}
@@ -16,7 +16,7 @@ use Rattle.clover_map.specs.declared.call.Reply.TheVariants.{Stored as StoredAs,
 use Rattle.clover_script.specs.declared.line.Task.TheVariants.{Client as ClientTask}
 use Rattle.clover_rule.specs.Accesses.{CameBack, Decides, wrote_link}
 use Rattle.clover_rule.specs.Lists.{Within}
-use Rattle.clover_rule.specs.Steps.{Step, DecideNext, LinkNext, RaiseNext, act_of, next_view, next_history, unlinked, reply_of, client, number_of, rest_of, seen}
+use Rattle.clover_rule.specs.Steps.{Step, DecideNext, LinkNext, RaiseNext, act_of, found, turn_of, words_after_step, next_view, next_history, unlinked, reply_of, client, number_of, rest_of, seen}
 use Rattle.clover_rule.specs.Words.{next_of}
 use Rattle.clover_rule.specs.Knowing.{link_entry, link_view}
 use Rattle.clover_rule.specs.declared.access.Act.{Act}
@@ -24,11 +24,12 @@ use Rattle.clover_rule.specs.declared.view.View.{View}
 use Rattle.clover_port.specs.Told.{Open, Made}
 use Rattle.clover_plain.specs.Plain.{Plain, Accessed, KeptButEntries, view_at, history, open_of, access, outset}
 use Rattle.clover_walk.specs.Ending.{Ended}
-use Rattle.clover_walk.specs.Walking.{key_at}
+use Rattle.clover_walk.specs.Walking.{key_at, budget}
 use Rattle.clover_walk.proofs.Endings.{stepped}
+use Rattle.clover_put.specs.Alone.{IsOpen as IsPutOpen}
 use Rattle.clover_put.specs.Answering.{IsBefore, Stores, Deletes, ExactPut, OnReached, OnRefused}
 use Rattle.clover_put.specs.Holding.{PutHolds}
-use Rattle.clover_put.specs.Putting.{Putting, AtLink, AtRaise, call_of, call_at, put_step, put_on, staged}
+use Rattle.clover_put.specs.Putting.{Putting, Stage, Storing, Flushing, Seeking, AtMeta, AtLink, AtDead, AtOther, AtBad, AtRaise, Over, call_of, call_at, put_step, put_on, staged}
 use Rattle.clover_put.specs.declared.job.Job.{Job}
 use Rattle.clover_put.specs.declared.job.Job.TheVariants.{Put, Delete, Swap}
 use Rattle.clover_put.proofs.Known.{length_more, within_last}
@@ -41,10 +42,12 @@ use Rattle.clover_sched.specs.declared.client.Underway.TheVariants.{Nothing, Wri
 use Rattle.clover_sched.specs.declared.event.CallRefusal.TheVariants as why
 use Rattle.clover_sched.specs.declared.event.Note.{Note}
 use Rattle.clover_sched.specs.declared.event.Note.TheVariants.{Quiet, Answered, Refused}
+use Rattle.clover_sched.specs.Alone.{PutEnds, EndsIn, Advances}
 use Rattle.clover_sched.specs.Client.{Stands, Moved, Matches, UnderMatches, Went, IsUnder, stock_at, step_record, since_of, spent_by}
 use Rattle.clover_sched.specs.Folds.{Doing}
 use Rattle.clover_sched.specs.Run.{Opening, IsStep, IsCause, IsAnswer, IsCommit, Flushes, lost}
 use Rattle.clover_sched.specs.Writing.{PutAccess, next_entry}
+use Rattle.clover_sched.proofs.Advancing.{put_goes_on, put_commits, put_answers, put_stays_ahead}
 use Rattle.clover_sched.proofs.Stepping.{made_step}
 use Rattle.clover_sched.proofs.Going.{step_refused, seat_below, stands_moved, number_same, number_more}
 use Rattle.clover_sched.proofs.Moving.{MadeSo, made_so, RefusedSo, refused_so, role_kept, names_kept, stock_kept, moved_quiet, moved_entered, moved_refused}
@@ -90,6 +93,23 @@ stock_rest s c n t rest e = go (buffers_total s.pool - n) refl e
     go zero em h = absurd (nothing_here t rest h)
     go (suc m) em h = (first (nat_lt (dealt_number s c n + s.pool.slots) (buffers_total s.pool)) m (omega arith) h, omega arith)
 
+-- before its exchange a call has more accesses to make
+before_open : (s : Stage) → IsBefore s → IsPutOpen s
+before_open (Storing j) h = tt
+before_open (Flushing j) h = tt
+before_open Seeking h = tt
+before_open (AtMeta u) h = tt
+before_open (AtLink u) h = tt
+before_open (AtDead u) h = tt
+before_open (AtOther u) h = tt
+before_open (AtBad u) h = tt
+before_open (AtRaise u) h = absurd h
+before_open Over h = absurd h
+
+-- the raise is its last one
+raise_over : (c : Putting) (u a : ℕ) → c.stage ≡ AtRaise u → (put_on c a).stage ≡ Over
+raise_over c u a e = subst (λ (s : Stage). (put_on (record c { stage = s }) a).stage ≡ Over) (sym e) refl
+
 -- The accesses of a call that writes, before its exchange.
 module _ (o : Opening) (i : ℕ) (x : ClientState) (c n : Putting) (call : Call) (p q : Plain) (k : ℕ) (seat : suc i ≡ k) (is : x.under ≡ Write c call) (st : Stands o p i x) (few : p.made < 2 ^ 64 - 1) where
   abbrev v : View
@@ -100,6 +120,44 @@ module _ (o : Opening) (i : ℕ) (x : ClientState) (c n : Putting) (call : Call)
 
   under : IsBefore c.stage × (c.walk.pool ≡ o.setup.pool) × PutHolds c v × (call ≡ call_at c v)
   under = subst (IsUnder o.setup.pool v) is st.under
+
+  ends : (j : ℕ) → EndsIn o.setup.pool p.words j x.under → PutEnds o.setup.pool j p.words c
+  ends j h = subst (λ (u : Underway). EndsIn o.setup.pool p.words j u) is h
+
+  way : IsPutOpen c.stage
+  way = before_open c.stage under.0
+
+  -- an access that was made is one of a call that is made alone
+  module _ (made : (a : ℕ) × Made p.setup.pool (put_step c v) c.walk.first v (Some (open_of p)) a w (Some (open_of q)) × (n ≡ put_on c a)) (acc : Accessed i true p q) where
+    made_it : MadeSo i p q (put_step c v) c.walk.first made.0
+    made_it = made_so i p q (put_step c v) c.walk.first made.0 few (seat_below o p i x st) st.role st.entered made.1 acc
+
+    words_then : q.words ≡ words_after_step o.setup.pool (put_step c v) p.words
+    words_then = made_it.after ∙ ap (λ (z : Setup). words_after_step z.pool (put_step c v) p.words) st.setup
+
+    found_here : made.0 ≡ found o.setup.pool (put_step c v) p.words
+    found_here = made_it.here ∙ ap (λ (z : Setup). found z.pool (put_step c v) p.words) st.setup
+
+    call_then : n ≡ put_on c (found o.setup.pool (put_step c v) p.words)
+    call_then = made.2 ∙ ap (put_on c) found_here
+
+    more_alone : (j : ℕ) → EndsIn o.setup.pool p.words j x.under → IsBefore n.stage → Advances (suc i) o.setup.pool j q.words (Write n call) Quiet
+    more_alone j h e = put_goes_on (suc i) o.setup.pool j v p.words q.words c n (ends j h) way words_then call_then call (before_open n.stage e)
+
+    commits_alone : (j u : ℕ) → EndsIn o.setup.pool p.words j x.under → n.stage ≡ AtRaise u → Advances (suc i) o.setup.pool j q.words (Raise n) Quiet
+    commits_alone j u h e = put_commits (suc i) o.setup.pool j v p.words q.words c n (ends j h) way words_then call_then (subst IsPutOpen (sym e) tt)
+
+    answered_alone : (j : ℕ) (ws : List ℕ) (r : Reply) → EndsIn o.setup.pool p.words j x.under → n.stage ≡ Over → Advances (suc i) o.setup.pool j ws Nothing (Answered k r)
+    answered_alone j ws r h e = subst (λ (m : ℕ). Advances (suc i) o.setup.pool j ws Nothing (Answered m r)) seat (put_answers (suc i) o.setup.pool j v p.words q.words c n (ends j h) way words_then call_then ws r e)
+
+    ahead_alone : (j : ℕ) → EndsIn o.setup.pool p.words j x.under → n.stage ≡ Over → w.pass.turns ≡ budget p.setup.pool → ⊥
+    ahead_alone j h e all =
+        let t = (stepped p.setup.pool (put_step c v) c.walk.first v (Some (open_of p)) made.0 w (Some (open_of q)) made.1).turns in
+        let most : budget c.walk.pool ≡ budget p.setup.pool = ap budget (under.1 ∙ sym (ap (λ (z : Setup). z.pool) st.setup)) in
+        let few_turns = under.2.walk.below in
+        let counted = under.2.walk.turns in
+        let turned : turn_of (put_step c v) made.0 ≢ 0 = λ z. omega arith in
+        put_stays_ahead (suc i) o.setup.pool j v p.words q.words c n (ends j h) way words_then call_then e (subst (λ (y : ℕ). turn_of (put_step c v) y ≢ 0) found_here turned)
 
   -- an access that was made and found no end
   module _ (a : ℕ) (made : Made p.setup.pool (put_step c v) c.walk.first v (Some (open_of p)) a w (Some (open_of q))) (on : n ≡ put_on c a) (acc : Accessed i true p q) (miss : Misses c.stage a) where
@@ -146,6 +204,7 @@ module _ (o : Opening) (i : ℕ) (x : ClientState) (c n : Putting) (call : Call)
             (step m.0 m.1 m.2 f.accessed miss d Quiet h (exact_made x.refusing More f.exact (λ z. z)) tt, record { refusing = refl; under = (u.0, u.1, ap (λ (l : List Act). l ++ act_of (put_step c v) m.0 ∷ []) u.2 ∙ sym since) });
         longer = λ b. ap length since ∙ length_more (act_of (put_step c v) m.0) (since_of (Write c call) v) ∙ ap (λ (l : List Act). suc (length l)) (sym is_since);
         spent = subst (λ (u : Underway). suc x.taken ≤ spent_by u x.taken) (sym is) (omega arith);
+        alone = λ j free h. more_alone m f.accessed j h f.step.answer.1;
       }
 
   pub went_behind : (turns : ℕ) → PutAccess i x.refusing c n p q (Behind turns) → Went o i x (with_under x Nothing) p q (Refused k (why.Behind turns))
@@ -161,6 +220,7 @@ module _ (o : Opening) (i : ℕ) (x : ClientState) (c n : Putting) (call : Call)
         follows = λ d h. (step m.0 m.1 m.2 f.accessed miss d (Refused k (why.Behind turns)) h (exact_made x.refusing (Behind turns) f.exact (λ z. z)) (sym seat, count, refl), record { refusing = refl; under = refl });
         longer = λ b. absurd (b refl);
         spent = subst (λ (u : Underway). x.taken ≤ spent_by u x.taken) (sym is) (omega arith);
+        alone = λ j free h. absurd (ahead_alone m f.accessed j h f.step.answer.1 f.step.behind.1);
       }
 
   pub went_unreached : PutAccess i x.refusing c n p q Unreached → Went o i x (with_under x Nothing) p q (Refused k why.Unreached)
@@ -178,6 +238,7 @@ module _ (o : Opening) (i : ℕ) (x : ClientState) (c n : Putting) (call : Call)
             (step_refused o i d p.words (length (own p.entries (suc i))) so1.act (Refused k why.Unreached) (ClientTask call u.0.0) u.0.1 (sym h.refusing ∙ exact_refused x.refusing Unreached f.exact (λ z. z)) so1.blank (λ j. Refused (sym seat j) (lost (sym u.1 j))), record { refusing = refl; under = refl });
         longer = λ b. absurd (b refl);
         spent = subst (λ (u : Underway). x.taken ≤ spent_by u x.taken) (sym is) (omega arith);
+        alone = λ j free h. absurd (let z : true ≡ false = free in cc);
       }
 
   -- where the call was decided with a reply by a step that found this number: the entry that this adds
@@ -259,8 +320,9 @@ module _ (o : Opening) (i : ℕ) (x : ClientState) (c n : Putting) (call : Call)
     last_enters = (to_enter last (unlinked ended.tag) r ended.made acc later last_adds ended.made.now.words last_words ended.decides, open_still last (unlinked ended.tag) r ended.made acc later last_adds ended.made.now.words last_words ended.decides)
 
     pub went_answered : (z : Plain) → z.entries ≡ q.entries ++ next_entry k x.number call r ∷ [] → KeptButEntries q z → x.refusing ≡ false
+        → (a : ℕ) × Made p.setup.pool (put_step c v) c.walk.first v (Some (open_of p)) a w (Some (open_of q)) × (n ≡ put_on c a) → n.stage ≡ Over
         → Went o i x (record { under = Nothing; refusing = false; taken = x.taken; number = suc x.number }) p z (Answered k r)
-    went_answered z more kept going =
+    went_answered z more kept going made over =
         let y : ClientState = record { under = Nothing; refusing = false; taken = x.taken; number = suc x.number } in
         let so3 = so2 last (unlinked ended.tag) r ended.made acc later last_adds ended.made.now.words last_words ended.decides in
         let stock : (view_at z i).pass.stock ≡ stock_at o.setup (suc i) x.taken = ap (λ (s : View). s.pass.stock) (view2 last (unlinked ended.tag) r ended.made acc later last_adds ended.made.now.words last_words ended.decides z more kept ∙ so3.view) ∙ stock_kept last false (history p) v (unlinked ended.tag) tt ∙ st.stock in
@@ -272,6 +334,7 @@ module _ (o : Opening) (i : ℕ) (x : ClientState) (c n : Putting) (call : Call)
           follows = λ d h. (step2 last (unlinked ended.tag) r ended.made acc later last_adds ended.made.now.words last_words ended.decides z more kept d (Answered k r) h going (sym seat, (plain, refl)), record { refusing = refl; under = refl });
           longer = λ b. absurd (b refl);
           spent = subst (λ (u : Underway). x.taken ≤ spent_by u x.taken) (sym is) (omega arith);
+          alone = λ j free h. answered_alone made acc j z.words r h over;
         }
 
   -- the exchange that linked the own tag
@@ -376,6 +439,7 @@ module _ (o : Opening) (i : ℕ) (x : ClientState) (c n : Putting) (call : Call)
                 );
             longer = λ b. ap length since4 ∙ length_more (wrote_link tail c.own) (since_of (Write c call) v) ∙ ap (λ (l : List Act). suc (length l)) (sym is_since);
             spent = subst (λ (u : Underway). suc x.taken ≤ spent_by u x.taken) (sym is) (omega arith);
+            alone = λ j free h. subst (λ (ws : List ℕ). Advances (suc i) o.setup.pool j ws (Raise n) Quiet) (sym kept.words) (commits_alone f.step.made f.accessed j tail h (ap (λ (m : Putting). m.stage) stage_is));
           }
 
 -- the reply of a commit by its job
@@ -422,6 +486,9 @@ module _ (o : Opening) (i : ℕ) (x : ClientState) (c n : Putting) (p q : Plain)
     so5 : MadeSo i p q raise false m.0
     so5 = made_so i p q raise false m.0 few (seat_below o p i x st) st.role st.entered made5 acc
 
+    made_it5 : MadeSo i p q (put_step c v5) c.walk.first m.0
+    made_it5 = made_so i p q (put_step c v5) c.walk.first m.0 few (seat_below o p i x st) st.role st.entered m.1 acc
+
     moved5 : Moved i (access i (act_of raise m.0) false) None p q
     moved5 = moved_quiet i p q raise false m.0 so5 st.entered refl
 
@@ -447,6 +514,11 @@ module _ (o : Opening) (i : ℕ) (x : ClientState) (c n : Putting) (p q : Plain)
           (made_step o i d p.words (length (own p.entries (suc i))) (ClientTask (call_at c v5) u.0.0) u.0.1 (act_of raise m.0) None (Answered k r) (sym h.refusing ∙ going) (subst (λ (y : Setup). CameBack y.pool p.words (act_of raise m.0)) st.setup so5.came) tt (λ z. absurd z) (sym seat, answers d u), record { refusing = refl; under = refl });
       longer = λ b. absurd (b refl);
       spent = subst (λ (u : Underway). x.taken ≤ spent_by u x.taken) (sym is) (omega arith);
+      alone = λ j free h. subst (λ (s : ℕ). Advances (suc i) o.setup.pool j q.words Nothing (Answered s r)) seat
+          (put_answers (suc i) o.setup.pool j v5 p.words q.words c n (subst (λ (u : Underway). EndsIn o.setup.pool p.words j u) is h) (subst IsPutOpen (sym under5.1) tt)
+          (made_it5.after ∙ ap (λ (z : Setup). words_after_step z.pool (put_step c v5) p.words) st.setup)
+          (m.2 ∙ ap (put_on c) (made_it5.here ∙ ap (λ (z : Setup). found z.pool (put_step c v5) p.words) st.setup))
+          q.words r (ap (λ (z : Putting). z.stage) m.2 ∙ raise_over c under5.0 m.0 under5.1));
     }
 
     pub went_stored : (t : ℕ) → t ≡ c.own → Stores c.job → Went o i x (with_under x Nothing) p q (Answered k (StoredAs t))
@@ -471,4 +543,5 @@ module _ (o : Opening) (i : ℕ) (x : ClientState) (c n : Putting) (p q : Plain)
             (step_refused o i d p.words (length (own p.entries (suc i))) so6.act (Refused k (why.Linked t)) (ClientTask (call_at c v5) u.0.0) u.0.1 (sym h.refusing ∙ refused) so6.blank (λ j. Refused (sym seat j) (told j)), record { refusing = refl; under = refl });
         longer = λ b. absurd (b refl);
         spent = subst (λ (u : Underway). x.taken ≤ spent_by u x.taken) (sym is) (omega arith);
+        alone = λ j free h. absurd (let z : true ≡ false = free in cc);
       }

@@ -1,10 +1,10 @@
 -- A client of the machine: what it has under way and what it knows, that this is what the records say of it, and what one step of it does.
 use Prim.Native.Nat.{suc}
-use Rattle.std.specs.Prelude.{◌≡◌, ◌≢◌, ℕ, ◌+◌, ◌-◌, ◌*◌, ◌≤◌, ◌<◌, ◌^◌, min, List, [], ◌∷◌, ◌++◌, length, true, cond, if◌then◌else◌, Option, Some, None}
+use Rattle.std.specs.Prelude.{◌≡◌, ◌≢◌, ℕ, ◌+◌, ◌-◌, ◌*◌, ◌≤◌, ◌<◌, ◌^◌, min, List, [], ◌∷◌, ◌++◌, length, true, false, cond, if◌then◌else◌, Option, Some, None}
 use Rattle.clover_words.specs.declared.pool.Pool.{Pool}
 use Rattle.clover_words.specs.declared.setup.Setup.{Setup}
-use Rattle.clover_words.specs.Preset.{buffers_total}
-use Rattle.clover_map.specs.History.{own}
+use Rattle.clover_words.specs.Preset.{buffers_total, HasDealt}
+use Rattle.clover_map.specs.History.{own, key_of}
 use Rattle.clover_map.specs.declared.call.Call.{Call}
 use Rattle.clover_map.specs.declared.call.Call.TheVariants.{Get as GetCall, Put as PutCall, Delete as DeleteCall, Swap as SwapCall}
 use Rattle.clover_map.specs.declared.call.Entry.{Entry}
@@ -32,9 +32,12 @@ use Rattle.clover_sched.specs.declared.client.Underway.{Underway}
 use Rattle.clover_sched.specs.declared.client.Underway.TheVariants.{Nothing, Get, Write, Raise}
 use Rattle.clover_sched.specs.declared.event.Event.TheVariants.{Step}
 use Rattle.clover_sched.specs.declared.event.Note.{Note}
+use Rattle.clover_sched.specs.declared.event.Note.TheVariants.{Quiet}
+use Rattle.clover_sched.specs.Alone.{EndsIn, Advances}
+use Rattle.clover_sched.specs.Beginning.{IsBegun}
 use Rattle.clover_sched.specs.Folds.{Doing, listed, words_by, made_by, begun, stepped}
 use Rattle.clover_sched.specs.Record.{Record}
-use Rattle.clover_sched.specs.Run.{Opening, IsStep, begin_note}
+use Rattle.clover_sched.specs.Run.{Opening, IsStep, begin_note, room}
 
 -- the stock of a client that has committed so often
 abbrev pub stock_at : Setup → ℕ → ℕ → List ℕ
@@ -120,13 +123,8 @@ pub record Went (o : Opening) (i : ℕ) (x y : ClientState) (p q : Plain) (note 
   -- a call that goes on has made one access more
   pub longer : y.under ≢ Nothing → length (since_of y.under (view_at q i)) ≡ suc (length (since_of x.under (view_at p i)))
   pub spent : spent y ≤ spent x
-
--- The client of seat i, which had nothing under way, was asked for this task, which came to this note: it stands where that leads.
-pub record Begins (o : Opening) (p : Plain) (i : ℕ) (x y : ClientState) (t : Task) (note : Note) : Type 0 where
-  pub stands : Stands o p i y
-  pub says : (d : Doing) → d.task ≡ None → note ≡ begin_note o.setup d (suc i) t
-  pub matches : (d : Doing) → Matches x (view_at p i) d → Matches y (view_at p i) (begun d t note)
-  pub spent : spent y ≤ spent x + takes (call_in t)
+  -- where its call is to end in so many accesses made alone, this one was one of them
+  pub alone : (n : ℕ) → access.refused ≡ false → EndsIn o.setup.pool p.words n x.under → Advances (suc i) o.setup.pool n q.words y.under note
 
 -- how many bytes the value of a call has
 abbrev pub size_of : Call → ℕ
@@ -134,6 +132,22 @@ size_of (GetCall k) = 0
 size_of (PutCall k v) = length v.bytes
 size_of (DeleteCall k) = 0
 size_of (SwapCall k t v) = length v.bytes
+
+-- a client that has committed so often begins this call: on a slot of its key, with a value that a buffer has room for, and where it writes with the next buffer that it was dealt
+pub record Starts (o : Opening) (c n : ℕ) (call : Call) (u : Underway) : Type 0 where
+  pub slot : ℕ
+  pub named : Within (slot, key_of call) o.names
+  pub begun : IsBegun o.setup slot c n call u
+  pub fits : size_of call ≤ room o.setup
+  pub dealt : takes call ≡ 1 → HasDealt o.setup c n
+
+-- The client of seat i, which had nothing under way, was asked for this task, which came to this note: it stands where that leads.
+pub record Begins (o : Opening) (p : Plain) (i : ℕ) (x y : ClientState) (t : Task) (note : Note) : Type 0 where
+  pub stands : Stands o p i y
+  pub says : (d : Doing) → d.task ≡ None → note ≡ begin_note o.setup d (suc i) t
+  pub matches : (d : Doing) → Matches x (view_at p i) d → Matches y (view_at p i) (begun d t note)
+  pub spent : spent y ≤ spent x + takes (call_in t)
+  pub starts : note ≡ Quiet → Starts o (suc i) x.taken (call_in t) y.under
 
 -- the number of an expected tag is one
 abbrev pub ExpectsTag : Call → Type 0

@@ -3,6 +3,7 @@ pub mod Folds
 pub mod Run
 pub mod Lines
 pub mod Text
+pub mod Alone
 pub mod Client
 pub mod Writing
 pub mod Beginning

@@ -15,12 +15,13 @@ use Rattle.clover_rule.specs.Preset.{bindings_from}
 use Rattle.clover_rule.specs.declared.view.View.{View}
 use Rattle.clover_put.specs.Putting.{body}
 use Rattle.clover_plain.specs.Plain.{Plain, Kept, history, view_at}
-use Rattle.clover_plain.specs.Preset.{IsPreset}
+use Rattle.clover_plain.specs.Preset.{IsPreset, AreDistinct}
 use Rattle.clover_sched.specs.declared.client.ClientState.{ClientState}
 use Rattle.clover_sched.specs.declared.client.Underway.{Underway}
 use Rattle.clover_sched.specs.declared.client.Underway.TheVariants.{Nothing, Write, Raise}
 use Rattle.clover_sched.specs.declared.event.Event.{Event}
 use Rattle.clover_sched.specs.declared.event.Event.TheVariants.{Begin, Step, Refuse}
+use Rattle.clover_sched.specs.Alone.{AllAlone, AllUnderway}
 use Rattle.clover_sched.specs.Client.{Stands, Matches, IsTask, spent, since_of, most_made}
 use Rattle.clover_sched.specs.Folds.{entries_in, accesses_in, words_after, made_in, doing, along}
 use Rattle.clover_sched.specs.Record.{Record}
@@ -68,12 +69,15 @@ pub record IsAt (o : Opening) (m : Parts) (rs : List Record) : Type 0 where
   pub setup : m.setup ≡ o.setup
   pub names : o.names ≡ bindings_from 0 m.names
   pub slots : length m.names ≤ m.setup.pool.slots
+  pub apart : AreDistinct m.names
   pub pool : IsPoolAt o m.pool rs
   pub clients : length m.clients ≡ o.setup.clients
   pub each : (i : ℕ) (x : ClientState) → nth m.clients i ≡ Some x → IsClientAt o m.pool i x rs
   -- a client that there is not has no task
   pub far : (a : ℕ) → o.setup.clients < a → (doing a rs).task ≡ None
   pub legal : Legal finite.empty [] (entries_in rs)
+  pub alone : AllAlone o rs
+  pub underway : AllUnderway o m.pool.words m.clients rs
 
 abbrev pub IsBehind : Parts → Type 0
 IsBehind m = (o : Opening) × (rs : List Record) × IsAt o m rs

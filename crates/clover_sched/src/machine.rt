@@ -140,6 +140,7 @@ impl Machine {
         let Some(slot) = self.names.find(key_in(&task)) else {
             unreachable!()
         };
+        self.pool.stands();
         self.clients[seat].begin(&self.setup, slot, actor, task)
     }
 

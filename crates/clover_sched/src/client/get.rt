@@ -6,8 +6,8 @@ ghost use Rattle.clover_words.specs.Tag.{tag_number};
 ghost use Rattle.clover_map.specs.declared.call.Call.{Call as Asked};
 ghost use Rattle.clover_plain.specs.Plain.{Accessed, HasRoom, Kept, KeptButEntries, history, open_of, view_at};
 ghost use Rattle.clover_walk.specs.Walking.{budget};
-ghost use Rattle.clover_get.specs.Answering.{OnReached, OnUnreached, OnGoing, IfFound, IfAbsent, IfBehind, ExactGet};
-ghost use Rattle.clover_get.specs.Getting.{Getting, AtFound, IsOpen, value_in};
+ghost use Rattle.clover_get.specs.Answering.{OnReached, OnUnreached, OnGoing, OnOver, IfFound, IfAbsent, IfBehind, ExactGet};
+ghost use Rattle.clover_get.specs.Getting.{Getting, AtFound, Over, IsOpen, value_in};
 ghost use Rattle.clover_get.specs.Going.{OneAccess, FoundAt, AbsentAt};
 ghost use Rattle.clover_get.specs.Holding.{GetHolds};
 ghost use Rattle.clover_map.specs.declared.call.Reply.TheVariants.{Found as IsFound};
@@ -99,6 +99,7 @@ fn access(
     ensures behind { (i : ℕ) → suc i ≡ client → IfBehind result (λ turns. (turns ≡ budget pool.old.setup.pool) × ((view_at pool.new i).pass.turns ≡ budget pool.old.setup.pool)) }
     ensures unreached { (i : ℕ) → suc i ≡ client → OnUnreached result (view_at pool.new i ≡ view_at pool.old i) }
     ensures stands { (i : ℕ) → suc i ≡ client → OnGoing result (GetHolds call.new (view_at pool.new i) room.new) }
+    ensures ends { OnOver result (call.new.stage ≡ Over) }
     ensures exact { ExactGet (Some refuse) result }
     ensures accessed { (i : ℕ) → suc i ≡ client → Accessed i true pool.old pool.new }
 {

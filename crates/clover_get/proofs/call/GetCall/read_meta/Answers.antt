@@ -30,4 +30,4 @@ returns-in-Ok-clause-went g c =
     let made = subst (λ (s : ℕ). Made p (LoadContent s t 0) false v o c.in-Ok.word v1 o1) (sym slot) c.in-Ok.ensures.made in
     let holds = restaged (λ (y : Getting). GetHolds y v into) z (AtMeta t) c.requires.at c.requires.holds in
     staged (λ (y : Getting). Went p f f1 y z1 into into1 v o v1 o1 More) z (AtMeta t) c.requires.at
-    (meta_went p f f1 z.walk t v o c.in-Ok.word v1 o1 c.requires.pool s.0 z1 into into1 holds made s.1 s.2 s.3)
+    (meta_went p f f1 z.walk t v o c.in-Ok.word v1 o1 c.requires.pool s.0 z1 into into1 holds made s.1 s.2 s.3 c.take_meta.ensures.bytes)

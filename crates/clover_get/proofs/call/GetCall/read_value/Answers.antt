@@ -37,4 +37,4 @@ returns-in-Ok-clause-went g c =
     let value : z1 ≡ getting z.walk (valued t fl into1.length (suc j)) = (λ i. getting (walk i) (stage i)) in
     let holds = restaged (λ (y : Getting). GetHolds y v into) z (AtValue t fl j) c.requires.at c.requires.holds in
     staged (λ (y : Getting). Went p f f1 y z1 into into1 v o v1 o1 More) z (AtValue t fl j) c.requires.at
-    (value_went p f f1 z.walk t v o c.in-Ok.word v1 o1 c.requires.pool fl j z1 into into1 holds made value c.unpack.ensures.length c.unpack.ensures.packs c.unpack.ensures.kept)
+    (value_went p f f1 z.walk t v o c.in-Ok.word v1 o1 c.requires.pool fl j z1 into into1 holds made value c.unpack.ensures.length c.unpack.ensures.packs c.unpack.ensures.kept c.unpack.ensures.bytes)

@@ -110,7 +110,7 @@ returns-in-More-clause-went c = λ o i e s.
     let few = few_made c.args.pool.now p1 c.made.result k c.made.ensures.value c.made.type_inv c.if-made-eq18446744073709551615.false in
     let s1 = stands_kept o c.args.pool.now p1 i x k s in
     went_kept o i x _ c.args.pool.now p1 q Quiet k
-    (went_on o i p1 x c.in-Get.call c.in-Get.room c.in-Get.asked s1 c.in-Get.is few q m.0 m.1 (h.accessed i e) c.access-turn.new.call c.access-turn.new.room (free_of x.refusing _ (λ z. z) h.exact) m.2 (h.stands i e))
+    (went_on o i p1 x c.in-Get.call c.in-Get.room c.in-Get.asked s1 c.in-Get.is few q m.0 m.1 (h.accessed i e) c.access-turn.new.call c.access-turn.new.room (free_of x.refusing _ (λ z. z) h.exact) m.2 m.3 (h.stands i e))
 
 pub returns-in-Found-clause-went : goal.returns-in-Found-clause-went
 returns-in-Found-clause-went c = λ o i e s.
@@ -134,7 +134,7 @@ returns-in-Found-clause-went c = λ o i e s.
     subst (λ (n : Note). Went o i x c.answer_get.new.self c.args.pool.now r n) (sym noted)
     (subst (λ (y : ClientState). Went o i x y c.args.pool.now r (Answered c.args.client value)) (sym c.answer_get.ensures.client)
     (went_kept o i x (answered x) c.args.pool.now p1 r (Answered c.args.client value) k
-    (went_answered o i p1 x c.in-Get.call c.in-Get.room c.in-Get.asked s1 c.in-Get.is few q m.0 m.1 (h.accessed i e) c.args.client value e found.0 r (free_of x.refusing _ (λ z. z) h.exact) refl entries c.answer_get.ensures.same)))
+    (went_answered o i p1 x c.in-Get.call c.in-Get.room c.in-Get.asked s1 c.in-Get.is few q m.0 m.1 (h.accessed i e) c.args.client value e found.0 r c.access-turn.new.call c.access-turn.new.room m.2 m.3 h.ends (free_of x.refusing _ (λ z. z) h.exact) refl entries c.answer_get.ensures.same)))
 
 pub returns-in-Absent-clause-went : goal.returns-in-Absent-clause-went
 returns-in-Absent-clause-went c = λ o i e s.
@@ -150,7 +150,7 @@ returns-in-Absent-clause-went c = λ o i e s.
     subst (λ (n : Note). Went o i x c.answer_get-in-Absent.new.self c.args.pool.now r n) (sym c.answer_get-in-Absent.ensures.answer)
     (subst (λ (y : ClientState). Went o i x y c.args.pool.now r (Answered c.args.client Absent)) (sym c.answer_get-in-Absent.ensures.client)
     (went_kept o i x (answered x) c.args.pool.now p1 r (Answered c.args.client Absent) k
-    (went_answered o i p1 x c.in-Get.call c.in-Get.room c.in-Get.asked s1 c.in-Get.is few q m.0 m.1 (h.accessed i e) c.args.client Absent e (h.absent i e).0 r (free_of x.refusing _ (λ z. z) h.exact) refl (c.answer_get-in-Absent.ensures.entries _ _ c.in-Get.asked refl) c.answer_get-in-Absent.ensures.same)))
+    (went_answered o i p1 x c.in-Get.call c.in-Get.room c.in-Get.asked s1 c.in-Get.is few q m.0 m.1 (h.accessed i e) c.args.client Absent e (h.absent i e).0 r c.access-turn.new.call c.access-turn.new.room m.2 m.3 h.ends (free_of x.refusing _ (λ z. z) h.exact) refl (c.answer_get-in-Absent.ensures.entries _ _ c.in-Get.asked refl) c.answer_get-in-Absent.ensures.same)))
 
 pub returns-in-Behind-clause-went : goal.returns-in-Behind-clause-went
 returns-in-Behind-clause-went c = λ o i e s.
@@ -167,7 +167,7 @@ returns-in-Behind-clause-went c = λ o i e s.
     (subst (λ (y : ClientState). Went o i x y c.args.pool.now q (Refused c.args.client (Behind c.in-Behind.turns))) (sym c.give_up.ensures.client)
     (subst (λ (n : ℕ). Went o i x (at_rest x) c.args.pool.now q (Refused n (Behind c.in-Behind.turns))) e
     (went_kept o i x (at_rest x) c.args.pool.now p1 q (Refused (suc i) (Behind c.in-Behind.turns)) k
-    (went_behind o i p1 x c.in-Get.call c.in-Get.room c.in-Get.asked s1 c.in-Get.is few q m.0 m.1 (h.accessed i e) c.in-Behind.turns (free_of x.refusing _ (λ z. z) h.exact) all.0 all.1))))
+    (went_behind o i p1 x c.in-Get.call c.in-Get.room c.in-Get.asked s1 c.in-Get.is few q m.0 m.1 (h.accessed i e) c.in-Behind.turns c.access-turn.new.call c.access-turn.new.room m.2 m.3 h.ends (free_of x.refusing _ (λ z. z) h.exact) all.0 all.1))))
 
 pub returns-in-Unreached-clause-went : goal.returns-in-Unreached-clause-went
 returns-in-Unreached-clause-went c = λ o i e s.

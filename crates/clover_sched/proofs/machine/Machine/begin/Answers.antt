@@ -48,7 +48,7 @@ invariant_of-self c =
     let idle : x.under ≡ Nothing = subst (λ (z : ClientState). z.under ≡ Nothing) same (not_busy c.index.result.now.under (λ busy. let t = c.is_busy.ensures.1 busy in cc (t, c.if-is_busy.false))) in
     let may : MayCome m (Begin a c.args.task) = subst (λ (p : Parts). MayCome p (Begin a c.args.task)) (sym c.self.view_is) c.requires.may in
     let named : slice_get m.names c.in-Some.slot ≡ Some (key_of (call_in c.args.task)) = c.in-Some.ensures.some ∙ ap Some c.key_in.ensures in
-    let happens : Happens m (with_client m (a - 1) c.begin.new.self) (Begin a c.args.task) c.begin.result = begin_on m a c.in-Some.slot x c.begin.new.self c.args.task c.begin.result (may_one m a c.args.task may) here idle named c.begin.ensures.begun in
+    let happens : Happens m (with_client m (a - 1) c.begin.new.self) (Begin a c.args.task) c.begin.result = begin_on m a c.in-Some.slot x c.begin.new.self c.args.task c.begin.result (may_one m a c.args.task may) here idle named c.begin.ensures.begun c.stands.ensures.running in
     behind m (with_client m (a - 1) c.begin.new.self) (Begin a c.args.task) c.begin.result happens c.self.invariant
 
 pub returns-clause-happened : goal.returns-clause-happened
@@ -62,5 +62,5 @@ returns-clause-happened c o rs at =
     let idle : x.under ≡ Nothing = subst (λ (z : ClientState). z.under ≡ Nothing) same (not_busy c.index.result.now.under (λ busy. let t = c.is_busy.ensures.1 busy in cc (t, c.if-is_busy.false))) in
     let may : MayCome m (Begin a c.args.task) = subst (λ (p : Parts). MayCome p (Begin a c.args.task)) (sym c.self.view_is) c.requires.may in
     let named : slice_get m.names c.in-Some.slot ≡ Some (key_of (call_in c.args.task)) = c.in-Some.ensures.some ∙ ap Some c.key_in.ensures in
-    let happens : Happens m (with_client m (a - 1) c.begin.new.self) (Begin a c.args.task) c.begin.result = begin_on m a c.in-Some.slot x c.begin.new.self c.args.task c.begin.result (may_one m a c.args.task may) here idle named c.begin.ensures.begun in
+    let happens : Happens m (with_client m (a - 1) c.begin.new.self) (Begin a c.args.task) c.begin.result = begin_on m a c.in-Some.slot x c.begin.new.self c.args.task c.begin.result (may_one m a c.args.task may) here idle named c.begin.ensures.begun c.stands.ensures.running in
     happens o rs (subst (λ (p : Parts). IsAt o p rs) (sym c.self.view_is) at)

@@ -1,7 +1,8 @@
-use Rattle.std.proofs.Common.{◌≡◌, ◌∙◌, ℕ, refl, ap, subst, List, []}
+use Rattle.std.proofs.Common.{◌≡◌, ◌∙◌, ℕ, refl, sym, ap, subst, List, []}
+use Rattle.std.specs.Prelude.{Some, slice_get}
 use Rattle.clover_words.specs.declared.setup.Setup.{Setup}
-use Rattle.clover_plain.specs.Preset.{IsPreset, start_view}
-use Rattle.clover_sched.proofs.Made.{IsFresh, opening, is_opening, made_at}
+use Rattle.clover_plain.specs.Preset.{IsPreset, AreDistinct, start_view}
+use Rattle.clover_sched.proofs.Made.{IsFresh, opening, is_opening, made_at, distinct_keys}
 use Rattle.clover_sched.proofs.machine.Machine.make.Goals as goal
 use Rattle.clover_sched.proofs.machine.Machine.make.Goals.{In_ok-clients}
 
@@ -25,8 +26,12 @@ fresh c =
       whole = e.empty.4;
     }
 
+-- no key stands twice
+apart : (c : In_ok-clients) → AreDistinct c.args.names
+apart c = subst AreDistinct c.keys.ensures.value (distinct_keys c.keys.result.now (subst (λ (l : List (List ℕ)). (i j : ℕ) (k : List ℕ) → slice_get l i ≡ Some k → slice_get l j ≡ Some k → i ≡ j) (sym c.keys.ensures.value) c.keys.ensures.distinct))
+
 pub invariant_of-result : goal.invariant_of-result
-invariant_of-result c = (opening c.args.setup c.args.names c.preset.new.self, [], made_at (record { setup = c.args.setup; names = c.args.names; pool = c.preset.new.self; clients = c.in_ok-clients.clients.items }) c.args.setup c.args.names refl refl c.requires.slots (fresh c) c.in_ok-clients.ensures)
+invariant_of-result c = (opening c.args.setup c.args.names c.preset.new.self, [], made_at (record { setup = c.args.setup; names = c.args.names; pool = c.preset.new.self; clients = c.in_ok-clients.clients.items }) c.args.setup c.args.names refl refl c.requires.slots (apart c) (fresh c) c.in_ok-clients.ensures)
 
 pub returns-clause-at : goal.returns-clause-at
-returns-clause-at c = (opening c.args.setup c.args.names c.preset.new.self, is_opening c.args.setup c.args.names c.preset.new.self (fresh c), made_at (record { setup = c.args.setup; names = c.args.names; pool = c.preset.new.self; clients = c.in_ok-clients.clients.items }) c.args.setup c.args.names refl refl c.requires.slots (fresh c) c.in_ok-clients.ensures)
+returns-clause-at c = (opening c.args.setup c.args.names c.preset.new.self, is_opening c.args.setup c.args.names c.preset.new.self (fresh c), made_at (record { setup = c.args.setup; names = c.args.names; pool = c.preset.new.self; clients = c.in_ok-clients.clients.items }) c.args.setup c.args.names refl refl c.requires.slots (apart c) (fresh c) c.in_ok-clients.ensures)

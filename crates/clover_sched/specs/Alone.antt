@@ -1,0 +1,138 @@
+-- A call that runs alone in the machine: from its begin on nobody else has an event between its steps, and none of its accesses is refused.
+use Prim.Native.Nat.{zero, suc}
+use Rattle.std.specs.Prelude.{◌≡◌, ℕ, ◌+◌, ◌*◌, ◌<◌, ◌≤◌, List, [], ◌∷◌, ◌++◌, length, false, cond, eqb, Option, Some, None}
+use Rattle.clover_words.specs.declared.pool.Pool.{Pool}
+use Rattle.clover_map.specs.History.{key_of}
+use Rattle.clover_map.specs.declared.bytes.Value.{Value}
+use Rattle.clover_map.specs.declared.call.Call.{Call}
+use Rattle.clover_map.specs.declared.call.Call.TheVariants.{Get as GetCall, Put as PutCall, Delete as DeleteCall, Swap as SwapCall}
+use Rattle.clover_script.specs.declared.line.Task.TheVariants.{Client as ClientTask}
+use Rattle.clover_rule.specs.Content.{content}
+use Rattle.clover_rule.specs.Lists.{Each, nth, Within}
+use Rattle.clover_rule.specs.Steps.{found, turn_of}
+use Rattle.clover_rule.specs.Words.{mem_of}
+use Rattle.clover_rule.specs.declared.access.Access.{Access}
+use Rattle.clover_rule.specs.declared.view.View.{View}
+use Rattle.clover_walk.specs.Alone.{LeadsOver, HasVersion}
+use Rattle.clover_get.specs.Alone.{Moment, LeadsAlone, next_step}
+use Rattle.clover_get.specs.Getting.{IsOpen, Over}
+use Rattle.clover_put.specs.Alone.{alone, IsOpen as IsPutOpen}
+use Rattle.clover_put.specs.Putting.{Putting, put_step, Over as PutOver}
+use Rattle.clover_sched.specs.declared.client.ClientState.{ClientState}
+use Rattle.clover_sched.specs.declared.client.Underway.{Underway}
+use Rattle.clover_sched.specs.declared.client.Underway.TheVariants.{Nothing, Get, Write, Raise}
+use Rattle.clover_sched.specs.declared.event.Event.TheVariants.{Begin, Step}
+use Rattle.clover_sched.specs.declared.event.Note.{Note}
+use Rattle.clover_sched.specs.declared.event.Note.TheVariants.{Quiet, Answered}
+use Rattle.clover_sched.specs.Folds.{words_after}
+use Rattle.clover_sched.specs.Record.{Record}
+use Rattle.clover_sched.specs.Run.{Opening}
+
+-- the record begins this call of the client
+pub record OpensCall (c : ℕ) (call : Call) (r : Record) : Type 0 where
+  pub written : ℕ
+  pub event : r.event ≡ Begin c (ClientTask call written)
+  pub quiet : r.note ≡ Quiet
+
+-- the record is a step of the client whose access was made
+pub record IsOwnStep (c : ℕ) (r : Record) : Type 0 where
+  pub event : r.event ≡ Step c
+  pub access : Access
+  pub is : r.access ≡ Some access
+  pub made : access.refused ≡ false
+
+-- what a call finds where it begins in these words: its key's slot, whose chain leads over these tags to the tail, and the tail's version
+pub record Finds (o : Opening) (ws : List ℕ) (call : Call) (tags : List ℕ) (tail : ℕ) (version : Option Value) : Type 0 where
+  pub slot : ℕ
+  pub named : Within (slot, key_of call) o.names
+  pub leads : LeadsOver o.setup.pool ws ((mem_of o.setup.pool ws).root slot) tags tail
+  pub has : HasVersion o.setup.pool ws tail version
+
+-- somewhere in the records a client begins a call, and from there on makes these steps alone
+pub record RunsAlone (o : Opening) (rs : List Record) : Type 0 where
+  pub before : List Record
+  pub begin : Record
+  pub steps : List Record
+  pub after : List Record
+  pub whole : rs ≡ before ++ begin ∷ (steps ++ after)
+  pub client : ℕ
+  pub call : Call
+  pub opens : OpensCall client call begin
+  pub own : Each (IsOwnStep client) steps
+  pub tags : List ℕ
+  pub tail : ℕ
+  pub version : Option Value
+  pub finds : Finds o (words_after o.setup.pool o.words before) call tags tail version
+
+-- the stores and flushes of the words of a call's own version
+abbrev pub own_accesses : Call → ℕ
+own_accesses (GetCall k) = 0
+own_accesses (PutCall k x) = 2 * length (content (Some x))
+own_accesses (DeleteCall k) = 2 * length (content None)
+own_accesses (SwapCall k t x) = 2 * length (content (Some x))
+
+-- the accesses at the tail: a get loads the words of its version and then its link again; the others look at its meta word, but for a put, and then exchange its link and raise that, or load it again where there is nothing to commit
+abbrev pub tail_accesses : Call → ℕ → Option Value → ℕ
+tail_accesses (GetCall k) u o = length (content o) + 1
+tail_accesses (PutCall k x) u o = 2
+tail_accesses (DeleteCall k) u (Some y) = 3
+tail_accesses (DeleteCall k) u None = 2
+tail_accesses (SwapCall k t x) u (Some y) = cond (eqb t u) 3 2
+tail_accesses (SwapCall k t x) u None = 2
+
+-- how many accesses a call costs that runs alone, with so many links before the tail: two for each link, and two to begin and end the walk
+abbrev pub cost : Call → ℕ → ℕ → Option Value → ℕ
+cost call links tail version = own_accesses call + 2 * links + 2 + tail_accesses call tail version
+
+abbrev pub cost_of : (o : Opening) (rs : List Record) → RunsAlone o rs → ℕ
+cost_of o rs x = cost x.call (length x.tags) x.tail x.version
+
+-- an answer to this client
+abbrev pub IsAnswered : ℕ → Note → Type 0
+IsAnswered c (Answered d r) = d ≡ c
+IsAnswered c note = ⊥
+
+-- there are no more steps than that, the last of so many answers the call, and each before it is quiet
+pub record IsAnsweredAt (c n : ℕ) (steps : List Record) : Type 0 where
+  pub few : length steps ≤ n
+  pub quiet : (k : ℕ) (r : Record) → nth steps k ≡ Some r → suc k < n → r.note ≡ Quiet
+  pub answered : (k : ℕ) (r : Record) → nth steps k ≡ Some r → suc k ≡ n → IsAnswered c r.note
+
+-- each call that runs alone makes at most as many accesses as it costs, and is answered by the last of them
+abbrev pub AllAlone : Opening → List Record → Type 0
+AllAlone o rs = (x : RunsAlone o rs) → IsAnsweredAt x.client (cost_of o rs x) x.steps
+
+-- a get that is made alone from there on is over after exactly so many accesses, of which the last makes no turn
+pub record GetEnds (p : Pool) (n : ℕ) (a : Moment) : Type 0 where
+  pub before : (v : ℕ → View) (k : ℕ) (b : Moment) → k < n → LeadsAlone p v k a b → IsOpen b.call.stage
+  pub last : (v : ℕ → View) (k : ℕ) (b : Moment) (w : View) → suc k ≡ n → LeadsAlone p v k a b → turn_of (next_step w b) (found p (next_step w b) b.words) ≡ 0
+  pub over : (v : ℕ → View) (b : Moment) → LeadsAlone p v n a b → b.call.stage ≡ Over
+
+-- the same of a call that writes
+pub record PutEnds (p : Pool) (n : ℕ) (ws : List ℕ) (c : Putting) : Type 0 where
+  pub before : (v : ℕ → View) (k : ℕ) → k < n → IsPutOpen (alone p v k ws c).1.stage
+  pub last : (v : ℕ → View) (k : ℕ) (w : View) → suc k ≡ n → turn_of (put_step (alone p v k ws c).1 w) (found p (put_step (alone p v k ws c).1 w) (alone p v k ws c).0) ≡ 0
+  pub over : (v : ℕ → View) → (alone p v n ws c).1.stage ≡ PutOver
+
+-- what is under way is over after exactly so many accesses, if nobody else makes one
+abbrev pub EndsIn : Pool → List ℕ → ℕ → Underway → Type 0
+EndsIn p ws n Nothing = n ≡ 0
+EndsIn p ws n (Get g into call) = GetEnds p n (record { words = ws; call = g; room = into })
+EndsIn p ws n (Write c call) = PutEnds p n ws c
+EndsIn p ws n (Raise c) = PutEnds p n ws c
+
+-- the note of an access behind which a call has so many more to make
+abbrev pub NotesWith : ℕ → ℕ → Note → Type 0
+NotesWith c zero note = IsAnswered c note
+NotesWith c (suc n) note = note ≡ Quiet
+
+-- an access of what is to end in n accesses: it ends in one less, in these words, and the note says whether that is none
+pub record Advances (c : ℕ) (p : Pool) (n : ℕ) (ws : List ℕ) (u : Underway) (note : Note) : Type 0 where
+  pub left : ℕ
+  pub one : n ≡ suc left
+  pub ends : EndsIn p ws left u
+  pub notes : NotesWith c left note
+
+-- each client with a call that has run alone up to the present will be answered after the accesses that are left of its cost
+abbrev pub AllUnderway : Opening → List ℕ → List ClientState → List Record → Type 0
+AllUnderway o ws clients rs = (x : RunsAlone o rs) → x.after ≡ [] → (i : ℕ) (y : ClientState) → suc i ≡ x.client → nth clients i ≡ Some y → (n : ℕ) × (length x.steps + n ≡ cost_of o rs x) × EndsIn o.setup.pool ws n y.under
