@@ -15,7 +15,7 @@ use Rattle.clover_words.specs.Place.{IsWithin, copy_in, address_of}
 use Rattle.clover_words.specs.Tag.{tag_number}
 use Rattle.clover_words.proofs.Places.{copy_kept, has_current}
 use Rattle.clover_map.specs.declared.bytes.Value.{Value}
-use Rattle.clover_rule.specs.Content.{inside, InRange, Fits, content, tombstone, value_meta}
+use Rattle.clover_rule.specs.Content.{inside, InRange, content, tombstone, value_meta}
 use Rattle.clover_rule.specs.Lists.{Each}
 use Rattle.clover_rule.specs.Memory.{word, home}
 use Rattle.clover_rule.specs.Parts.{Walk}

@@ -1,14 +1,14 @@
 -- One access more of a call that is to end in so many accesses made alone.
 use Prim.Native.Nat.{zero, suc}
-use Rattle.std.proofs.Common.{◌≡◌, ◌≢◌, ℕ, ◌+◌, ◌<◌, List, refl, sym, ap, ◌∙◌, subst, arith}
+use Rattle.std.proofs.Common.{◌≡◌, ◌≢◌, ℕ, List, refl, sym, ap, ◌∙◌, subst, arith}
 use Rattle.clover_words.specs.declared.pool.Pool.{Pool}
 use Rattle.clover_map.specs.declared.call.Call.{Call}
 use Rattle.clover_map.specs.declared.call.Reply.{Reply}
 use Rattle.clover_rule.specs.Steps.{found, turn_of, words_after_step}
 use Rattle.clover_rule.specs.declared.view.View.{View}
-use Rattle.clover_get.specs.Alone.{Moment, GoesAlone, LeadsAlone, next_step}
+use Rattle.clover_get.specs.Alone.{Moment, GoesAlone, next_step}
 use Rattle.clover_get.specs.Getting.{IsOpen, Over}
-use Rattle.clover_put.specs.Alone.{alone, IsOpen as IsPutOpen}
+use Rattle.clover_put.specs.Alone.{IsOpen as IsPutOpen}
 use Rattle.clover_put.specs.Putting.{Putting, put_step, put_on, Over as PutOver}
 use Rattle.clover_sched.specs.declared.client.Underway.TheVariants.{Nothing, Get, Write, Raise}
 use Rattle.clover_sched.specs.declared.event.Note.TheVariants.{Quiet, Answered}

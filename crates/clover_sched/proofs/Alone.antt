@@ -1,12 +1,11 @@
 -- One record more behind a stretch in which a call runs alone.
 use Prim.Native.Nat.{zero, suc}
-use Rattle.std.proofs.Common.{◌≡◌, ◌≢◌, ℕ, ◌+◌, ◌<◌, ◌≤◌, List, [], ◌∷◌, ◌++◌, length, refl, sym, ap, ◌∙◌, subst, arith, inl, inr, ◌⊎◌, append_assoc, append-nil, length-append}
+use Rattle.std.proofs.Common.{◌≡◌, ◌≢◌, ℕ, ◌+◌, ◌<◌, List, [], ◌∷◌, ◌++◌, length, refl, sym, ap, ◌∙◌, subst, arith, inl, inr, ◌⊎◌, append_assoc, append-nil, length-append}
 use Rattle.std.specs.Prelude.{Option, Some, None}
 use Rattle.clover_map.specs.declared.bytes.Value.{Value}
 use Rattle.clover_map.specs.declared.call.Call.{Call}
 use Rattle.clover_rule.specs.Lists.{Each, nth}
 use Rattle.clover_sched.specs.declared.client.ClientState.{ClientState}
-use Rattle.clover_sched.specs.declared.event.Note.{Note}
 use Rattle.clover_sched.specs.declared.event.Note.TheVariants.{Quiet}
 use Rattle.clover_sched.specs.Alone.{OpensCall, IsOwnStep, Finds, RunsAlone, cost, cost_of, IsAnswered, IsAnsweredAt, AllAlone, EndsIn, NotesWith, AllUnderway}
 use Rattle.clover_sched.specs.Folds.{words_after}

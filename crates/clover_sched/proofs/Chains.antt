@@ -1,6 +1,6 @@
 -- The chain of a slot in some words: it has at most as many tags as the pool has buffers.
-use Prim.Native.Nat.{zero, suc}
-use Rattle.std.proofs.Common.{◌≡◌, ◌≢◌, ℕ, ◌+◌, ◌*◌, ◌/◌, ◌%◌, ◌<◌, ◌≤◌, List, [], ◌∷◌, ◌++◌, length, Bool, true, false, eqb, refl, sym, ap, ◌∙◌, subst, arith, inl, inr, ne_eqb, length-append}
+use Prim.Native.Nat.{suc}
+use Rattle.std.proofs.Common.{◌≡◌, ◌≢◌, ℕ, ◌+◌, ◌*◌, ◌/◌, ◌%◌, ◌<◌, List, [], ◌∷◌, ◌++◌, length, Bool, true, false, eqb, refl, sym, ap, ◌∙◌, subst, arith, inl, inr, ne_eqb, length-append}
 use Rattle.std.specs.Prelude.{Option, Some, None, map, ◌||◌}
 use Rattle.std.specs.List.{AllByRecursion, IsDistinct, list_any}
 use Rattle.std.proofs.lemmas.Bool.Decides.{nat_tests}
@@ -9,7 +9,7 @@ use Rattle.std.proofs.lemmas.Nat.{div-mul-add, mod-mul-add, mul-add-lt}
 use Rattle.clover_words.specs.declared.pool.Pool.{Pool}
 use Rattle.clover_rule.specs.Content.{InRange, inside}
 use Rattle.clover_rule.specs.Lists.{Each, Within}
-use Rattle.clover_rule.specs.Memory.{Mem, gen, link, home, age}
+use Rattle.clover_rule.specs.Memory.{Mem, link, home}
 use Rattle.clover_rule.specs.Parts.{Walk}
 use Rattle.clover_rule.specs.Words.{mem_of}
 use Rattle.clover_rule.proofs.Steps.{each_within}

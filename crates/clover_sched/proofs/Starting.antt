@@ -1,14 +1,12 @@
 -- A call that begins where its slot's chain leads over some tags to a tail: it ends in as many accesses as it costs, if it runs alone.
-use Prim.Native.Nat.{zero, suc}
-use Rattle.std.proofs.Common.{◌≡◌, ◌≢◌, ℕ, ◌+◌, ◌-◌, ◌*◌, ◌/◌, ◌<◌, ◌≤◌, List, [], ◌∷◌, ◌++◌, length, Bool, true, false, cond, eqb, refl, sym, ap, ◌∙◌, subst, arith, inl, inr, eq-eqb}
+use Prim.Native.Nat.{suc}
+use Rattle.std.proofs.Common.{◌≡◌, ◌≢◌, ℕ, ◌+◌, ◌*◌, ◌<◌, ◌≤◌, List, [], ◌∷◌, ◌++◌, length, Bool, cond, eqb, refl, sym, ap, ◌∙◌, subst, arith, inl, inr, eq-eqb}
 use Rattle.std.specs.Prelude.{Option, Some, None}
 use Rattle.clover_words.specs.declared.bytes.ValueBuf.{ValueBuf}
 use Rattle.clover_words.specs.declared.pool.Pool.{Pool}
 use Rattle.clover_words.specs.declared.setup.Setup.{Setup}
-use Rattle.clover_words.specs.Pack.{words_of}
 use Rattle.clover_words.specs.Preset.{HasDealt, buffers_total, dealt_number}
 use Rattle.clover_words.specs.Tag.{TagParts, tag_number}
-use Rattle.clover_map.specs.History.{key_of}
 use Rattle.clover_map.specs.declared.bytes.Value.{Value}
 use Rattle.clover_map.specs.declared.call.Call.{Call}
 use Rattle.clover_map.specs.declared.call.Call.TheVariants.{Get as GetOf, Put as PutOf, Delete as DeleteOf, Swap as SwapOf}
@@ -17,8 +15,8 @@ use Rattle.clover_rule.specs.Content.{InRange, content}
 use Rattle.clover_rule.specs.Lists.{Each, nth, Within}
 use Rattle.clover_rule.specs.Memory.{home}
 use Rattle.clover_rule.specs.Parts.{Walk}
-use Rattle.clover_rule.specs.Steps.{Step, found, turn_at, turn_of, unlinked}
-use Rattle.clover_rule.specs.Story.{Place, Chained, Stocked}
+use Rattle.clover_rule.specs.Steps.{Step, turn_at, turn_of, unlinked}
+use Rattle.clover_rule.specs.Story.{Chained, Stocked}
 use Rattle.clover_rule.specs.Words.{mem_of}
 use Rattle.clover_rule.specs.declared.view.View.{View}
 use Rattle.clover_plain.specs.Plain.{Plain, Running, view_at, outset}
@@ -31,17 +29,16 @@ use Rattle.clover_get.specs.Alone.{EndsAfter as GetEndsAfter}
 use Rattle.clover_get.specs.Getting.{getting, Seeking}
 use Rattle.clover_get.proofs.Alone.{get_law}
 use Rattle.clover_put.specs.Alone.{tail_accesses, last_stage, EndsAfter}
-use Rattle.clover_put.specs.Putting.{Putting, body, commits, made_put}
+use Rattle.clover_put.specs.Putting.{commits, made_put}
 use Rattle.clover_put.specs.declared.job.Job.{Job}
 use Rattle.clover_put.specs.declared.job.Job.TheVariants.{Put, Delete, Swap}
 use Rattle.clover_put.proofs.Alone.{put_law}
 use Rattle.clover_put.proofs.Body.{value_length, tombstone_length}
 use Rattle.clover_sched.specs.declared.client.ClientState.{ClientState}
 use Rattle.clover_sched.specs.declared.client.Underway.{Underway}
-use Rattle.clover_sched.specs.declared.client.Underway.TheVariants.{Get, Write}
 use Rattle.clover_sched.specs.Alone.{GetEnds, PutEnds, EndsIn, cost}
-use Rattle.clover_sched.specs.Beginning.{IsBegun, begun_put, no_value}
-use Rattle.clover_sched.specs.Client.{Stands, Starts, size_of, stock_at}
+use Rattle.clover_sched.specs.Beginning.{IsBegun, no_value}
+use Rattle.clover_sched.specs.Client.{Stands, size_of}
 use Rattle.clover_sched.specs.Run.{Opening, room}
 use Rattle.clover_sched.proofs.Beginning.{stock_first}
 use Rattle.clover_sched.proofs.Chains.{one_walk, few_links}
