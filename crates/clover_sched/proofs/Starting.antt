@@ -70,10 +70,10 @@ module _ (p : Pool) (ws : List ℕ) (slot : ℕ) (low : slot < p.slots) (ts : Li
       law v = put_law v ws (made_put (made_walk p slot None) job own value) ts u x refl refl low leads (few_links p ws ((mem_of p ws).root slot) ts u leads) has range apart fits
 
 -- a value that the room is enough for
-value_fits : (p : Pool) (x : Value) → length x.bytes ≤ 8 * p.words → length (content (Some x)) ≤ p.words + 1
+pub value_fits : (p : Pool) (x : Value) → length x.bytes ≤ 8 * p.words → length (content (Some x)) ≤ p.words + 1
 value_fits p x h = let e = value_length x in omega arith
 
-dead_fits : (p : Pool) → length (content None) ≤ p.words + 1
+pub dead_fits : (p : Pool) → length (content None) ≤ p.words + 1
 dead_fits p = let e = tombstone_length in omega arith
 
 -- the tag of a dealt buffer is of the pool
@@ -83,7 +83,7 @@ own_range s c n h =
     let wear = s.pool.some_wear in
     (tag_inside s.pool (dealt_number s c n) below, subst (λ (y : ℕ). y < s.pool.wear) (sym (tag_young s.pool (dealt_number s c n) below)) (omega arith))
 
-each_of : {A : Type 0} (P : A → Type 0) (xs : List A) → ((x : A) → Within x xs → P x) → Each P xs
+pub each_of : {A : Type 0} (P : A → Type 0) (xs : List A) → ((x : A) → Within x xs → P x) → Each P xs
 each_of P [] h = tt
 each_of P (x ∷ xs) h = (h x (inl refl), each_of P xs (λ y w. h y (inr w)))
 
