@@ -102,6 +102,10 @@ pub record IsAnsweredAt (c n : ℕ) (steps : List Record) : Type 0 where
 abbrev pub AllAlone : Opening → List Record → Type 0
 AllAlone o rs = (x : RunsAlone o rs) → IsAnsweredAt x.client (cost_of o rs x) x.steps
 
+-- between any two records, before the first and behind the last, a call on a key that has a slot finds its chain and its version
+abbrev pub AllFound : Opening → List Record → Type 0
+AllFound o rs = (before after : List Record) (call : Call) (slot : ℕ) → rs ≡ before ++ after → Within (slot, key_of call) o.names → (tags : List ℕ) × (tail : ℕ) × (version : Option Value) × Finds o (words_after o.setup.pool o.words before) call tags tail version
+
 -- a get that is made alone from there on is over after exactly so many accesses, of which the last makes no turn
 pub record GetEnds (p : Pool) (n : ℕ) (a : Moment) : Type 0 where
   pub before : (v : ℕ → View) (k : ℕ) (b : Moment) → k < n → LeadsAlone p v k a b → IsOpen b.call.stage
