@@ -1,27 +1,25 @@
 -- What a call finds at any moment: the chain of a named slot leads over some tags to a tail, which has a version.
 use Prim.Native.Nat.{zero, suc}
-use Rattle.std.proofs.Common.{◌≡◌, ℕ, ◌+◌, ◌<◌, ◌≤◌, List, [], ◌∷◌, ◌++◌, length, drop, true, refl, sym, ap, ◌∙◌, subst, arith}
+use Rattle.std.proofs.Common.{◌≡◌, ℕ, ◌+◌, ◌<◌, ◌≤◌, List, [], ◌∷◌, ◌++◌, length, drop, refl, sym, ap, ◌∙◌, subst, arith}
 use Rattle.std.specs.Prelude.{Option, Some, None}
 use Rattle.clover_words.specs.declared.pool.Pool.{Pool}
 use Rattle.clover_words.specs.declared.setup.Setup.{Setup}
 use Rattle.clover_words.specs.declared.word.Side.TheVariants.{Current}
 use Rattle.clover_words.specs.declared.word.Word.TheVariants.{Next as NextOf}
-use Rattle.clover_words.specs.Place.{copy_in}
 use Rattle.clover_map.specs.Tagged.{Tagged}
 use Rattle.clover_map.specs.History.{key_of}
 use Rattle.clover_map.specs.declared.bytes.Value.{Value}
 use Rattle.clover_map.specs.declared.call.Call.{Call}
 use Rattle.clover_map.specs.declared.call.Entry.{Entry}
 use Rattle.clover_rule.specs.Content.{Fits, InRange, content}
-use Rattle.clover_rule.specs.History.{Version, shows}
+use Rattle.clover_rule.specs.History.{Version}
 use Rattle.clover_rule.specs.Image.{tags}
 use Rattle.clover_rule.specs.Lists.{Each, nth, Within}
 use Rattle.clover_rule.specs.Meets.{Meets}
-use Rattle.clover_rule.specs.Memory.{Mem, Next, word, home, age}
+use Rattle.clover_rule.specs.Memory.{Mem, word, home, age}
 use Rattle.clover_rule.specs.Parts.{Walk}
-use Rattle.clover_rule.specs.Steps.{unlinked}
 use Rattle.clover_rule.specs.Story.{Story, tag_at, tag_in_version}
-use Rattle.clover_rule.specs.Words.{mem_of, next_of, next_code, buffer_at, content_at}
+use Rattle.clover_rule.specs.Words.{mem_of, next_code, buffer_at}
 use Rattle.clover_rule.specs.declared.view.View.{View}
 use Rattle.clover_rule.proofs.Derived.{chains, drop_within}
 use Rattle.clover_rule.proofs.Keeping.{read_next, read_body}

@@ -3,7 +3,7 @@ use Rattle.std.proofs.Common.{◌≡◌, ℕ, ◌≤◌, ◌<◌, ◌-◌, zero,
 use Rattle.std.specs.Prelude.{Option, Some, slice_get, if◌then◌else◌}
 use Rattle.clover_words.specs.Preset.{buffers_total}
 use Rattle.clover_words.specs.declared.setup.Setup.{Setup}
-use Rattle.clover_map.specs.History.{own, key_of}
+use Rattle.clover_map.specs.History.{own}
 use Rattle.clover_map.specs.declared.bytes.Value.{Value}
 use Rattle.clover_map.specs.declared.call.Entry.{Entry}
 use Rattle.clover_rule.specs.Lists.{nth}
