@@ -163,7 +163,7 @@ fn say_piece(text: &mut Text, piece: &Piece, tail: u64) -> Result<(), Fail> {
 
 // What client 1 does as its call of this number, so that the tail is a tombstone or a value behind so many links.
 fn is_delete(case: &Case, link: u64, links: u64) -> bool {
-    case.dead && link + 1 == links
+    case.dead && link.saturating_add(1) == links
 }
 
 // Behind no link stands the tombstone of the slot, which no call names; behind one link stands no other tombstone,

@@ -28,6 +28,7 @@ use Rattle.clover_rule.proofs.Ties.{buffer_in}
 use Rattle.clover_plain.specs.Plain.{Plain, Running, view_at, outset}
 use Rattle.clover_plain.proofs.Stepping.{nth_default}
 use Rattle.clover_walk.specs.Alone.{LeadsOver, HasVersion}
+use Rattle.clover_walk.proofs.Alone.{content_words}
 use Rattle.clover_sched.specs.declared.client.ClientState.{ClientState}
 use Rattle.clover_sched.specs.Alone.{Finds}
 use Rattle.clover_sched.specs.Client.{Stands}
@@ -63,8 +64,8 @@ nth_past (x ∷ ws) (suc i) l = nth_past ws i (omega arith)
 
 -- a content has no more words than a buffer
 content_fits : (p : Pool) (x : Option Value) → Fits p x → length (content x) ≤ p.words + 1
-content_fits p None f = dead_fits p
-content_fits p (Some x) f = value_fits p x f.1
+content_fits p None f = let e = content_words None in let k = dead_fits p in omega arith
+content_fits p (Some x) f = let e = content_words (Some x) in let k = value_fits p x f.1 in omega arith
 
 module _ (p : Pool) (first : Tagged) (used : List ℕ) (ws : List ℕ) (vs : List View) (st : Story) (h : List Entry) (r : Meets p first used ws vs st h) where
   abbrev m : Mem
