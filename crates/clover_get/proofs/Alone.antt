@@ -16,7 +16,7 @@ use Rattle.clover_words.proofs.Packing.{packed_set, packed_kept, room_kept, unpa
 use Rattle.clover_words.proofs.Spellings.{one_meta}
 use Rattle.clover_map.specs.declared.bytes.Value.{Value}
 use Rattle.clover_map.specs.declared.call.Call.TheVariants.{Get}
-use Rattle.clover_rule.specs.Content.{content, tombstone, value_meta, words_from}
+use Rattle.clover_rule.specs.Content.{content, tombstone, value_meta}
 use Rattle.clover_rule.specs.Memory.{home}
 use Rattle.clover_rule.specs.Steps.{DecideNext, found, words_after_step, unlinked}
 use Rattle.clover_rule.specs.Words.{buffer_at, content_at}
@@ -24,7 +24,7 @@ use Rattle.clover_rule.specs.declared.view.View.{View}
 use Rattle.clover_rule.proofs.Spelling.{nth_all, short_enough}
 use Rattle.clover_walk.specs.Alone.{alone, HasVersion, ReachesAfter, raised}
 use Rattle.clover_walk.specs.Walking.{Walking, Stand, AtRoot, AtTag, AtLink, OnTail, Ended, IsOnWay, walk_step, goes_on, key_at}
-use Rattle.clover_walk.proofs.Alone.{load_leaves, root_law, raised_version, last_range}
+use Rattle.clover_walk.proofs.Alone.{load_leaves, root_law, raised_version, last_range, content_words}
 use Rattle.clover_get.specs.Alone.{Moment, next_step, GoesAlone, LeadsAlone, reply_at, StandsIn, EndsAfter, GetLaw}
 use Rattle.clover_get.specs.Getting.{Getting, Stage, Seeking, AtMeta, AtValue, AtFound, AtDead, AtBad, Over, IsOpen, Reads, getting, sought, stage_at, value_in, valued, read_stage}
 
@@ -95,18 +95,6 @@ dead_at p ws t h = h.words 0 tombstone refl
 word_at : (p : Pool) (ws : List ℕ) (t : ℕ) (x : Value) → HasVersion p ws t (Some x) → (k : ℕ) → k < words_of (length x.bytes) → copy_in p ws (content_at (home t) (suc k)) Current ≡ packed x.bytes k
 unfolding content
 word_at p ws t x h k l = h.words (suc k) (packed x.bytes k) (nth_all x.bytes k l)
-
-length_words : (bytes : List ℕ) (k n : ℕ) → length (words_from bytes k n) ≡ n
-length_words bytes k zero = refl
-length_words bytes k (suc n) = ap suc (length_words bytes (suc k) n)
-
-length_value : (x : Value) → length (content (Some x)) ≡ suc (words_of (length x.bytes))
-unfolding content
-length_value x = ap suc (length_words x.bytes 0 (words_of (length x.bytes)))
-
-length_dead : length (content None) ≡ 1
-unfolding content
-length_dead = refl
 
 -- what the meta words say
 reads_only : (x : ℕ) (m : MetaParts) → IsMeta m → meta_word m ≡ x → Reads x (Some m)
@@ -255,27 +243,27 @@ module _ (w : Walking) (ws : List ℕ) (u : ℕ) where
   tail_open : (o : Option Value) → HasVersion w.pool ws u o → (j : ℕ) → j ≤ length (content o) → (v : ℕ → View) (room : ValueBuf) → Comes w.pool v j (moment ws (getting w (AtMeta u)) room) OpenNow
   tail_open o h zero l v room = stay w.pool v (moment ws (getting w (AtMeta u)) room) OpenNow tt
   tail_open None h (suc zero) l v room = meta_dead OpenNow h 0 (λ y r. stay w.pool y (moment ws (getting w (AtDead u)) r) OpenNow tt) v room
-  tail_open None h (suc (suc j)) l v room = absurd (let e = length_dead in omega arith)
+  tail_open None h (suc (suc j)) l v room = absurd (let e = content_words None in omega arith)
   tail_open (Some x) h (suc j) l v room =
-      let e = length_value x in
+      let e = content_words (Some x) in
       subst (λ (k : ℕ). Comes w.pool v k (moment ws (getting w (AtMeta u)) room) OpenNow) (let z : suc (j + 0) ≡ suc j = omega arith in z)
       (meta_values x OpenNow h j 0 (omega arith) (λ y r has. stay w.pool y (moment ws (getting w (valued u x.flags (length x.bytes) j)) r) OpenNow (open_valued u x.flags (length x.bytes) j)) v room)
 
   tail_last : (o : Option Value) → HasVersion w.pool ws u o → (v : ℕ → View) (room : ValueBuf) → Comes w.pool v (length (content o)) (moment ws (getting w (AtMeta u)) room) (Last o)
-  tail_last None h v room = subst (λ (k : ℕ). Comes w.pool v k (moment ws (getting w (AtMeta u)) room) (Last None)) (sym length_dead)
+  tail_last None h v room = subst (λ (k : ℕ). Comes w.pool v k (moment ws (getting w (AtMeta u)) room) (Last None)) (sym (content_words None))
       (meta_dead (Last None) h 0 (λ y r. stay w.pool y (moment ws (getting w (AtDead u)) r) (Last None) (λ z. (refl, h.next))) v room)
   tail_last (Some x) h v room =
       let n : ℕ = words_of (length x.bytes) in
-      subst (λ (k : ℕ). Comes w.pool v k (moment ws (getting w (AtMeta u)) room) (Last (Some x))) (let z : suc (n + 0) ≡ suc n = omega arith in z ∙ sym (length_value x))
+      subst (λ (k : ℕ). Comes w.pool v k (moment ws (getting w (AtMeta u)) room) (Last (Some x))) (let z : suc (n + 0) ≡ 1 + n = omega arith in z ∙ sym (content_words (Some x)))
       (meta_values x (Last (Some x)) h n 0 (omega arith) (λ y r has. subst (λ (s : Stage). Comes w.pool y 0 (moment ws (getting w s) r) (Last (Some x))) (sym (all_found x))
       (stay w.pool y (moment ws (getting w (AtFound u x.flags)) r) (Last (Some x)) (λ z. (ap (λ (k : Value). DecideNext w.slot u (Get (key_at z.pass.names w.slot)) (reply_at u (Some k))) (has_all x r h.fits.2 (short_enough w.pool (length x.bytes) h.fits.1) has), h.next)))) v room)
 
   tail_over : (o : Option Value) → HasVersion w.pool ws u o → (v : ℕ → View) (room : ValueBuf) → Comes w.pool v (suc (length (content o))) (moment ws (getting w (AtMeta u)) room) (Done o)
-  tail_over None h v room = subst (λ (k : ℕ). Comes w.pool v (suc k) (moment ws (getting w (AtMeta u)) room) (Done None)) (sym length_dead)
+  tail_over None h v room = subst (λ (k : ℕ). Comes w.pool v (suc k) (moment ws (getting w (AtMeta u)) room) (Done None)) (sym (content_words None))
       (meta_dead (Done None) h 1 (λ y r. and_then w.pool y 0 (moment ws (getting w (AtDead u)) r) _ (Done None) (dead_one (y 0) r h.next) (λ c e. stay w.pool _ c (Done None) (ap (λ (b : Moment). b.call.stage) e, tt, ap (λ (b : Moment). b.words) e))) v room)
   tail_over (Some x) h v room =
       let n : ℕ = words_of (length x.bytes) in
-      subst (λ (k : ℕ). Comes w.pool v k (moment ws (getting w (AtMeta u)) room) (Done (Some x))) (let z : suc (n + 1) ≡ suc (suc n) = omega arith in z ∙ ap suc (sym (length_value x)))
+      subst (λ (k : ℕ). Comes w.pool v k (moment ws (getting w (AtMeta u)) room) (Done (Some x))) (let z : suc (n + 1) ≡ suc (1 + n) = omega arith in z ∙ ap suc (sym (content_words (Some x))))
       (meta_values x (Done (Some x)) h n 1 (omega arith) (λ y r has. subst (λ (s : Stage). Comes w.pool y 1 (moment ws (getting w s) r) (Done (Some x))) (sym (all_found x))
       (and_then w.pool y 0 (moment ws (getting w (AtFound u x.flags)) r) _ (Done (Some x)) (found_one (y 0) x.flags r h.next)
       (λ c e. stay w.pool _ c (Done (Some x)) (ap (λ (b : Moment). b.call.stage) e, ap (λ (b : Moment). value_in x.flags b.room) e ∙ has_all x r h.fits.2 (short_enough w.pool (length x.bytes) h.fits.1) has, ap (λ (b : Moment). b.words) e)))) v room)
@@ -329,4 +317,5 @@ module _ (ws : List ℕ) (w : Walking) (room : ValueBuf) (ts : List ℕ) (u : �
 
 pub get_law : GetLaw
 get_law v ws w room ts u o e low l below h =
-    ends ws w room ts u o e (root_law ws w ts u e low l below) (raised_version w.pool w.slot (ts ++ u ∷ []) ws u o l.range (last_range w.pool ts u l.range) h) v
+    subst (λ (n : ℕ). EndsAfter (2 * length ts + 3 + n) v (moment ws (getting w Seeking) room) u o (raised w.pool w.slot (ts ++ u ∷ []) ws)) (content_words o)
+    (ends ws w room ts u o e (root_law ws w ts u e low l below) (raised_version w.pool w.slot (ts ++ u ∷ []) ws u o l.range (last_range w.pool ts u l.range) h) v)

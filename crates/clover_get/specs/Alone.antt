@@ -7,11 +7,10 @@ use Rattle.clover_map.specs.declared.bytes.Value.{Value}
 use Rattle.clover_map.specs.declared.call.Call.TheVariants.{Get}
 use Rattle.clover_map.specs.declared.call.Reply.{Reply}
 use Rattle.clover_map.specs.declared.call.Reply.TheVariants.{Found, Absent}
-use Rattle.clover_rule.specs.Content.{content}
 use Rattle.clover_rule.specs.Steps.{Step, DecideNext, found, words_after_step, unlinked}
 use Rattle.clover_rule.specs.Words.{mem_of}
 use Rattle.clover_rule.specs.declared.view.View.{View}
-use Rattle.clover_walk.specs.Alone.{LeadsOver, HasVersion, raised}
+use Rattle.clover_walk.specs.Alone.{LeadsOver, HasVersion, raised, version_words}
 use Rattle.clover_walk.specs.Walking.{Walking, AtRoot, budget}
 use Rattle.clover_get.specs.Getting.{Getting, Seeking, Over, IsOpen, getting, get_step, value_in, GoesOn, FillsFrom}
 use Rattle.clover_get.specs.Going.{key_of}
@@ -57,4 +56,4 @@ pub record EndsAfter (n : ℕ) (v : ℕ → View) (a : Moment) (t : ℕ) (o : Op
 -- From the root of a slot with d links before the tail a get makes 2 d + 3 accesses and one for each content word of the tail, where its turns do not reach the budget.
 abbrev pub GetLaw : Type 0
 GetLaw = (v : ℕ → View) (ws : List ℕ) (w : Walking) (room : ValueBuf) (ts : List ℕ) (u : ℕ) (o : Option Value) → w.stand ≡ AtRoot → w.slot < w.pool.slots → LeadsOver w.pool ws ((mem_of w.pool ws).root w.slot) ts u → w.turns + length ts < budget w.pool → HasVersion w.pool ws u o
-    → EndsAfter (2 * length ts + 3 + length (content o)) v (record { words = ws; call = getting w Seeking; room = room }) u o (raised w.pool w.slot (ts ++ u ∷ []) ws)
+    → EndsAfter (2 * length ts + 3 + version_words o) v (record { words = ws; call = getting w Seeking; room = room }) u o (raised w.pool w.slot (ts ++ u ∷ []) ws)

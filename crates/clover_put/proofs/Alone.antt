@@ -25,9 +25,9 @@ use Rattle.clover_rule.specs.declared.view.View.{View}
 use Rattle.clover_rule.proofs.Spelling.{short_enough}
 use Rattle.clover_rule.proofs.Ties.{kind_of as word_kind, content_kind, buffer_in, content_in, content_side, buffer_same, guard}
 use Rattle.clover_rule.proofs.Keeping.{read_root}
-use Rattle.clover_walk.specs.Alone.{LeadsOver, HasVersion, raised, alone as walk_alone}
+use Rattle.clover_walk.specs.Alone.{LeadsOver, HasVersion, raised, version_words, alone as walk_alone}
 use Rattle.clover_walk.specs.Walking.{Walking, Stand, AtRoot, AtTag, AtLink as OnLink, OnTail, Ended, IsOnWay, budget, begun, walk_step, goes_on}
-use Rattle.clover_walk.proofs.Alone.{load_leaves, walk_same, root_law, raised_version, last_range, content_within}
+use Rattle.clover_walk.proofs.Alone.{load_leaves, walk_same, root_law, raised_version, last_range, content_within, content_words}
 use Rattle.clover_put.specs.declared.job.Job.{Job}
 use Rattle.clover_put.specs.declared.job.Job.TheVariants.{Put, Delete, Swap}
 use Rattle.clover_put.specs.Alone.{alone, IsOpen, last_stage, tail_accesses, EndsAfter, PutLaw}
@@ -270,7 +270,8 @@ put_law v ws c ts u o st root low l below h own apart fits =
     let r = last_range p ts u l.range in
     let d = last_apart (home c.own) ts u apart in
     let more = tail_some c.job u o in
-    subst (λ (i : ℕ). EndsAfter p i v ws c (last_stage c.job u o)) (let z : 2 * length (body c) + n ≡ 2 * length (body c) + 2 * length ts + 2 + tail_accesses c.job u o = omega arith in z)
+    let size : length (body c) ≡ version_words (commits c.job c.value) = content_words (commits c.job c.value) in
+    subst (λ (i : ℕ). EndsAfter p i v ws c (last_stage c.job u o)) (let z : 2 * length (body c) + n ≡ 2 * version_words (commits c.job c.value) + 2 * length ts + 2 + tail_accesses c.job u o = omega arith in z)
     (subst (λ (s : Stage). EndsAfter p (2 * length (body c) + n) v ws (staged c s) (last_stage c.job u o)) (sym st)
     (begins p c ws (last_stage c.job u o) own (omega arith) n (omega arith) b
     (λ y ws1 k. seeks c ws1 ts u o root low below (kept_leads p c.own ws ws1 k c.walk.slot ts u low l) (kept_version p c.own ws ws1 k u o r d h) y) v))

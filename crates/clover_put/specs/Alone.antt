@@ -10,11 +10,11 @@ use Rattle.clover_rule.specs.Memory.{home}
 use Rattle.clover_rule.specs.Steps.{found, turn_of}
 use Rattle.clover_rule.specs.Words.{mem_of}
 use Rattle.clover_rule.specs.declared.view.View.{View}
-use Rattle.clover_walk.specs.Alone.{after_alone, LeadsOver, HasVersion}
+use Rattle.clover_walk.specs.Alone.{after_alone, LeadsOver, HasVersion, version_words}
 use Rattle.clover_walk.specs.Walking.{AtRoot, budget}
 use Rattle.clover_put.specs.declared.job.Job.{Job}
 use Rattle.clover_put.specs.declared.job.Job.TheVariants.{Put, Delete, Swap}
-use Rattle.clover_put.specs.Putting.{Putting, Stage, Storing, AtDead, AtOther, AtRaise, Over, body, put_step, put_on}
+use Rattle.clover_put.specs.Putting.{Putting, Stage, Storing, AtDead, AtOther, AtRaise, Over, commits, put_step, put_on}
 
 -- the words and the call after so many accesses made alone; v i is what the client knows at access i
 abbrev pub alone : Pool → (ℕ → View) → ℕ → List ℕ → Putting → List ℕ × Putting
@@ -52,5 +52,5 @@ pub record EndsAfter (p : Pool) (n : ℕ) (v : ℕ → View) (ws : List ℕ) (c 
 abbrev pub PutLaw : Type 0
 PutLaw = (v : ℕ → View) (ws : List ℕ) (c : Putting) (ts : List ℕ) (u : ℕ) (o : Option Value) → c.stage ≡ Storing 0 → c.walk.stand ≡ AtRoot → c.walk.slot < c.walk.pool.slots
     → LeadsOver c.walk.pool ws ((mem_of c.walk.pool ws).root c.walk.slot) ts u → c.walk.turns + length ts < budget c.walk.pool → HasVersion c.walk.pool ws u o
-    → InRange c.walk.pool c.own → Each (λ (t : ℕ). home t ≢ home c.own) (ts ++ u ∷ []) → length (body c) ≤ c.walk.pool.words + 1
-    → EndsAfter c.walk.pool (2 * length (body c) + 2 * length ts + 2 + tail_accesses c.job u o) v ws c (last_stage c.job u o)
+    → InRange c.walk.pool c.own → Each (λ (t : ℕ). home t ≢ home c.own) (ts ++ u ∷ []) → version_words (commits c.job c.value) ≤ c.walk.pool.words + 1
+    → EndsAfter c.walk.pool (2 * version_words (commits c.job c.value) + 2 * length ts + 2 + tail_accesses c.job u o) v ws c (last_stage c.job u o)

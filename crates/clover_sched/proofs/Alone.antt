@@ -2,12 +2,13 @@
 use Prim.Native.Nat.{zero, suc}
 use Rattle.std.proofs.Common.{◌≡◌, ◌≢◌, ℕ, ◌+◌, ◌<◌, List, [], ◌∷◌, ◌++◌, length, refl, sym, ap, ◌∙◌, subst, arith, inl, inr, ◌⊎◌, append_assoc, append-nil, length-append}
 use Rattle.std.specs.Prelude.{Option, Some, None}
+use Rattle.clover_map.specs.History.{key_of}
 use Rattle.clover_map.specs.declared.bytes.Value.{Value}
 use Rattle.clover_map.specs.declared.call.Call.{Call}
-use Rattle.clover_rule.specs.Lists.{Each, nth}
+use Rattle.clover_rule.specs.Lists.{Each, nth, Within}
 use Rattle.clover_sched.specs.declared.client.ClientState.{ClientState}
 use Rattle.clover_sched.specs.declared.event.Note.TheVariants.{Quiet}
-use Rattle.clover_sched.specs.Alone.{OpensCall, IsOwnStep, Finds, RunsAlone, cost, cost_of, IsAnswered, IsAnsweredAt, AllAlone, EndsIn, NotesWith, AllUnderway}
+use Rattle.clover_sched.specs.Alone.{OpensCall, IsOwnStep, Finds, RunsAlone, cost, cost_of, IsAnswered, IsAnsweredAt, AllFound, AllAlone, EndsIn, NotesWith, AllUnderway}
 use Rattle.clover_sched.specs.Folds.{words_after}
 use Rattle.clover_sched.specs.Record.{Record}
 use Rattle.clover_sched.specs.Run.{Opening}
@@ -175,6 +176,19 @@ module _ (o : Opening) (rs : List Record) (r : Record) where
       go (inr (inr b)) =
           let s : length x.steps ≡ 0 = ap length b.none in
           (cost_of o (rs ++ r ∷ []) x, omega arith, opens x.client x.call x.tags x.tail x.version b.opens b.finds i y seat here)
+
+-- what a call finds behind one record more
+pub all_found_more : (o : Opening) (rs : List Record) (r : Record) → AllFound o rs
+    → ((call : Call) (slot : ℕ) → Within (slot, key_of call) o.names → (tags : List ℕ) × (tail : ℕ) × (version : Option Value) × Finds o (words_after o.setup.pool o.words (rs ++ r ∷ [])) call tags tail version) → AllFound o (rs ++ r ∷ [])
+all_found_more o rs r all now before after call slot whole named = go (ending after)
+  where
+    go : (after ≡ []) ⊎ ((ys : List Record) × (y : Record) × (after ≡ ys ++ y ∷ [])) → (tags : List ℕ) × (tail : ℕ) × (version : Option Value) × Finds o (words_after o.setup.pool o.words before) call tags tail version
+    go (inl e) =
+        let here : rs ++ r ∷ [] ≡ before = whole ∙ ap (λ (l : List Record). before ++ l) e ∙ append-nil before in
+        subst (λ (l : List Record). (tags : List ℕ) × (tail : ℕ) × (version : Option Value) × Finds o (words_after o.setup.pool o.words l) call tags tail version) here (now call slot named)
+    go (inr (ys, y, e)) =
+        let there : rs ++ r ∷ [] ≡ (before ++ ys) ++ y ∷ [] = whole ∙ ap (λ (l : List Record). before ++ l) e ∙ sym (append_assoc before ys (y ∷ [])) in
+        all before ys call slot (same_snoc rs (before ++ ys) r y there).0 named
 
 -- nothing has run alone before the first record
 none_before : (o : Opening) → RunsAlone o [] → ⊥

@@ -91,8 +91,9 @@ module _ (m : Parts) (a : ℕ) (one : 1 ≤ a) where
       → Happens m (with_pool m (a - 1) y q) (Step a) note
   step_happens x y q note here went running o rs at =
       let w = went o (a - 1) same_actor (at.each (a - 1) x here).stands in
-      let legal : Legal finite.empty [] (history q) = (running (w.moved.opened ∙ at.pool.opened)).rule.history_and_map.legal in
-      (_, ap Step same_actor, refl, stepped_client o m rs at (a - 1) x y q note here w (subst (λ (h : List Entry). Legal finite.empty [] h) (sym w.moved.entered) legal))
+      let runs : Running q = running (w.moved.opened ∙ at.pool.opened) in
+      let legal : Legal finite.empty [] (history q) = runs.rule.history_and_map.legal in
+      (_, ap Step same_actor, refl, stepped_client o m rs at (a - 1) x y q note here w runs (subst (λ (h : List Entry). Legal finite.empty [] h) (sym w.moved.entered) legal))
 
 pub kept_at : (o : Opening) (m n : Parts) (rs : List Record) → IsSame m n → IsAt o m rs → IsAt o n rs
 kept_at o m n rs same at =
@@ -123,6 +124,7 @@ kept_at o m n rs same at =
       };
       far = at.far;
       legal = at.legal;
+      found = at.found;
       alone = at.alone;
       underway = subst (λ (ws : List ℕ). AllUnderway o ws n.clients rs) (sym k.words) (subst (λ (cs : List ClientState). AllUnderway o m.pool.words cs rs) (sym same.clients) at.underway);
     }

@@ -25,7 +25,7 @@ use Rattle.clover_walk.specs.Alone.{LeadsOver, HasVersion}
 use Rattle.clover_script.specs.Form.{call_in}
 use Rattle.clover_script.specs.declared.line.Task.{Task}
 use Rattle.clover_script.specs.declared.line.Task.TheVariants.{Client as ClientTask}
-use Rattle.clover_sched.specs.Alone.{OpensCall, IsOwnStep, Finds, RunsAlone, cost, cost_of, AllAlone, EndsIn, NotesWith, AllUnderway}
+use Rattle.clover_sched.specs.Alone.{OpensCall, IsOwnStep, Finds, RunsAlone, cost, cost_of, AllFound, AllAlone, EndsIn, NotesWith, AllUnderway}
 use Rattle.clover_sched.specs.Client.{Stands, Matches, UnderMatches, Moved, Went, Starts, Begins, IsUnder, spent, step_record}
 use Rattle.clover_sched.specs.Folds.{listed, accesses_in, entries_in, words_by, words_after, made_by, made_in, Doing, actor_of, does, doing}
 use Rattle.clover_sched.specs.Machine.{Parts, IsAt, IsPoolAt, IsClientAt, asked}
@@ -39,7 +39,8 @@ use Rattle.clover_sched.specs.declared.event.Event.TheVariants.{Begin, Step, Ref
 use Rattle.clover_sched.specs.declared.event.Note.{Note}
 use Rattle.clover_sched.specs.declared.event.Note.TheVariants.{Quiet, Busy, Missing}
 use Rattle.clover_sched.proofs.Pasts.{accesses_more, entries_more, words_more, made_more, goes_more, doing_own, doing_other, asked_least, asked_own}
-use Rattle.clover_sched.proofs.Alone.{all_alone_more, all_underway_more}
+use Rattle.clover_sched.proofs.Finding.{finds_now}
+use Rattle.clover_sched.proofs.Alone.{all_found_more, all_alone_more, all_underway_more}
 use Rattle.clover_sched.proofs.Bound.{one_slot, slot_low}
 use Rattle.clover_sched.proofs.Starting.{starts}
 use Rattle.clover_sched.proofs.Places.{nth_within, nth_set, nth_other}
@@ -48,8 +49,8 @@ use Rattle.clover_sched.proofs.Places.{nth_within, nth_set, nth_other}
 pub pushed : (o : Opening) (m n : Parts) (rs : List Record) (r : Record) → IsAt o m rs → Follows o rs r → n.setup ≡ m.setup → n.names ≡ m.names → IsPoolAt o n.pool (rs ++ r ∷ []) → length n.clients ≡ length m.clients
     → ((i : ℕ) (x : ClientState) → nth n.clients i ≡ Some x → IsClientAt o n.pool i x (rs ++ r ∷ []))
     → ((d : Doing) → o.setup.clients < actor_of r.event → d.task ≡ None → (does d r r.event).task ≡ None)
-    → Legal finite.empty [] (entries_in (rs ++ r ∷ [])) → AllAlone o (rs ++ r ∷ []) → AllUnderway o n.pool.words n.clients (rs ++ r ∷ []) → IsAt o n (rs ++ r ∷ [])
-pushed o m n rs r at follows setup names pool clients each far legal alone underway = record {
+    → Legal finite.empty [] (entries_in (rs ++ r ∷ [])) → AllFound o (rs ++ r ∷ []) → AllAlone o (rs ++ r ∷ []) → AllUnderway o n.pool.words n.clients (rs ++ r ∷ []) → IsAt o n (rs ++ r ∷ [])
+pushed o m n rs r at follows setup names pool clients each far legal found alone underway = record {
   run = goes_more o [] rs r at.run follows;
   setup = setup ∙ at.setup;
   names = at.names ∙ ap (bindings_from 0) (sym names);
@@ -62,6 +63,7 @@ pushed o m n rs r at follows setup names pool clients each far legal alone under
       (λ e. ap (λ (d : Doing). d.task) (doing_own a rs r e) ∙ far (doing a rs) (subst (λ (b : ℕ). o.setup.clients < b) (sym e) above) (at.far a above))
       (λ e. ap (λ (d : Doing). d.task) (doing_other a rs r e) ∙ at.far a above);
   legal = legal;
+  found = found;
   alone = alone;
   underway = underway;
 }
@@ -129,6 +131,12 @@ module _ (o : Opening) (m : Parts) (rs : List Record) (at : IsAt o m rs) where
   no_step : (e : Event) (note : Note) (c : ℕ) → IsOwnStep c (still e note) → ⊥
   no_step e note c s = let q : None ≡ Some s.access = s.is in absurd cc
 
+  -- nor does it change what a call finds
+  found_still : (e : Event) (note : Note) → AllFound o (rs ++ still e note ∷ [])
+  found_still e note = all_found_more o rs (still e note) at.found (λ call slot named.
+      let same : words_after o.setup.pool o.words rs ≡ words_after o.setup.pool o.words (rs ++ still e note ∷ []) = sym (words_more o.setup.pool o.words rs (still e note)) in
+      subst (λ (ws : List ℕ). (tags : List ℕ) × (tail : ℕ) × (version : Option Value) × Finds o ws call tags tail version) same (at.found rs [] call slot (sym (append-nil rs)) named))
+
   alone_still : (e : Event) (note : Note) → AllAlone o (rs ++ still e note ∷ [])
   alone_still e note = all_alone_more o rs (still e note) at.alone (λ x now s. absurd (no_step e note x.client s))
 
@@ -149,7 +157,7 @@ module _ (o : Opening) (m : Parts) (rs : List Record) (at : IsAt o m rs) where
 
   -- nothing is another
   stayed : (e : Event) (note : Note) → Follows o rs (still e note) → ((d : Doing) → does d (still e note) e ≡ d) → Silent e note → IsAt o m (rs ++ still e note ∷ [])
-  stayed e note follows same silent = pushed o m m rs r at follows refl refl (still_pool o m.pool rs r at.pool refl refl) refl each (λ d above h. ap (λ (z : Doing). z.task) (same d) ∙ h) (still_legal r refl) (alone_still e note) (underway_still e note m.clients (silent_opening e note m.clients silent))
+  stayed e note follows same silent = pushed o m m rs r at follows refl refl (still_pool o m.pool rs r at.pool refl refl) refl each (λ d above h. ap (λ (z : Doing). z.task) (same d) ∙ h) (still_legal r refl) (found_still e note) (alone_still e note) (underway_still e note m.clients (silent_opening e note m.clients silent))
     where
       r : Record
       r = still e note
@@ -206,7 +214,7 @@ module _ (o : Opening) (m : Parts) (rs : List Record) (at : IsAt o m rs) where
       (each_set (λ (j : ℕ) (z : ClientState). IsClientAt o m.pool j z (rs ++ still e note ∷ [])) m.clients i y (own_client o m.pool i y rs (still e note) actor stands matches few)
       (λ j z apart there. let was = at.each j z there in other_client o m.pool m.pool j z rs (still e note) was (λ (s : actor_of e ≡ suc j). apart (omega (arith, s, actor))) was.stands refl))
       (λ d above h. absurd (absent i x here (subst (λ (b : ℕ). o.setup.clients < b) actor above)))
-      (still_legal (still e note) refl) (alone_still e note) (underway_still e note (set m.clients i y) opens)
+      (still_legal (still e note) refl) (found_still e note) (alone_still e note) (underway_still e note (set m.clients i y) opens)
 
   -- a client with nothing under way has no task
   idle_task : (i : ℕ) (x : ClientState) → nth m.clients i ≡ Some x → x.under ≡ Nothing → (doing (suc i) rs).task ≡ None
@@ -281,7 +289,7 @@ module _ (o : Opening) (m : Parts) (rs : List Record) (at : IsAt o m rs) where
   pub refused_far : (a : ℕ) → o.setup.clients < a → IsAt o m (rs ++ still (Refuse a) Quiet ∷ [])
   refused_far a above = pushed o m m rs (still (Refuse a) Quiet) at (refl, refl, refl) refl refl (still_pool o m.pool rs (still (Refuse a) Quiet) at.pool refl refl) refl
       (λ i x here. let was = at.each i x here in other_client o m.pool m.pool i x rs (still (Refuse a) Quiet) was (λ (e : a ≡ suc i). absent i x here (subst (λ (b : ℕ). o.setup.clients < b) e above)) was.stands refl)
-      (λ d over h. h) (still_legal (still (Refuse a) Quiet) refl) (alone_still (Refuse a) Quiet)
+      (λ d over h. h) (still_legal (still (Refuse a) Quiet) refl) (found_still (Refuse a) Quiet) (alone_still (Refuse a) Quiet)
       (underway_still (Refuse a) Quiet m.clients (silent_opening (Refuse a) Quiet m.clients (λ c call s. let q : Refuse a ≡ Begin c (ClientTask call s.written) = s.event in absurd cc)))
 
 -- the entries of a client are the same where the entry is another client's
@@ -355,9 +363,9 @@ gone o m rs at i x y q note here w s now own =
     (a.left, omega arith, subst (λ (c : ℕ). NotesWith c a.left note) seat a.notes, a.ends)
 
 -- a client makes the next access of its call
-pub stepped_client : (o : Opening) (m : Parts) (rs : List Record) → IsAt o m rs → (i : ℕ) (x y : ClientState) (q : Plain) (note : Note) → nth m.clients i ≡ Some x → (w : Went o i x y m.pool q note) → Legal finite.empty [] q.entries
+pub stepped_client : (o : Opening) (m : Parts) (rs : List Record) → IsAt o m rs → (i : ℕ) (x y : ClientState) (q : Plain) (note : Note) → nth m.clients i ≡ Some x → (w : Went o i x y m.pool q note) → Running q → Legal finite.empty [] q.entries
     → IsAt o (with_pool m i y q) (rs ++ step_record i w.access w.entry note ∷ [])
-stepped_client o m rs at i x y q note here w legal =
+stepped_client o m rs at i x y q note here w running legal =
     let r : Record = step_record i w.access w.entry note in
     let d : Doing = doing (suc i) rs in
     let was = at.each i x here in
@@ -375,6 +383,8 @@ stepped_client o m rs at i x y q note here w legal =
     (λ j z apart there. let was = at.each j z there in other_client o m.pool q j z rs r was (λ (s : suc i ≡ suc j). apart (omega arith)) (stands_on o i j z w.access w.entry m.pool q apart client w.moved was.stands) (w.moved.others j apart)))
     (λ d above h. absurd (let l = was.stands.seat in omega arith))
     (subst (λ (l : List Entry). Legal finite.empty [] l) pool.entries legal)
+    (all_found_more o rs r at.found (λ call slot named.
+    subst (λ (ws : List ℕ). (tags : List ℕ) × (tail : ℕ) × (version : Option Value) × Finds o ws call tags tail version) pool.words (finds_now o q i y w.stands running call slot named)))
     (all_alone_more o rs r at.alone (λ s now own. let g = gone o m rs at i x y q note here w s now own in (g.0, g.1, g.2)))
     (all_underway_more o rs r q.words (set m.clients i y)
     (λ s now own j z seat there. let g = gone o m rs at i x y q note here w s now own in (g.0, g.1, subst (λ (k : ClientState). EndsIn o.setup.pool q.words g.0 k.under) (client_set m i x y here j z (seat ∙ sym (own_client_is own.event)) there) g.3))

@@ -11,7 +11,7 @@ use Rattle.clover_map.specs.declared.bytes.Value.{Value}
 use Rattle.clover_map.specs.declared.call.Call.{Call}
 use Rattle.clover_map.specs.declared.call.Call.TheVariants.{Get as GetOf, Put as PutOf, Delete as DeleteOf, Swap as SwapOf}
 use Rattle.clover_script.specs.Lines.{takes}
-use Rattle.clover_rule.specs.Content.{InRange, content}
+use Rattle.clover_rule.specs.Content.{InRange}
 use Rattle.clover_rule.specs.Lists.{Each, nth, Within}
 use Rattle.clover_rule.specs.Memory.{home}
 use Rattle.clover_rule.specs.Parts.{Walk}
@@ -23,7 +23,7 @@ use Rattle.clover_plain.specs.Plain.{Plain, Running, view_at, outset}
 use Rattle.clover_plain.specs.Preset.{tag_at}
 use Rattle.clover_plain.proofs.Dealing.{tag_young, tag_inside}
 use Rattle.clover_plain.proofs.Stepping.{nth_default}
-use Rattle.clover_walk.specs.Alone.{LeadsOver, HasVersion, raised}
+use Rattle.clover_walk.specs.Alone.{LeadsOver, HasVersion, raised, version_words}
 use Rattle.clover_walk.specs.Walking.{made_walk}
 use Rattle.clover_get.specs.Alone.{EndsAfter as GetEndsAfter}
 use Rattle.clover_get.specs.Getting.{getting, Seeking}
@@ -33,7 +33,6 @@ use Rattle.clover_put.specs.Putting.{commits, made_put}
 use Rattle.clover_put.specs.declared.job.Job.{Job}
 use Rattle.clover_put.specs.declared.job.Job.TheVariants.{Put, Delete, Swap}
 use Rattle.clover_put.proofs.Alone.{put_law}
-use Rattle.clover_put.proofs.Body.{value_length, tombstone_length}
 use Rattle.clover_sched.specs.declared.client.ClientState.{ClientState}
 use Rattle.clover_sched.specs.declared.client.Underway.{Underway}
 use Rattle.clover_sched.specs.Alone.{GetEnds, PutEnds, EndsIn, cost}
@@ -48,33 +47,33 @@ no_turn : (a b : Step) (u x : ℕ) → turn_of b x ≡ turn_at u x → a ≡ b �
 no_turn a b u x t e f = ap (λ (s : Step). turn_of s x) e ∙ t ∙ ap (λ (c : Bool). cond c 0 1) (eq-eqb x (unlinked u) f)
 
 module _ (p : Pool) (ws : List ℕ) (slot : ℕ) (low : slot < p.slots) (ts : List ℕ) (u : ℕ) (x : Option Value) (leads : LeadsOver p ws ((mem_of p ws).root slot) ts u) (has : HasVersion p ws u x) where
-  get_starts : (into : ValueBuf) → GetEnds p (2 * length ts + 3 + length (content x)) (record { words = ws; call = getting (made_walk p slot None) Seeking; room = into })
+  get_starts : (into : ValueBuf) → GetEnds p (2 * length ts + 3 + version_words x) (record { words = ws; call = getting (made_walk p slot None) Seeking; room = into })
   get_starts into = record {
     before = λ v k b l r. (law v).before k b l r;
     last = λ v k b w e r. let z = (law v).last k b w e r in no_turn _ _ u _ refl z.0 z.1;
     over = λ v b r. ((law v).over b r).0;
   }
     where
-      law : (v : ℕ → View) → GetEndsAfter (2 * length ts + 3 + length (content x)) v (record { words = ws; call = getting (made_walk p slot None) Seeking; room = into }) u x (raised p slot (ts ++ u ∷ []) ws)
+      law : (v : ℕ → View) → GetEndsAfter (2 * length ts + 3 + version_words x) v (record { words = ws; call = getting (made_walk p slot None) Seeking; room = into }) u x (raised p slot (ts ++ u ∷ []) ws)
       law v = get_law v ws (made_walk p slot None) into ts u x refl low leads (few_links p ws ((mem_of p ws).root slot) ts u leads) has
 
-  put_starts : (job : Job) (own : ℕ) (value : Value) → InRange p own → Each (λ (t : ℕ). home t ≢ home own) (ts ++ u ∷ []) → length (content (commits job value)) ≤ p.words + 1
-      → PutEnds p (2 * length (content (commits job value)) + 2 * length ts + 2 + tail_accesses job u x) ws (made_put (made_walk p slot None) job own value)
+  put_starts : (job : Job) (own : ℕ) (value : Value) → InRange p own → Each (λ (t : ℕ). home t ≢ home own) (ts ++ u ∷ []) → version_words (commits job value) ≤ p.words + 1
+      → PutEnds p (2 * version_words (commits job value) + 2 * length ts + 2 + tail_accesses job u x) ws (made_put (made_walk p slot None) job own value)
   put_starts job own value range apart fits = record {
     before = λ v. (law v).before;
     last = λ v. (law v).still;
     over = λ v. (law v).over;
   }
     where
-      law : (v : ℕ → View) → EndsAfter p (2 * length (content (commits job value)) + 2 * length ts + 2 + tail_accesses job u x) v ws (made_put (made_walk p slot None) job own value) (last_stage job u x)
+      law : (v : ℕ → View) → EndsAfter p (2 * version_words (commits job value) + 2 * length ts + 2 + tail_accesses job u x) v ws (made_put (made_walk p slot None) job own value) (last_stage job u x)
       law v = put_law v ws (made_put (made_walk p slot None) job own value) ts u x refl refl low leads (few_links p ws ((mem_of p ws).root slot) ts u leads) has range apart fits
 
 -- a value that the room is enough for
-value_fits : (p : Pool) (x : Value) → length x.bytes ≤ 8 * p.words → length (content (Some x)) ≤ p.words + 1
-value_fits p x h = let e = value_length x in omega arith
+pub value_fits : (p : Pool) (x : Value) → length x.bytes ≤ 8 * p.words → version_words (Some x) ≤ p.words + 1
+value_fits p x h = omega arith
 
-dead_fits : (p : Pool) → length (content None) ≤ p.words + 1
-dead_fits p = let e = tombstone_length in omega arith
+pub dead_fits : (p : Pool) → version_words None ≤ p.words + 1
+dead_fits p = omega arith
 
 -- the tag of a dealt buffer is of the pool
 own_range : (s : Setup) (c n : ℕ) → HasDealt s c n → InRange s.pool (tag_at s.pool (dealt_number s c n))
@@ -83,7 +82,7 @@ own_range s c n h =
     let wear = s.pool.some_wear in
     (tag_inside s.pool (dealt_number s c n) below, subst (λ (y : ℕ). y < s.pool.wear) (sym (tag_young s.pool (dealt_number s c n) below)) (omega arith))
 
-each_of : {A : Type 0} (P : A → Type 0) (xs : List A) → ((x : A) → Within x xs → P x) → Each P xs
+pub each_of : {A : Type 0} (P : A → Type 0) (xs : List A) → ((x : A) → Within x xs → P x) → Each P xs
 each_of P [] h = tt
 each_of P (x ∷ xs) h = (h x (inl refl), each_of P xs (λ y w. h y (inr w)))
 
@@ -108,24 +107,24 @@ module _ (o : Opening) (p : Plain) (i : ℕ) (x : ClientState) (st : Stands o p 
       let k : Chained slot ≡ Stocked i = sym c ∙ ap r.place e ∙ held.0 in cc))
 
   module _ (slot : ℕ) (low : slot < o.setup.pool.slots) (ts : List ℕ) (u : ℕ) (y : Option Value) (l : LeadsOver o.setup.pool p.words ((mem_of o.setup.pool p.words).root slot) ts u) (has : HasVersion o.setup.pool p.words u y) where
-    puts : (job : Job) (value : Value) → HasDealt o.setup (suc i) x.taken → length (content (commits job value)) ≤ o.setup.pool.words + 1
-        → PutEnds o.setup.pool (2 * length (content (commits job value)) + 2 * length ts + 2 + tail_accesses job u y) p.words (made_put (made_walk o.setup.pool slot None) job own_tag value)
+    puts : (job : Job) (value : Value) → HasDealt o.setup (suc i) x.taken → version_words (commits job value) ≤ o.setup.pool.words + 1
+        → PutEnds o.setup.pool (2 * version_words (commits job value) + 2 * length ts + 2 + tail_accesses job u y) p.words (made_put (made_walk o.setup.pool slot None) job own_tag value)
     puts job value d fits = put_starts o.setup.pool p.words slot low ts u y l has job own_tag value (own_range o.setup (suc i) x.taken d) (off_chain d slot u ts l) fits
 
-    deletes : (z : Option Value) → PutEnds o.setup.pool (2 * length (content None) + 2 * length ts + 2 + tail_accesses Delete u z) p.words (made_put (made_walk o.setup.pool slot None) Delete own_tag no_value) → (key : List ℕ)
+    deletes : (z : Option Value) → PutEnds o.setup.pool (2 * version_words None + 2 * length ts + 2 + tail_accesses Delete u z) p.words (made_put (made_walk o.setup.pool slot None) Delete own_tag no_value) → (key : List ℕ)
         → PutEnds o.setup.pool (cost (DeleteOf key) (length ts) u z) p.words (made_put (made_walk o.setup.pool slot None) Delete own_tag no_value)
     deletes None h key = h
     deletes (Some z) h key = h
 
     swaps : (t : TagParts) (expected : ℕ) (value : Value) → tag_number t ≡ expected → (z : Option Value)
-        → PutEnds o.setup.pool (2 * length (content (Some value)) + 2 * length ts + 2 + tail_accesses (Swap t) u z) p.words (made_put (made_walk o.setup.pool slot None) (Swap t) own_tag value) → (key : List ℕ)
+        → PutEnds o.setup.pool (2 * version_words (Some value) + 2 * length ts + 2 + tail_accesses (Swap t) u z) p.words (made_put (made_walk o.setup.pool slot None) (Swap t) own_tag value) → (key : List ℕ)
         → PutEnds o.setup.pool (cost (SwapOf key expected value) (length ts) u z) p.words (made_put (made_walk o.setup.pool slot None) (Swap t) own_tag value)
     swaps t expected value e None h key = h
-    swaps t expected value e (Some z) h key = subst (λ (n : ℕ). PutEnds o.setup.pool (2 * length (content (Some value)) + 2 * length ts + 2 + cond (eqb n u) 3 2) p.words (made_put (made_walk o.setup.pool slot None) (Swap t) own_tag value)) e h
+    swaps t expected value e (Some z) h key = subst (λ (n : ℕ). PutEnds o.setup.pool (2 * version_words (Some value) + 2 * length ts + 2 + cond (eqb n u) 3 2) p.words (made_put (made_walk o.setup.pool slot None) (Swap t) own_tag value)) e h
 
     pub starts : (call : Call) (under : Underway) → IsBegun o.setup slot (suc i) x.taken call under → size_of call ≤ room o.setup → (takes call ≡ 1 → HasDealt o.setup (suc i) x.taken) → EndsIn o.setup.pool p.words (cost call (length ts) u y) under
     starts (GetOf key) under b fits dealt =
-        let n : 2 * length ts + 3 + length (content y) ≡ cost (GetOf key) (length ts) u y = omega arith in
+        let n : 2 * length ts + 3 + version_words y ≡ cost (GetOf key) (length ts) u y = omega arith in
         subst (EndsIn o.setup.pool p.words (cost (GetOf key) (length ts) u y)) (sym b.1) (subst (λ (k : ℕ). GetEnds o.setup.pool k (record { words = p.words; call = getting (made_walk o.setup.pool slot None) Seeking; room = b.0 })) n (get_starts o.setup.pool p.words slot low ts u y l has b.0))
     starts (PutOf key value) under b fits dealt =
         subst (EndsIn o.setup.pool p.words (cost (PutOf key value) (length ts) u y)) (sym b) (puts Put value (dealt refl) (value_fits o.setup.pool value fits))

@@ -7,13 +7,12 @@ use Rattle.clover_map.specs.declared.bytes.Value.{Value}
 use Rattle.clover_map.specs.declared.call.Call.{Call}
 use Rattle.clover_map.specs.declared.call.Call.TheVariants.{Get as GetCall, Put as PutCall, Delete as DeleteCall, Swap as SwapCall}
 use Rattle.clover_script.specs.declared.line.Task.TheVariants.{Client as ClientTask}
-use Rattle.clover_rule.specs.Content.{content}
 use Rattle.clover_rule.specs.Lists.{Each, nth, Within}
 use Rattle.clover_rule.specs.Steps.{found, turn_of}
 use Rattle.clover_rule.specs.Words.{mem_of}
 use Rattle.clover_rule.specs.declared.access.Access.{Access}
 use Rattle.clover_rule.specs.declared.view.View.{View}
-use Rattle.clover_walk.specs.Alone.{LeadsOver, HasVersion}
+use Rattle.clover_walk.specs.Alone.{LeadsOver, HasVersion, version_words}
 use Rattle.clover_get.specs.Alone.{Moment, LeadsAlone, next_step}
 use Rattle.clover_get.specs.Getting.{IsOpen, Over}
 use Rattle.clover_put.specs.Alone.{alone, IsOpen as IsPutOpen}
@@ -67,13 +66,13 @@ pub record RunsAlone (o : Opening) (rs : List Record) : Type 0 where
 -- the stores and flushes of the words of a call's own version
 abbrev pub own_accesses : Call → ℕ
 own_accesses (GetCall k) = 0
-own_accesses (PutCall k x) = 2 * length (content (Some x))
-own_accesses (DeleteCall k) = 2 * length (content None)
-own_accesses (SwapCall k t x) = 2 * length (content (Some x))
+own_accesses (PutCall k x) = 2 * version_words (Some x)
+own_accesses (DeleteCall k) = 2 * version_words None
+own_accesses (SwapCall k t x) = 2 * version_words (Some x)
 
 -- the accesses at the tail: a get loads the words of its version and then its link again; the others look at its meta word, but for a put, and then exchange its link and raise that, or load it again where there is nothing to commit
 abbrev pub tail_accesses : Call → ℕ → Option Value → ℕ
-tail_accesses (GetCall k) u o = length (content o) + 1
+tail_accesses (GetCall k) u o = version_words o + 1
 tail_accesses (PutCall k x) u o = 2
 tail_accesses (DeleteCall k) u (Some y) = 3
 tail_accesses (DeleteCall k) u None = 2
@@ -101,6 +100,10 @@ pub record IsAnsweredAt (c n : ℕ) (steps : List Record) : Type 0 where
 -- each call that runs alone makes at most as many accesses as it costs, and is answered by the last of them
 abbrev pub AllAlone : Opening → List Record → Type 0
 AllAlone o rs = (x : RunsAlone o rs) → IsAnsweredAt x.client (cost_of o rs x) x.steps
+
+-- between any two records, before the first and behind the last, a call on a key that has a slot finds its chain and its version
+abbrev pub AllFound : Opening → List Record → Type 0
+AllFound o rs = (before after : List Record) (call : Call) (slot : ℕ) → rs ≡ before ++ after → Within (slot, key_of call) o.names → (tags : List ℕ) × (tail : ℕ) × (version : Option Value) × Finds o (words_after o.setup.pool o.words before) call tags tail version
 
 -- a get that is made alone from there on is over after exactly so many accesses, of which the last makes no turn
 pub record GetEnds (p : Pool) (n : ℕ) (a : Moment) : Type 0 where

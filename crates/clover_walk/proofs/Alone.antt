@@ -20,7 +20,7 @@ use Rattle.clover_rule.specs.Words.{next_of, buffer_at, content_at, mem_of}
 use Rattle.clover_rule.proofs.Keeping.{read_next, read_root}
 use Rattle.clover_rule.proofs.Ties.{buffer_in, content_in, guard}
 use Rattle.clover_words.specs.Pack.{words_of}
-use Rattle.clover_walk.specs.Alone.{after_alone, alone, LeadsOver, HasVersion, raised_from, raised, ReachesAfter, TagLaw, RootLaw, RaisedLaw}
+use Rattle.clover_walk.specs.Alone.{after_alone, alone, LeadsOver, HasVersion, raised_from, raised, version_words, ReachesAfter, TagLaw, RootLaw, RaisedLaw}
 use Rattle.clover_walk.specs.Walking.{Walking, Stand, AtRoot, AtTag, AtLink, OnTail, Ended, IsOnWay, budget, turned, hops, followed, rooted, next_start, begins, walk_step, goes_on}
 use Rattle.clover_walk.specs.declared.start.Start.{Start}
 
@@ -189,3 +189,12 @@ raised_version p s ts ws t o r i h = record {
 pub last_range : (p : Pool) (ts : List ℕ) (u : ℕ) → Each (InRange p) (ts ++ u ∷ []) → InRange p u
 last_range p [] u r = r.0
 last_range p (t ∷ ts) u r = last_range p ts u r.1
+
+length_words : (bytes : List ℕ) (k n : ℕ) → length (words_from bytes k n) ≡ n
+length_words bytes k zero = refl
+length_words bytes k (suc n) = ap suc (length_words bytes (suc k) n)
+
+pub content_words : (o : Option Value) → length (content o) ≡ version_words o
+unfolding content
+content_words None = refl
+content_words (Some x) = let e = length_words x.bytes 0 (words_of (length x.bytes)) in omega arith

@@ -1,10 +1,11 @@
 -- What a call does that runs alone: nobody else changes a word between its accesses, and none of them is refused.
 use Prim.Native.Nat.{zero, suc}
-use Rattle.std.specs.Prelude.{◌≡◌, ℕ, ◌+◌, ◌*◌, ◌<◌, List, [], ◌∷◌, ◌++◌, length, false, Option, Some}
+use Rattle.std.specs.Prelude.{◌≡◌, ℕ, ◌+◌, ◌*◌, ◌<◌, List, [], ◌∷◌, ◌++◌, length, false, Option, Some, None}
 use Rattle.clover_words.specs.declared.pool.Pool.{Pool}
 use Rattle.clover_words.specs.declared.word.Word.{Word}
 use Rattle.clover_words.specs.declared.word.Word.TheVariants.{Next as NextOf}
 use Rattle.clover_words.specs.declared.word.Side.TheVariants.{Current}
+use Rattle.clover_words.specs.Pack.{words_of}
 use Rattle.clover_words.specs.Place.{IsWithin, copy_in}
 use Rattle.clover_map.specs.declared.bytes.Value.{Value}
 use Rattle.clover_rule.specs.Content.{InRange, Fits, content}
@@ -50,6 +51,11 @@ pub record HasVersion (p : Pool) (ws : List ℕ) (t : ℕ) (o : Option Value) : 
   pub next : copy_in p ws (NextOf (buffer_at (home t))) Current ≡ unlinked t
   pub fits : Fits p o
   pub words : (j x : ℕ) → nth (content o) j ≡ Some x → copy_in p ws (content_at (home t) j) Current ≡ x
+
+-- how many content words a version has: its meta word, and one for each eight bytes of its value or part of them
+abbrev pub version_words : Option Value → ℕ
+version_words None = 1
+version_words (Some x) = 1 + words_of (length x.bytes)
 
 -- From a tag with d links before the tail a walk makes 2 d + 1 accesses, where its turns do not reach the budget.
 abbrev pub TagLaw : Type 0
