@@ -68,7 +68,8 @@ after_keep-full slot tag front last is full =
     rw (others-unfound slot (front ++ last ∷ []) is)
     (ap (λ l. (slot, tag) ∷ l) (take-append-le 63 front (last ∷ []) (omega arith) ∙ take_all 63 front (omega arith)))
 
-held : (P : ℕ × TagParts → Type 0) (slot : ℕ) (tag : TagParts) (list : CursorList) → All P list → cursor_of slot list ≡ Some tag → P (slot, tag)
+-- what holds of each pair holds of the slot's cursor
+pub held : (P : ℕ × TagParts → Type 0) (slot : ℕ) (tag : TagParts) (list : CursorList) → All P list → cursor_of slot list ≡ Some tag → P (slot, tag)
 held P slot tag [] each is = cc
 held P slot tag (pair ∷ list) each is = by_answer (nat_eq slot pair.0)
     (λ same.

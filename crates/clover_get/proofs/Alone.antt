@@ -2,7 +2,7 @@
 use Prim.Native.Nat.{zero, suc}
 use Rattle.std.proofs.Common.{◌≡◌, ℕ, ◌+◌, ◌-◌, ◌*◌, ◌^◌, ◌==◌, ◌<◌, ◌≤◌, List, [], ◌∷◌, ◌++◌, length, take, Bool, true, false, cond, ltb, refl, sym, ap, ◌∙◌, arith, subst, eq-eqb}
 use Rattle.std.specs.Prelude.{Option, Some, None}
-use Rattle.std.proofs.lemmas.Bool.Decides.{nat_tests}
+use Rattle.std.proofs.lemmas.Bool.{lt-ltb, le-ltb}
 use native.Mathlib.Decide.{ℕ_discrete, dec_le}
 use Rattle.clover_words.specs.declared.bytes.ValueBuf.{ValueBuf}
 use Rattle.clover_words.specs.declared.meta.Kind.TheVariants.{Value as IsValue, Tombstone}
@@ -22,9 +22,10 @@ use Rattle.clover_rule.specs.Steps.{DecideNext, found, words_after_step, unlinke
 use Rattle.clover_rule.specs.Words.{buffer_at, content_at}
 use Rattle.clover_rule.specs.declared.view.View.{View}
 use Rattle.clover_rule.proofs.Spelling.{nth_all, short_enough}
-use Rattle.clover_walk.specs.Alone.{alone, HasVersion, ReachesAfter, raised}
-use Rattle.clover_walk.specs.Walking.{Walking, Stand, AtRoot, AtTag, AtLink, OnTail, Ended, IsOnWay, walk_step, goes_on, key_at}
-use Rattle.clover_walk.proofs.Alone.{load_leaves, root_law, raised_version, last_range, content_words}
+use Rattle.clover_walk.specs.Alone.{alone, HasVersion, ReachesAfter, raised, version_words}
+use Rattle.clover_walk.specs.Walking.{Walking, Stand, AtShort, AtRoot, AtTag, AtLink, OnTail, Ended, IsOnWay, walk_step, goes_on, key_at}
+use Rattle.clover_walk.specs.declared.start.Start.{Start}
+use Rattle.clover_walk.proofs.Alone.{load_leaves, start_law, raised_version, last_range, content_words}
 use Rattle.clover_get.specs.Alone.{Moment, next_step, GoesAlone, LeadsAlone, reply_at, StandsIn, EndsAfter, GetLaw}
 use Rattle.clover_get.specs.Getting.{Getting, Stage, Seeking, AtMeta, AtValue, AtFound, AtDead, AtBad, Over, IsOpen, Reads, getting, sought, stage_at, value_in, valued, read_stage}
 
@@ -55,6 +56,7 @@ seeking : (w : Walking) → IsOnWay w.stand → sought w ≡ getting w Seeking
 seeking w h = at w.stand h
   where
     at : (s : Stand) → IsOnWay s → getting w (stage_at s) ≡ getting w Seeking
+    at AtShort h = refl
     at AtRoot h = refl
     at (AtTag t) h = refl
     at (AtLink t u) h = refl
@@ -106,12 +108,6 @@ open_valued t f size j = go (ltb j (words_of size))
     go : (b : Bool) → IsOpen (cond b (AtValue t f j) (AtFound t f))
     go true = tt
     go false = tt
-
-not_below : (a b : ℕ) → b ≤ a → ltb a b ≡ false
-not_below a b h = grind (arith, nat_tests)
-
-is_below : (a b : ℕ) → a < b → ltb a b ≡ true
-is_below a b h = grind (arith, nat_tests)
 
 -- the room has so many words of the value, and its length
 record Has (x : Value) (j : ℕ) (room : ValueBuf) : Type 0 where
@@ -202,7 +198,7 @@ module _ (w : Walking) (ws : List ℕ) (u : ℕ) where
       let less : j < words_of (length x.bytes) = omega arith in
       let short = h.fits.1 in let most = w.pool.words_fit in
       let lt : j < 128 = omega arith in
-      let at : valued u x.flags (length x.bytes) j ≡ AtValue u x.flags j = ap (λ (b : Bool). cond b (AtValue u x.flags j) (AtFound u x.flags)) (is_below j (words_of (length x.bytes)) less) in
+      let at : valued u x.flags (length x.bytes) j ≡ AtValue u x.flags j = ap (λ (b : Bool). cond b (AtValue u x.flags j) (AtFound u x.flags)) (lt-ltb j (words_of (length x.bytes)) less) in
       subst (λ (k : ℕ). Comes w.pool v k (moment ws (getting w (valued u x.flags (length x.bytes) j)) room) Q) (let y : suc (r + n) ≡ suc r + n = omega arith in y)
       (subst (λ (s : Stage). Comes w.pool v (suc (r + n)) (moment ws (getting w s) room) Q) (sym at)
       (and_then w.pool v (r + n) (moment ws (getting w (AtValue u x.flags j)) room) _ Q (after_value (v 0) x.flags j (packed x.bytes j) room lt (word_at w.pool ws u x h j less))
@@ -216,7 +212,7 @@ module _ (w : Walking) (ws : List ℕ) (u : ℕ) where
   meta_values x Q h r n l rest v room =
       let size = short_enough w.pool (length x.bytes) h.fits.1 in
       let m : MetaParts = record { kind = IsValue; flags = x.flags; length = length x.bytes } in
-      let at : read_stage w.pool u (Some m) ≡ valued u x.flags (length x.bytes) 0 = ap (λ (b : Bool). cond b (AtBad u) (valued u x.flags (length x.bytes) 0)) (not_below (8 * w.pool.words) (length x.bytes) h.fits.1) in
+      let at : read_stage w.pool u (Some m) ≡ valued u x.flags (length x.bytes) 0 = ap (λ (b : Bool). cond b (AtBad u) (valued u x.flags (length x.bytes) 0)) (le-ltb (8 * w.pool.words) (length x.bytes) h.fits.1) in
       and_then w.pool v (r + n) (moment ws (getting w (AtMeta u)) room) _ Q (after_meta (v 0) room m (h.fits.0, size) (meta_at w.pool ws u x h) size)
       (λ c d. subst (λ (b : Moment). Comes w.pool (λ (i : ℕ). v (suc i)) (r + n) b Q) (λ i. moment (sym d.0 i) (sym (d.1 ∙ ap (getting w) at) i) c.room)
       (values x Q h r n 0 r (omega arith) l rest (λ (i : ℕ). v (suc i)) c.room (record { size = d.2; words = λ k lt. absurd (omega arith) })))
@@ -238,7 +234,7 @@ module _ (w : Walking) (ws : List ℕ) (u : ℕ) where
   Done o b = (b.call.stage ≡ Over) × StandsIn o b.room × (b.words ≡ ws)
 
   all_found : (x : Value) → valued u x.flags (length x.bytes) (words_of (length x.bytes)) ≡ AtFound u x.flags
-  all_found x = ap (λ (b : Bool). cond b (AtValue u x.flags (words_of (length x.bytes))) (AtFound u x.flags)) (not_below (words_of (length x.bytes)) (words_of (length x.bytes)) (omega arith))
+  all_found x = ap (λ (b : Bool). cond b (AtValue u x.flags (words_of (length x.bytes))) (AtFound u x.flags)) (le-ltb (words_of (length x.bytes)) (words_of (length x.bytes)) (omega arith))
 
   tail_open : (o : Option Value) → HasVersion w.pool ws u o → (j : ℕ) → j ≤ length (content o) → (v : ℕ → View) (room : ValueBuf) → Comes w.pool v j (moment ws (getting w (AtMeta u)) room) OpenNow
   tail_open o h zero l v room = stay w.pool v (moment ws (getting w (AtMeta u)) room) OpenNow tt
@@ -268,9 +264,9 @@ module _ (w : Walking) (ws : List ℕ) (u : ℕ) where
       (and_then w.pool y 0 (moment ws (getting w (AtFound u x.flags)) r) _ (Done (Some x)) (found_one (y 0) x.flags r h.next)
       (λ c e. stay w.pool _ c (Done (Some x)) (ap (λ (b : Moment). b.call.stage) e, ap (λ (b : Moment). value_in x.flags b.room) e ∙ has_all x r h.fits.2 (short_enough w.pool (length x.bytes) h.fits.1) has, ap (λ (b : Moment). b.words) e)))) v room)
 
-module _ (ws : List ℕ) (w : Walking) (room : ValueBuf) (ts : List ℕ) (u : ℕ) (o : Option Value) (e : w.stand ≡ AtRoot) (r : ReachesAfter (2 * length ts + 2) ws w ts u) where
+module _ (ws : List ℕ) (w : Walking) (room : ValueBuf) (ts : List ℕ) (u : ℕ) (o : Option Value) (m turns : ℕ) (f : Start) (way : IsOnWay w.stand) (r : ReachesAfter m ws w turns f ts u) where
   abbrev tail_walk : Walking
-  tail_walk = record w { turns = w.turns + length ts; first = false; stand = OnTail u }
+  tail_walk = record w { turns = w.turns + turns; first = false; start = f; stand = OnTail u }
 
   abbrev tail_words : List ℕ
   tail_words = raised w.pool w.slot (ts ++ u ∷ []) ws
@@ -279,43 +275,45 @@ module _ (ws : List ℕ) (w : Walking) (room : ValueBuf) (ts : List ℕ) (u : �
   start = moment ws (getting w Seeking) room
 
   begins : sought w ≡ getting w Seeking
-  begins = seeking w (subst IsOnWay (sym e) tt)
+  begins = seeking w way
 
-  at_tail : (Q : Moment → Type 0) (n : ℕ) → ((v : ℕ → View) → Comes w.pool v n (moment tail_words (getting tail_walk (AtMeta u)) room) Q) → (v : ℕ → View) → Comes w.pool v (2 * length ts + 2 + n) start Q
+  at_tail : (Q : Moment → Type 0) (n : ℕ) → ((v : ℕ → View) → Comes w.pool v n (moment tail_words (getting tail_walk (AtMeta u)) room) Q) → (v : ℕ → View) → Comes w.pool v (m + n) start Q
   at_tail Q n rest v =
-      subst (λ (g : Getting). Comes w.pool v (2 * length ts + 2 + n) (moment ws g room) Q) begins
-      (walking w.pool Q (2 * length ts + 2) n ws w room r.before (λ y. subst (λ (b : Moment). Comes w.pool y n b Q) (λ i. moment (sym r.words i) (sought (sym r.there i)) room) (rest y)) v)
+      subst (λ (g : Getting). Comes w.pool v (m + n) (moment ws g room) Q) begins
+      (walking w.pool Q m n ws w room r.before (λ y. subst (λ (b : Moment). Comes w.pool y n b Q) (λ i. moment (sym r.words i) (sought (sym r.there i)) room) (rest y)) v)
 
-  on_way : (k : ℕ) → k < 2 * length ts + 2 → (v : ℕ → View) → Comes w.pool v k start (λ (b : Moment). IsOpen b.call.stage)
+  on_way : (k : ℕ) → k < m → (v : ℕ → View) → Comes w.pool v k start (λ (b : Moment). IsOpen b.call.stage)
   on_way k l v =
       subst (λ (j : ℕ). Comes w.pool v j start (λ (b : Moment). IsOpen b.call.stage)) (let z : k + 0 ≡ k = omega arith in z)
       (subst (λ (g : Getting). Comes w.pool v (k + 0) (moment ws g room) (λ (b : Moment). IsOpen b.call.stage)) begins
       (walking w.pool (λ (b : Moment). IsOpen b.call.stage) k 0 ws w room (λ j lt. r.before j (omega arith))
       (λ y. stay w.pool y _ (λ (b : Moment). IsOpen b.call.stage) (subst (λ (g : Getting). IsOpen g.stage) (sym (seeking (alone w.pool k ws w).1 (r.before k l))) tt)) v))
 
-  open_before : HasVersion w.pool tail_words u o → (k : ℕ) → k < 2 * length ts + 3 + length (content o) → (v : ℕ → View) → Comes w.pool v k start (λ (b : Moment). IsOpen b.call.stage)
-  open_before h k l v = go (dec_le (suc k) (2 * length ts + 2))
+  open_before : HasVersion w.pool tail_words u o → (k : ℕ) → k < m + 1 + length (content o) → (v : ℕ → View) → Comes w.pool v k start (λ (b : Moment). IsOpen b.call.stage)
+  open_before h k l v = go (dec_le (suc k) m)
     where
-      go : Dec (suc k ≤ 2 * length ts + 2) → Comes w.pool v k start (λ (b : Moment). IsOpen b.call.stage)
+      go : Dec (suc k ≤ m) → Comes w.pool v k start (λ (b : Moment). IsOpen b.call.stage)
       go (yes d) = on_way k (omega arith) v
       go (no d) =
-          let j : ℕ = k - (2 * length ts + 2) in
-          subst (λ (n : ℕ). Comes w.pool v n start (λ (b : Moment). IsOpen b.call.stage)) (let z : 2 * length ts + 2 + j ≡ k = omega arith in z)
+          let j : ℕ = k - m in
+          subst (λ (n : ℕ). Comes w.pool v n start (λ (b : Moment). IsOpen b.call.stage)) (let z : m + j ≡ k = omega arith in z)
           (at_tail (λ (b : Moment). IsOpen b.call.stage) j (λ y. tail_open tail_walk tail_words u o h j (omega arith) y room) v)
 
-  ends : HasVersion w.pool tail_words u o → (v : ℕ → View) → EndsAfter (2 * length ts + 3 + length (content o)) v start u o tail_words
+  ends : HasVersion w.pool tail_words u o → (v : ℕ → View) → EndsAfter (m + 1 + length (content o)) v start u o tail_words
   ends h v =
-      let whole = subst (λ (n : ℕ). Comes w.pool v n start (Done tail_walk tail_words u o)) (let z : 2 * length ts + 2 + suc (length (content o)) ≡ 2 * length ts + 3 + length (content o) = omega arith in z)
+      let whole = subst (λ (n : ℕ). Comes w.pool v n start (Done tail_walk tail_words u o)) (let z : m + suc (length (content o)) ≡ m + 1 + length (content o) = omega arith in z)
       (at_tail (Done tail_walk tail_words u o) (suc (length (content o))) (λ y. tail_over tail_walk tail_words u o h y room) v) in
       record {
         runs = whole.runs;
         before = λ k b l run. (open_before h k l v).each b run;
         last = λ k b y q run. (at_tail (Last tail_walk tail_words u o) (length (content o)) (λ z. tail_last tail_walk tail_words u o h z room) v).each b
-            (subst (λ (n : ℕ). LeadsAlone w.pool v n start b) (let z : k ≡ 2 * length ts + 2 + length (content o) = omega arith in z) run) y;
+            (subst (λ (n : ℕ). LeadsAlone w.pool v n start b) (let z : k ≡ m + length (content o) = omega arith in z) run) y;
         over = whole.each;
       }
 
 pub get_law : GetLaw
-get_law v ws w room ts u o e low l below h =
-    subst (λ (n : ℕ). EndsAfter (2 * length ts + 3 + n) v (moment ws (getting w Seeking) room) u o (raised w.pool w.slot (ts ++ u ∷ []) ws)) (content_words o)
-    (ends ws w room ts u o e (root_law ws w ts u e low l below) (raised_version w.pool w.slot (ts ++ u ∷ []) ws u o l.range (last_range w.pool ts u l.range) h) v)
+get_law v ws w room known y ts u o c h =
+    let l = c.leads in
+    let r = start_law ws w known y ts u c in
+    subst (λ (n : ℕ). EndsAfter n v (moment ws (getting w Seeking) room) u o (raised w.pool w.slot (ts ++ u ∷ []) ws)) (let q = content_words o in let e : y.loads + 2 * length ts + 1 + 1 + length (content o) ≡ y.loads + 2 * length ts + 2 + version_words o = omega arith in e)
+    (ends ws w room ts u o (y.loads + 2 * length ts + 1) (y.stale + length ts) y.start (r.before 0 (omega arith)) r (raised_version w.pool w.slot (ts ++ u ∷ []) ws u o l.range (last_range w.pool ts u l.range) h) v)

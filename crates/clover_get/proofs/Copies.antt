@@ -1,5 +1,5 @@
 -- What a get has copied of the tail: how it grows by one load, and what it shows at the last load.
-use Prim.Native.Nat.{zero, suc}
+use Prim.Native.Nat.{suc}
 use Rattle.std.proofs.Common.{◌≡◌, ◌≢◌, ℕ, ◌+◌, ◌*◌, ◌^◌, ◌<◌, ◌≤◌, List, [], ◌∷◌, ◌++◌, length, Bool, true, false, ltb, refl, sym, ap, ◌∙◌, inl, inr, ⊎_elim, subst, arith}
 use Rattle.std.specs.Prelude.{◌⊎◌, slice_index, None}
 use Rattle.std.proofs.lemmas.List.{length-take-le, get_or-take}
@@ -9,7 +9,7 @@ use Rattle.clover_words.specs.declared.meta.Kind.TheVariants.{Value as IsValue, 
 use Rattle.clover_words.specs.declared.pool.Pool.{Pool}
 use Rattle.clover_words.specs.declared.word.Word.TheVariants.{Meta, Value as ValueOf}
 use Rattle.clover_words.specs.Meta.{meta_word}
-use Rattle.clover_words.specs.Pack.{packed, words_of, eight_at}
+use Rattle.clover_words.specs.Pack.{packed, words_of}
 use Rattle.clover_words.proofs.Packing.{packed_spells}
 use Rattle.clover_map.specs.declared.call.Call.TheVariants.{Get}
 use Rattle.clover_map.specs.declared.call.Reply.TheVariants.{Found, Absent}
@@ -23,18 +23,13 @@ use Rattle.clover_rule.specs.declared.access.Act.{Act}
 use Rattle.clover_rule.specs.declared.access.Act.TheVariants.{Load}
 use Rattle.clover_rule.specs.declared.view.Content.{Content}
 use Rattle.clover_rule.specs.declared.view.View.{View}
-use Rattle.clover_rule.proofs.Spelling.{meta_apart, meta_parts, short_enough}
-use Rattle.clover_rule.proofs.Steps.{within_prefix}
+use Rattle.clover_rule.proofs.Spelling.{eight_byte, meta_apart, meta_parts, short_enough}
+use Rattle.clover_rule.proofs.Steps.{within_last, within_prefix}
 use Rattle.clover_rule.proofs.Ties.{buffer_in, content_in}
 use Rattle.clover_walk.specs.Walking.{Walking, Stand, StandsOn as WalkStandsOn, Holds, key_at}
 use Rattle.clover_get.specs.Copying.{Copied, CopiedDead, CopiedBad, copy}
 use Rattle.clover_get.specs.Getting.{Reads, value_in}
 use Rattle.clover_get.specs.Holding.{IsAt}
-
--- the last element of a list stands in it
-pub within_last : {A : Type 0} (xs : List A) (a : A) → Within a (xs ++ a ∷ [])
-within_last [] a = inl refl
-within_last (x ∷ xs) a = inr (within_last xs a)
 
 join_last : {A : Type 0} (xs ys : List A) (a b : A) → (xs ++ a ∷ ys) ++ b ∷ [] ≡ xs ++ a ∷ (ys ++ b ∷ [])
 join_last [] ys a b = refl
@@ -48,22 +43,11 @@ module _ (f : ℕ) (into : ValueBuf) where
   pub value_meta_is : meta_word (record { kind = IsValue; flags = f; length = into.length }) ≡ value_meta (value_in f into)
   value_meta_is = ap (λ (n : ℕ). meta_word (record { kind = IsValue; flags = f; length = n })) (sym value_length)
 
-  byte_of : (k i : ℕ) → i < 8 → slice_index (eight_at into.bytes k) i ≡ slice_index into.bytes (8 * k + i)
-  byte_of k zero lt = ap (slice_index into.bytes) (omega arith)
-  byte_of k (suc zero) lt = refl
-  byte_of k (suc (suc zero)) lt = refl
-  byte_of k (suc (suc (suc zero))) lt = refl
-  byte_of k (suc (suc (suc (suc zero)))) lt = refl
-  byte_of k (suc (suc (suc (suc (suc zero))))) lt = refl
-  byte_of k (suc (suc (suc (suc (suc (suc zero)))))) lt = refl
-  byte_of k (suc (suc (suc (suc (suc (suc (suc zero))))))) lt = refl
-  byte_of k (suc (suc (suc (suc (suc (suc (suc (suc i)))))))) lt = absurd (omega arith)
-
   -- each word of the room spells the value's bytes there, as far as they go
   pub value_unpacks : (k : ℕ) → Unpacks (packed into.bytes k) (value_in f into) k
   value_unpacks k i lt in_value =
       let n = value_length in
-      ap (λ (bs : List ℕ). slice_index bs i) (packed_spells into.bytes k into.room.bytes) ∙ byte_of k i lt ∙ sym (get_or-take into.length into.bytes (8 * k + i) 0 (omega arith))
+      ap (λ (bs : List ℕ). slice_index bs i) (packed_spells into.bytes k into.room.bytes) ∙ eight_byte into.bytes k i lt ∙ sym (get_or-take into.length into.bytes (8 * k + i) 0 (omega arith))
 
 -- what a get may ask of the tail that it stands on
 module _ (p : Pool) (w : Walking) (t : ℕ) (v : View) (of : p ≡ w.pool) (holds : Holds w v) (at : IsAt w t) where
@@ -111,7 +95,7 @@ module _ (p : Pool) (s t f j : ℕ) (v v1 : View) (into into1 : ValueBuf) (x : �
 
   more_loads : (k : ℕ) → (k ≡ j) ⊎ (k < j) → Within (Load (ValueOf (buffer_at (home t)) k) (packed into1.bytes k)) (c.loads.after ++ Load (ValueOf (buffer_at (home t)) j) x ∷ [])
   more_loads k (inl e) = subst (λ (a : Act). Within a (c.loads.after ++ Load (ValueOf (buffer_at (home t)) j) x ∷ []))
-      (λ i. Load (ValueOf (buffer_at (home t)) (sym e i)) ((sym packs ∙ ap (packed into1.bytes) (sym e)) i)) (within_last c.loads.after (Load (ValueOf (buffer_at (home t)) j) x))
+      (λ i. Load (ValueOf (buffer_at (home t)) (sym e i)) ((sym packs ∙ ap (packed into1.bytes) (sym e)) i)) (within_last (Load (ValueOf (buffer_at (home t)) j) x) c.loads.after)
   more_loads k (inr l) = within_prefix _ c.loads.after _ (subst (λ (y : ℕ). Within (Load (ValueOf (buffer_at (home t)) k) y) c.loads.after) (sym (kept k (λ e. omega arith))) (c.loads.words k l))
 
   here_or_below : (k : ℕ) → k < suc j → (k ≡ j) ⊎ (k < j)
@@ -160,7 +144,7 @@ module _ (p : Pool) (s t : ℕ) (v v1 : View) (x : ℕ) (copied : v1.pass.copied
   pub first_dead : tombstone ≡ x → CopiedDead s t v1
   first_dead e = record {
     meta = subst (λ (y : ℕ). Within (s, copy t 0 y) v1.pass.copied) (sym e) first_copied;
-    load = subst (λ (acts : List Act). Within (Load (Meta (buffer_at (home t))) tombstone) acts) (sym (since ∙ ap (λ (y : ℕ). v.pass.since ++ Load (Meta (buffer_at (home t))) y ∷ []) (sym e))) (within_last v.pass.since (Load (Meta (buffer_at (home t))) tombstone));
+    load = subst (λ (acts : List Act). Within (Load (Meta (buffer_at (home t))) tombstone) acts) (sym (since ∙ ap (λ (y : ℕ). v.pass.since ++ Load (Meta (buffer_at (home t))) y ∷ []) (sym e))) (within_last (Load (Meta (buffer_at (home t))) tombstone) v.pass.since);
   }
 
   pub first_bad : (IsMetaWord p x → ⊥) → CopiedBad p s t v1

@@ -1,19 +1,14 @@
 -- How many accesses a get makes: each step of its walk and each last load that misses stays within what the turns allow.
 use Prim.Native.Nat.{suc}
-use Rattle.std.proofs.Common.{◌≡◌, ◌≢◌, ℕ, ◌+◌, ◌*◌, ◌≤◌, List, [], ◌∷◌, ◌++◌, length, Bool, true, false, cond, eqb, ltb, refl, sym, ap, subst, eqb-true, arith}
+use Rattle.std.proofs.Common.{◌≡◌, ◌≢◌, ℕ, ◌+◌, ◌*◌, ◌≤◌, List, [], length, Bool, true, false, cond, eqb, refl, sym, subst, eqb-true, arith}
 use Rattle.std.specs.Prelude.{Option, Some, None}
 use Rattle.clover_rule.specs.Memory.{Next, word, age}
 use Rattle.clover_rule.specs.Steps.{unlinked}
 use Rattle.clover_rule.specs.Words.{next_of, next_code, root_of}
-use Rattle.clover_walk.specs.Walking.{Walking, Stand, AtRoot, AtTag, AtLink, OnTail, Ended, IsOnWay, turned, hops, followed, rooted, goes_from, goes_on, begins, next_start, budget}
+use Rattle.clover_walk.specs.Walking.{Walking, Stand, AtShort, AtRoot, AtTag, AtLink, OnTail, Ended, IsOnWay, turned, hops, followed, shortened, rooted, goes_from, goes_on, begins, next_start}
 use Rattle.clover_walk.specs.declared.start.Start.{Start}
-use Rattle.clover_walk.specs.declared.start.Start.TheVariants.{FromCursor, FromRoot}
 use Rattle.clover_walk.proofs.Codes.{no_turn}
 use Rattle.clover_get.specs.Holding.{walked}
-
-pub length_snoc : {A : Type 0} (xs : List A) (a : A) → length (xs ++ a ∷ []) ≡ suc (length xs)
-length_snoc [] a = refl
-length_snoc (x ∷ xs) a = ap suc (length_snoc xs a)
 
 pub length_first : {A : Type 0} (b : Bool) (xs : List A) → length (cond b [] xs) ≡ cond b 0 (length xs)
 length_first true xs = refl
@@ -21,7 +16,7 @@ length_first false xs = refl
 
 -- so many accesses since the call's start, where the walk stands
 abbrev pub InTurns : Walking → ℕ → Type 0
-InTurns w n = n ≤ w.turns * (w.pool.words + 4) + walked w.stand
+InTurns w n = n ≤ w.turns * (w.pool.words + 5) + walked w.stand
 
 -- the walk after an access of its call, so many accesses since its start
 pub record Goes (w w1 : Walking) (n : ℕ) : Type 0 where
@@ -31,40 +26,37 @@ pub record Goes (w w1 : Walking) (n : ℕ) : Type 0 where
   pub count : InTurns w1 n
 
 module _ (w : Walking) (n : ℕ) where
-  either_end : (b : Bool) (at : Stand) → walked at ≡ 0 → walked (cond b at Ended) ≡ 0
-  either_end true at e = e
-  either_end false at e = refl
-
-  turned_goes : (f : Start) (at : Stand) → walked at ≡ 0 → n ≤ (suc w.turns) * (w.pool.words + 4) → Goes w (turned w f at) n
-  turned_goes f at e h = let q = either_end (ltb (suc w.turns) (budget w.pool)) at e in record { pool = refl; slot = refl; first = refl; count = omega arith }
-
-  start_goes : (f : Start) → n ≤ (suc w.turns) * (w.pool.words + 4) → Goes w (turned w (next_start f) (begins (next_start f))) n
-  start_goes FromCursor h = turned_goes FromRoot AtRoot refl h
-  start_goes FromRoot h = turned_goes FromRoot AtRoot refl h
+  turned_goes : (f : Start) (at : Stand) → n ≤ (suc w.turns) * (w.pool.words + 5) → Goes w (turned w f at) n
+  turned_goes f at h = record { pool = refl; slot = refl; first = refl; count = omega arith }
 
   -- a next word at its tag's generation, and another one
-  hops_goes : (t : ℕ) (l : Option ℕ) → (l ≡ None → n ≤ w.turns * (w.pool.words + 4) + 2) → n ≤ (suc w.turns) * (w.pool.words + 4) → Goes w (hops w t l) n
+  hops_goes : (t : ℕ) (l : Option ℕ) → (l ≡ None → n ≤ w.turns * (w.pool.words + 5) + 3) → n ≤ (suc w.turns) * (w.pool.words + 5) → Goes w (hops w t l) n
   hops_goes t None tail h = record { pool = refl; slot = refl; first = refl; count = tail refl }
-  hops_goes t (Some u) tail h = turned_goes w.start (AtLink t u) refl h
+  hops_goes t (Some u) tail h = turned_goes w.start (AtLink t u) h
 
-  followed_by : (t a : ℕ) (l : Option ℕ) (b : Bool) → eqb a (age t) ≡ b → (a ≡ age t → l ≡ None → n ≤ w.turns * (w.pool.words + 4) + 2) → n ≤ (suc w.turns) * (w.pool.words + 4)
+  followed_by : (t a : ℕ) (l : Option ℕ) (b : Bool) → eqb a (age t) ≡ b → (a ≡ age t → l ≡ None → n ≤ w.turns * (w.pool.words + 5) + 3) → n ≤ (suc w.turns) * (w.pool.words + 5)
       → Goes w (cond b (hops w t l) (turned w (next_start w.start) (begins (next_start w.start)))) n
   followed_by t a l true e tail h = hops_goes t l (tail (eqb-true a (age t) e)) h
-  followed_by t a l false e tail h = start_goes w.start h
+  followed_by t a l false e tail h = turned_goes (next_start w.start) (begins (next_start w.start)) h
 
-  followed_goes : (t : ℕ) (z : Next) → (z ≡ word (age t) None → n ≤ w.turns * (w.pool.words + 4) + 2) → n ≤ (suc w.turns) * (w.pool.words + 4) → Goes w (followed w t z) n
+  followed_goes : (t : ℕ) (z : Next) → (z ≡ word (age t) None → n ≤ w.turns * (w.pool.words + 5) + 3) → n ≤ (suc w.turns) * (w.pool.words + 5) → Goes w (followed w t z) n
   followed_goes t (word a l) tail h = followed_by t a l (eqb a (age t)) refl (λ e d. tail (λ i. word (e i) (d i))) h
 
-rooted_goes : (w : Walking) (n : ℕ) (o : Option ℕ) → (t : ℕ) × (o ≡ Some t) → n ≤ w.turns * (w.pool.words + 4) + 1 → Goes w (rooted w o) n
+rooted_goes : (w : Walking) (n : ℕ) (o : Option ℕ) → (t : ℕ) × (o ≡ Some t) → n ≤ w.turns * (w.pool.words + 5) + 2 → Goes w (rooted w o) n
 rooted_goes w n None (t, e) h = absurd cc
 rooted_goes w n (Some u) e h = record { pool = refl; slot = refl; first = refl; count = h }
+
+shortened_goes : (w : Walking) (n : ℕ) (o : Option ℕ) → n ≤ w.turns * (w.pool.words + 5) + 1 → Goes w (shortened w o) n
+shortened_goes w n None h = record { pool = refl; slot = refl; first = refl; count = h }
+shortened_goes w n (Some t) h = record { pool = refl; slot = refl; first = refl; count = omega arith }
 
 -- what a load of a root says
 abbrev pub HasRoot : Stand → ℕ → Type 0
 HasRoot AtRoot x = (t : ℕ) × (root_of x ≡ Some t)
 HasRoot at x = Unit {0}
 
-goes_by : (at : Stand) (w : Walking) (x n : ℕ) → IsOnWay at → HasRoot at x → n ≤ w.turns * (w.pool.words + 4) + walked at → Goes w (goes_from at w x) (suc n)
+goes_by : (at : Stand) (w : Walking) (x n : ℕ) → IsOnWay at → HasRoot at x → n ≤ w.turns * (w.pool.words + 5) + walked at → Goes w (goes_from at w x) (suc n)
+goes_by AtShort w x n way root h = shortened_goes w (suc n) (root_of x) (omega arith)
 goes_by AtRoot w x n way root h = rooted_goes w (suc n) (root_of x) root (omega arith)
 goes_by (AtTag t) w x n way root h = followed_goes w (suc n) t (next_of x) (λ e. omega arith) (omega arith)
 goes_by (AtLink t u) w x n way root h = record { pool = refl; slot = refl; first = refl; count = omega arith }
@@ -76,11 +68,11 @@ pub goes : (w : Walking) (x n : ℕ) → IsOnWay w.stand → HasRoot w.stand x �
 goes w x n way root h = goes_by w.stand w x n way root h
 
 -- a load at the tail that showed it not unlinked
-pub misses : (w : Walking) (t x n : ℕ) → w.stand ≡ OnTail t → next_code (next_of x) ≡ x → x ≢ unlinked t → n ≤ w.turns * (w.pool.words + 4) + (3 + w.pool.words) → Goes w (goes_on w x) (suc n)
+pub misses : (w : Walking) (t x n : ℕ) → w.stand ≡ OnTail t → next_code (next_of x) ≡ x → x ≢ unlinked t → n ≤ w.turns * (w.pool.words + 5) + (4 + w.pool.words) → Goes w (goes_on w x) (suc n)
 misses w t x n at code d h =
     subst (λ (z : Stand). Goes w (goes_from z w x) (suc n)) (sym at)
     (followed_goes w (suc n) t (next_of x) (λ e. absurd (d (no_turn t x code e).0)) (omega arith))
 
 -- what the turns allow is within the bound of a call
-pub bounded : (turns words extra n : ℕ) → extra ≤ 4 + words → n ≤ turns * (words + 4) + extra → n ≤ (turns + 1) * (words + 5) + 2 * words + 4
+pub bounded : (turns words extra n : ℕ) → extra ≤ 5 + words → n ≤ turns * (words + 5) + extra → n ≤ (turns + 1) * (words + 5) + 2 * words + 4
 bounded turns words extra n e h = omega arith

@@ -16,9 +16,11 @@ use Rattle.clover_map.specs.declared.call.Reply.{Reply}
 use Rattle.clover_map.specs.declared.call.Reply.TheVariants.{Found, Absent}
 use Rattle.clover_port.specs.Told.{Open, Made}
 use Rattle.clover_rule.specs.Accesses.{AtTail, SawWhole, SawDead}
+use Rattle.clover_rule.specs.Content.{InRange}
 use Rattle.clover_rule.specs.Lists.{Within}
-use Rattle.clover_rule.specs.Steps.{Step, LoadContent, DecideNext, number_of, unlinked}
+use Rattle.clover_rule.specs.Steps.{Step, LoadContent, DecideNext, number_of, unlinked, act_of, turn_at, counted, decided, seen}
 use Rattle.clover_rule.specs.Told.{AreOneVersion}
+use Rattle.clover_rule.specs.Words.{next_of}
 use Rattle.clover_rule.specs.declared.view.Role.{Role}
 use Rattle.clover_rule.specs.declared.view.Role.TheVariants.{Client}
 use Rattle.clover_rule.specs.declared.view.View.{View}
@@ -32,16 +34,13 @@ use Rattle.clover_get.specs.Holding.{GetHolds, StandsOn, IsAt, copied}
 use Rattle.clover_get.proofs.Copies.{more_value, first_value, first_dead, first_bad, undecoded, too_long}
 use Rattle.clover_get.proofs.Counting.{bounded}
 use Rattle.clover_get.proofs.Versions.{saw_whole}
-use Rattle.clover_get.proofs.Walks.{one_more}
+use Rattle.clover_get.proofs.Walks.{made_later, one_more}
 
 -- a value of so many bytes takes no more words than the buffers have
 words_fit : (n w : ℕ) → n ≤ 8 * w → words_of n ≤ w
 words_fit n w h = omega arith
 
 module _ (p : Pool) (f f1 : ℕ) (w : Walking) (t : ℕ) (v : View) (o : Option Open) (x : ℕ) (v1 : View) (o1 : Option Open) (of : p ≡ w.pool) where
-  later : (a : Step) → w.first ≡ false → Made p a false v o x v1 o1 → Made p a w.first v o x v1 o1
-  later a e made = subst (λ (b : Bool). Made p a b v o x v1 o1) (sym e) made
-
   -- what the walk stands on stays so where a content word was loaded
   still_holds : (j : ℕ) → Holds w v → IsAt w t → Made p (LoadContent w.slot t j) false v o x v1 o1 → Holds w v1
   still_holds j h at made =
@@ -59,12 +58,12 @@ module _ (p : Pool) (f f1 : ℕ) (w : Walking) (t : ℕ) (v : View) (o : Option 
       }
 
   -- the accesses of the call after it, within those that the turns allow
-  counts : (a : Step) (extra : ℕ) → IsAt w t → Made p a false v o x v1 o1 → cond w.first 0 (length v.pass.since) ≤ w.turns * (w.pool.words + 4) + extra → length v1.pass.since ≤ w.turns * (w.pool.words + 4) + suc extra
+  counts : (a : Step) (extra : ℕ) → IsAt w t → Made p a false v o x v1 o1 → cond w.first 0 (length v.pass.since) ≤ w.turns * (w.pool.words + 5) + extra → length v1.pass.since ≤ w.turns * (w.pool.words + 5) + suc extra
   counts a extra at made h =
       let e = one_more p a false v o x v1 o1 made in
-      let b : length v.pass.since ≤ w.turns * (w.pool.words + 4) + extra = subst (λ (b : Bool). cond b 0 (length v.pass.since) ≤ w.turns * (w.pool.words + 4) + extra) at.1 h in omega arith
+      let b : length v.pass.since ≤ w.turns * (w.pool.words + 5) + extra = subst (λ (b : Bool). cond b 0 (length v.pass.since) ≤ w.turns * (w.pool.words + 5) + extra) at.1 h in omega arith
 
-  allows : (extra : ℕ) → extra ≤ 4 + w.pool.words → w.turns ≡ v1.pass.turns → length v1.pass.since ≤ w.turns * (w.pool.words + 4) + extra → length v1.pass.since ≤ most_accesses p v1.pass.turns
+  allows : (extra : ℕ) → extra ≤ 5 + w.pool.words → w.turns ≡ v1.pass.turns → length v1.pass.since ≤ w.turns * (w.pool.words + 5) + extra → length v1.pass.since ≤ most_accesses p v1.pass.turns
   allows extra few e h =
       let b : length v1.pass.since ≤ most_accesses w.pool w.turns = bounded w.turns w.pool.words extra (length v1.pass.since) few h in
       subst (λ (n : ℕ). length v1.pass.since ≤ most_accesses p n) e (subst (λ (q : Pool). length v1.pass.since ≤ most_accesses q w.turns) (sym of) b)
@@ -73,22 +72,23 @@ module _ (p : Pool) (f f1 : ℕ) (w : Walking) (t : ℕ) (v : View) (o : Option 
   turns_now h at = sym (subst (λ (b : Bool). cond b 0 v1.pass.turns ≡ w.turns) at.1 h.turns)
 
   -- a get that goes on at the tail
-  on_tail : (s : Stage) (into1 : ValueBuf) (extra : ℕ) → Holds w v1 → IsAt w t → StandsOn s w v1 into1 → length v1.pass.since ≤ w.turns * (w.pool.words + 4) + extra → extra ≤ copied s w.stand w.pool.words → GetHolds (getting w s) v1 into1
+  on_tail : (s : Stage) (into1 : ValueBuf) (extra : ℕ) → Holds w v1 → IsAt w t → StandsOn s w v1 into1 → length v1.pass.since ≤ w.turns * (w.pool.words + 5) + extra → extra ≤ copied s w.stand w.pool.words → GetHolds (getting w s) v1 into1
   on_tail s into1 extra h at stands n e = record {
     walk = h;
     stage = stands;
-    bound = subst (λ (b : Bool). cond b 0 (length v1.pass.since) ≤ w.turns * (w.pool.words + 4) + copied s w.stand w.pool.words) (sym at.1)
+    bound = subst (λ (b : Bool). cond b 0 (length v1.pass.since) ≤ w.turns * (w.pool.words + 5) + copied s w.stand w.pool.words) (sym at.1)
         (omega arith);
   }
 
   tail_went : (a : Step) (s : Stage) (g1 : Getting) (into into1 : ValueBuf) (extra : ℕ) → Holds w v1 → IsAt w t → (made : (x : ℕ) × Made p a w.first v o x v1 o1 × GoesOn (getting w s) into1.length x g1 × FillsFrom s x into into1)
       → a ≡ get_step (getting w s) (key_of (getting w s) v) into
-      → GetHolds g1 v1 into1 → length v1.pass.since ≤ w.turns * (w.pool.words + 4) + extra → extra ≤ 4 + w.pool.words → Went p f f1 (getting w s) g1 into into1 v o v1 o1 More
+      → GetHolds g1 v1 into1 → length v1.pass.since ≤ w.turns * (w.pool.words + 5) + extra → extra ≤ 5 + w.pool.words → Went p f f1 (getting w s) g1 into into1 v o v1 o1 More
   tail_went a s g1 into into1 extra h at made is holds n few = record {
     made = (made.0, subst (λ (b : Step). Made p b w.first v o made.0 v1 o1) is made.1, made.2, made.3);
     found = tt;
     at = tt;
     absent = tt;
+    known = tt;
     behind = tt;
     ahead = let e = turns_now h at in let b : w.turns < budget p = subst (λ (q : Pool). w.turns < budget q) (sym of) h.below in subst (λ (k : ℕ). k < budget p) e b;
     unreached = tt;
@@ -99,7 +99,7 @@ module _ (p : Pool) (f f1 : ℕ) (w : Walking) (t : ℕ) (v : View) (o : Option 
 
   -- the stage after so many value words
   valued_stands : (fl j n : ℕ) (into1 : ValueBuf) (b : Bool) → IsAt w t → ltb j (words_of n) ≡ b → into1.length ≡ n → j ≤ words_of n → Copied w.pool w.slot t fl j v1 into1
-      → StandsOn (cond b (AtValue t fl j) (AtFound t fl)) w v1 into1 × (3 + j ≤ copied (cond b (AtValue t fl j) (AtFound t fl)) w.stand w.pool.words)
+      → StandsOn (cond b (AtValue t fl j) (AtFound t fl)) w v1 into1 × (4 + j ≤ copied (cond b (AtValue t fl j) (AtFound t fl)) w.stand w.pool.words)
   valued_stands fl j n into1 true at q e le c = let less : j < words_of n = grind (arith, nat_tests) in ((at, subst (λ (k : ℕ). j < words_of k) (sym e) less, c), omega arith)
   valued_stands fl j n into1 false at q e le c =
       let not_less : j < words_of n → ⊥ = λ l. grind (arith, nat_tests) in
@@ -109,13 +109,13 @@ module _ (p : Pool) (f f1 : ℕ) (w : Walking) (t : ℕ) (v : View) (o : Option 
       ((at, subst (λ (k : ℕ). Copied w.pool w.slot t fl k v1 into1) (all ∙ sym same) c), omega arith)
 
   kind_stands : (k : Kind) (fl n : ℕ) (into1 : ValueBuf) → IsAt w t → Made p (LoadContent w.slot t 0) false v o x v1 o1 → IsVersion k fl n → meta_word (record { kind = k; flags = fl; length = n }) ≡ x → into1.length ≡ n
-      → StandsOn (read_kind w.pool t k fl n) w v1 into1 × (3 ≤ copied (read_kind w.pool t k fl n) w.stand w.pool.words)
+      → StandsOn (read_kind w.pool t k fl n) w v1 into1 × (4 ≤ copied (read_kind w.pool t k fl n) w.stand w.pool.words)
   kind_stands Tombstone fl n into1 at made h e size =
       let c = copied_one p w.slot t 0 false v o x v1 o1 made in let s = stepped p (LoadContent w.slot t 0) false v o x v1 o1 made in
       ((at, first_dead w.pool w.slot t v v1 x c.copied s.since ((λ i. meta_word (record { kind = Tombstone; flags = sym h.0 i; length = sym h.1 i })) ∙ e)), omega arith)
   kind_stands IsValue fl n into1 at made h e size = long (ltb (8 * w.pool.words) n) refl
     where
-      long : (b : Bool) → ltb (8 * w.pool.words) n ≡ b → StandsOn (cond b (AtBad t) (valued t fl n 0)) w v1 into1 × (3 ≤ copied (cond b (AtBad t) (valued t fl n 0)) w.stand w.pool.words)
+      long : (b : Bool) → ltb (8 * w.pool.words) n ≡ b → StandsOn (cond b (AtBad t) (valued t fl n 0)) w v1 into1 × (4 ≤ copied (cond b (AtBad t) (valued t fl n 0)) w.stand w.pool.words)
       long true q = let more : 8 * w.pool.words < n = grind (arith, nat_tests) in ((at, first_bad w.pool w.slot t v v1 x (copied_one p w.slot t 0 false v o x v1 o1 made).copied (stepped p (LoadContent w.slot t 0) false v o x v1 o1 made).since (too_long w.pool fl n x h.0 h.1 more e)), omega arith)
       long false q =
           let room : n ≤ 8 * w.pool.words = (let d : 8 * w.pool.words < n → ⊥ = λ l. grind (arith, nat_tests) in omega arith) in
@@ -123,7 +123,7 @@ module _ (p : Pool) (f f1 : ℕ) (w : Walking) (t : ℕ) (v : View) (o : Option 
           (first_value w.pool w.slot t v v1 x (copied_one p w.slot t 0 false v o x v1 o1 made).copied (stepped p (LoadContent w.slot t 0) false v o x v1 o1 made).since fl into1 h.0 (subst (λ (k : ℕ). k ≤ 8 * w.pool.words) (sym size) room) (ap (λ (k : ℕ). meta_word (record { kind = IsValue; flags = fl; length = k })) size ∙ e))
 
   meta_stands : (om : Option MetaParts) (into1 : ValueBuf) → IsAt w t → Made p (LoadContent w.slot t 0) false v o x v1 o1 → Reads x om → IfSome om (λ m. into1.length ≡ m.length)
-      → StandsOn (read_stage w.pool t om) w v1 into1 × (3 ≤ copied (read_stage w.pool t om) w.stand w.pool.words)
+      → StandsOn (read_stage w.pool t om) w v1 into1 × (4 ≤ copied (read_stage w.pool t om) w.stand w.pool.words)
   meta_stands None into1 at made r size =
       let c = copied_one p w.slot t 0 false v o x v1 o1 made in let s = stepped p (LoadContent w.slot t 0) false v o x v1 o1 made in
       ((at, first_bad w.pool w.slot t v v1 x c.copied s.since (undecoded w.pool x r)), omega arith)
@@ -134,10 +134,10 @@ module _ (p : Pool) (f f1 : ℕ) (w : Walking) (t : ℕ) (v : View) (o : Option 
   meta_went om g1 into into1 h made r value size bytes =
       let at = h.stage in
       let s = meta_stands om into1 at made r size in
-      let n = counts (LoadContent w.slot t 0) 2 at made h.bound in
+      let n = counts (LoadContent w.slot t 0) 3 at made h.bound in
       let k = still_holds 0 h.walk at made in
-      tail_went (LoadContent w.slot t 0) (AtMeta t) g1 into into1 3 k at (x, later (LoadContent w.slot t 0) at.1 made, (om, r, value), (bytes, λ m i e. subst (λ (z : Option MetaParts). IfSome z (λ (y : MetaParts). into1.length ≡ y.length)) (r.only m i e) size)) refl
-      (subst (λ (z : Getting). GetHolds z v1 into1) (sym value) (on_tail (read_stage w.pool t om) into1 3 k at s.0 n s.1)) n (omega arith)
+      tail_went (LoadContent w.slot t 0) (AtMeta t) g1 into into1 4 k at (x, made_later at.1 made, (om, r, value), (bytes, λ m i e. subst (λ (z : Option MetaParts). IfSome z (λ (y : MetaParts). into1.length ≡ y.length)) (r.only m i e) size)) refl
+      (subst (λ (z : Getting). GetHolds z v1 into1) (sym value) (on_tail (read_stage w.pool t om) into1 4 k at s.0 n s.1)) n (omega arith)
 
   pub value_went : (fl j : ℕ) (g1 : Getting) (into into1 : ValueBuf) → GetHolds (getting w (AtValue t fl j)) v into → Made p (LoadContent w.slot t (suc j)) false v o x v1 o1
       → g1 ≡ getting w (valued t fl into1.length (suc j)) → into1.length ≡ into.length → packed into1.bytes j ≡ x → ((k : ℕ) → k ≢ j → packed into1.bytes k ≡ packed into.bytes k)
@@ -151,11 +151,11 @@ module _ (p : Pool) (f f1 : ℕ) (w : Walking) (t : ℕ) (v : View) (o : Option 
       let same : words_of into1.length ≡ words_of into.length = ap words_of size in
       let stands = valued_stands fl (suc j) into1.length into1 (ltb (suc j) (words_of into1.length)) at refl refl (omega arith) next in
       let fit = words_fit into1.length w.pool.words next.size in
-      let n0 = counts (LoadContent w.slot t (suc j)) (3 + j) at made h.bound in
-      let n : length v1.pass.since ≤ w.turns * (w.pool.words + 4) + (3 + suc j) = omega arith in
+      let n0 = counts (LoadContent w.slot t (suc j)) (4 + j) at made h.bound in
+      let n : length v1.pass.since ≤ w.turns * (w.pool.words + 5) + (4 + suc j) = omega arith in
       let k = still_holds (suc j) h.walk at made in
-      tail_went (LoadContent w.slot t (suc j)) (AtValue t fl j) g1 into into1 (3 + suc j) k at (x, later (LoadContent w.slot t (suc j)) at.1 made, value, (bytes, size)) refl
-      (subst (λ (z : Getting). GetHolds z v1 into1) (sym value) (on_tail (valued t fl into1.length (suc j)) into1 (3 + suc j) k at stands.0 n stands.1)) n (omega arith)
+      tail_went (LoadContent w.slot t (suc j)) (AtValue t fl j) g1 into into1 (4 + suc j) k at (x, made_later at.1 made, value, (bytes, size)) refl
+      (subst (λ (z : Getting). GetHolds z v1 into1) (sym value) (on_tail (valued t fl into1.length (suc j)) into1 (4 + suc j) k at stands.0 n stands.1)) n (omega arith)
 
 -- the last load showed the tag unlinked
 module _ (p : Pool) (f f1 : ℕ) (w : Walking) (tag : TagParts) (v : View) (o : Option Open) (x : ℕ) (v1 : View) (o1 : Option Open) (of : p ≡ w.pool) where
@@ -167,6 +167,15 @@ module _ (p : Pool) (f f1 : ℕ) (w : Walking) (tag : TagParts) (v : View) (o : 
 
   below : Holds w v → v1.pass.turns ≡ w.turns → v1.pass.turns < budget p
   below h e = subst (λ (q : Pool). v1.pass.turns < budget q) (sym of) (subst (λ (k : ℕ). k < budget w.pool) (sym e) h.below)
+
+  -- the tail is of the pool, and is known to be durable as before
+  known_still : (c : Call) (r : Reply) → Holds w v → IsAt w (tag_number tag) → Made p (DecideNext w.slot (tag_number tag) c r) false v o x v1 o1 → x ≡ unlinked (tag_number tag)
+      → InRange w.pool (tag_number tag) × Within (w.slot, tag_number tag) v1.pass.durable
+  known_still c r h at made e =
+      let t : ℕ = tag_number tag in
+      let known : Within (w.slot, t) v.pass.durable = subst (λ (z : Stand). WalkStandsOn w.slot z v) at.0 h.stand in
+      let next : v1 ≡ counted false (act_of (DecideNext w.slot t c r) x) (turn_at t x) (decided v made.now.history t c r) = made.told.next ∙ ap (λ (b : Bool). counted false (act_of (DecideNext w.slot t c r) x) (turn_at t x) (cond b (decided v made.now.history t c r) (seen w.slot t v (next_of x)))) (eq-eqb x (unlinked t) e) in
+      (at.2, subst (λ (z : View). Within (w.slot, t) z.pass.durable) (sym next) known)
 
   at_number : (c : Call) (r : Reply) → x ≡ unlinked (tag_number tag) → Made p (DecideNext w.slot (tag_number tag) c r) false v o x v1 o1 → Made p (DecideNext w.slot (tag_number tag) c r) false v o (unlinked (tag_number tag)) v1 o1
   at_number c r e made = subst (λ (y : ℕ). Made p (DecideNext w.slot (tag_number tag) c r) false v o y v1 o1) e made
@@ -181,20 +190,21 @@ module _ (p : Pool) (f f1 : ℕ) (w : Walking) (tag : TagParts) (v : View) (o : 
       let a : Step = DecideNext w.slot (tag_number tag) key reply in
       let m = at_number key reply e made in
       let q = no_turn_more key reply h.walk at made e in
-      let n = counts p f f1 w (tag_number tag) v o x v1 o1 of a (3 + w.pool.words) at made h.bound in
+      let n = counts p f f1 w (tag_number tag) v o x v1 o1 of a (4 + w.pool.words) at made h.bound in
       let one : AreOneVersion w.pool w.slot (tag_number tag) v = subst (λ (z : Pool). AreOneVersion z w.slot (tag_number tag) v) of (m.told.says refl).1 in
       let saw : SawWhole (tag_number tag) (value_in fl into) v.pass.since = saw_whole w.pool w.slot (tag_number tag) fl v into h.stage.1 one in
       record {
-        made = (x, later p f f1 w (tag_number tag) v o x v1 o1 of a at.1 made, value ∙ sym (ap (λ (b : Bool). cond b (getting w Over) (sought (goes_on w x))) (eq-eqb x (unlinked (tag_number tag)) e)), refl);
+        made = (x, made_later at.1 made, value ∙ sym (ap (λ (b : Bool). cond b (getting w Over) (sought (goes_on w x))) (eq-eqb x (unlinked (tag_number tag)) e)), refl);
         found = (record { slot = w.slot; tag = tag_number tag; made = m; decides = at_tail p w.slot (tag_number tag) key reply (SawWhole (tag_number tag) (value_in fl into)) v o v1 o1 m saw }, refl, refl);
         at = (refl, refl);
         absent = tt;
+        known = known_still key reply h.walk at made e;
         behind = tt;
         ahead = below h.walk q;
         unreached = tt;
         stands = tt;
         ends = ap (λ (z : Getting). z.stage) value;
-        bound = allows p f f1 w (tag_number tag) v o x v1 o1 of (4 + w.pool.words) (omega arith) (sym q) (omega arith);
+        bound = allows p f f1 w (tag_number tag) v o x v1 o1 of (5 + w.pool.words) (omega arith) (sym q) (omega arith);
       }
 
   pub dead_went : (g1 : Getting) (into : ValueBuf) → GetHolds (getting w (AtDead (tag_number tag))) v into
@@ -206,17 +216,18 @@ module _ (p : Pool) (f f1 : ℕ) (w : Walking) (tag : TagParts) (v : View) (o : 
       let a : Step = DecideNext w.slot (tag_number tag) key Absent in
       let m = at_number key Absent e made in
       let q = no_turn_more key Absent h.walk at made e in
-      let n = counts p f f1 w (tag_number tag) v o x v1 o1 of a 3 at made h.bound in
+      let n = counts p f f1 w (tag_number tag) v o x v1 o1 of a 4 at made h.bound in
       let ended : AtTail p m.now.words key (tag_number tag) (SawDead (tag_number tag)) v1.pass.since = at_tail p w.slot (tag_number tag) key Absent (SawDead (tag_number tag)) v o v1 o1 m h.stage.1.load in
       record {
-        made = (x, later p f f1 w (tag_number tag) v o x v1 o1 of a at.1 made, value ∙ sym (ap (λ (b : Bool). cond b (getting w Over) (sought (goes_on w x))) (eq-eqb x (unlinked (tag_number tag)) e)), refl);
+        made = (x, made_later at.1 made, value ∙ sym (ap (λ (b : Bool). cond b (getting w Over) (sought (goes_on w x))) (eq-eqb x (unlinked (tag_number tag)) e)), refl);
         found = tt;
         at = tt;
         absent = (record { slot = w.slot; tag = tag_number tag; made = m; decides = inl (tag_number tag, ended) }, refl, refl);
+        known = known_still key Absent h.walk at made e;
         behind = tt;
         ahead = below h.walk q;
         unreached = tt;
         stands = tt;
         ends = ap (λ (z : Getting). z.stage) value;
-        bound = allows p f f1 w (tag_number tag) v o x v1 o1 of 4 (omega arith) (sym q) (omega arith);
+        bound = allows p f f1 w (tag_number tag) v o x v1 o1 of 5 (omega arith) (sym q) (omega arith);
       }

@@ -14,8 +14,9 @@ use Rattle.clover_rule.specs.Words.{next_of, next_code}
 use Rattle.clover_rule.specs.declared.access.Act.{Act}
 use Rattle.clover_rule.specs.declared.view.View.{View}
 use Rattle.clover_rule.proofs.Steps.{each_within}
+use Rattle.clover_rule.proofs.Tools.{length_snoc}
 use Rattle.clover_walk.specs.Turning.{Answers, OnReached as WalkReached, OnUnreached as WalkUnreached, OnGoing as OnWalking, IfBehind as IfWalkBehind, OnAhead as OnWalkAhead, IsAtTail, ShowsTail}
-use Rattle.clover_walk.specs.Walking.{Walking, Stand, AtRoot, AtTag, AtLink, OnTail, Ended, IsOnWay, StandsOn as WalkStandsOn, Holds, walk_step, step_at, goes_on, key_at, budget}
+use Rattle.clover_walk.specs.Walking.{Walking, Stand, AtShort, AtRoot, AtTag, AtLink, OnTail, Ended, IsOnWay, StandsOn as WalkStandsOn, Holds, walk_step, step_at, goes_on, key_at, budget}
 use Rattle.clover_walk.specs.declared.turn.Turn.{Turn}
 use Rattle.clover_walk.specs.declared.turn.Turn.TheVariants.{More as WalksOn, AtTail, Behind as WalkBehind, Unreached as Refused}
 use Rattle.clover_walk.proofs.Endings.{stepped}
@@ -24,7 +25,7 @@ use Rattle.clover_get.specs.declared.turn.GetTurn.TheVariants.{Unreached}
 use Rattle.clover_get.specs.Getting.{Getting, Stage, Seeking, AtMeta, AtFound, AtDead, AtBad, Over, getting, sought, stage_at, get_step, GoesOn, FillsFrom}
 use Rattle.clover_get.specs.Going.{Went, Follows, answer_of, key_of, most_accesses}
 use Rattle.clover_get.specs.Holding.{GetHolds, IsAt, walked, most}
-use Rattle.clover_get.proofs.Counting.{InTurns, HasRoot, goes, misses, bounded, length_snoc, length_first}
+use Rattle.clover_get.proofs.Counting.{InTurns, HasRoot, goes, misses, bounded, length_first}
 
 -- a get that stands at this stage is that get
 pub staged : (P : Getting → Type 0) (g : Getting) (s : Stage) → g.stage ≡ s → P (getting g.walk s) → P g
@@ -36,20 +37,26 @@ restaged P g s e h = subst P (λ i. record { walk = g.walk; stage = e i }) h
 -- the accesses of a call after one more
 pub one_more : (p : Pool) (a : Step) (b : Bool) (v : View) (o : Option Open) (x : ℕ) (v1 : View) (o1 : Option Open) → Made p a b v o x v1 o1 → length v1.pass.since ≡ suc (cond b 0 (length v.pass.since))
 one_more p a b v o x v1 o1 made =
-    ap (length {A = Act}) (stepped p a b v o x v1 o1 made).since ∙ length_snoc (cond b [] v.pass.since) (act_of a x) ∙ ap suc (length_first b v.pass.since)
+    ap (length {A = Act}) (stepped p a b v o x v1 o1 made).since ∙ length_snoc (act_of a x) (cond b [] v.pass.since) ∙ ap suc (length_first b v.pass.since)
+
+-- what an access that is not a call's first made
+pub made_later : {p : Pool} {a : Step} {b : Bool} {v : View} {o : Option Open} {x : ℕ} {v1 : View} {o1 : Option Open} → b ≡ false → Made p a false v o x v1 o1 → Made p a b v o x v1 o1
+made_later {p} {a} {b} {v} {o} {x} {v1} {o1} e made = subst (λ (c : Bool). Made p a c v o x v1 o1) (sym e) made
 
 -- a tag that is known to be durable is of the pool
 pub in_range : (p : Pool) (a : Step) (b : Bool) (v : View) (o : Option Open) (x : ℕ) (v1 : View) (o1 : Option Open) (s t : ℕ) → Made p a b v o x v1 o1 → Within (s, t) v1.pass.durable → InRange p t
 in_range p a b v o x v1 o1 s t made d = (each_within (λ (q : ℕ × ℕ). (q.0 < p.slots) × InRange p q.1) (s, t) v1.pass.durable made.told.after.durable d).1
 
 on_way : (at : Stand) → IsOnWay at → stage_at at ≡ Seeking
+on_way AtShort h = refl
 on_way AtRoot h = refl
 on_way (AtTag t) h = refl
 on_way (AtLink t u) h = refl
 on_way (OnTail t) h = absurd h
 on_way Ended h = absurd h
 
-at_most : (at : Stand) → walked at ≤ 2
+at_most : (at : Stand) → walked at ≤ 3
+at_most AtShort = omega arith
 at_most AtRoot = omega arith
 at_most (AtTag t) = omega arith
 at_most (AtLink t u) = omega arith
@@ -81,7 +88,7 @@ module _ (p : Pool) (f f1 : ℕ) (g : Getting) (into : ValueBuf) (v : View) (o :
   arrives : (t : ℕ) → Holds w1 v1 → w1.stand ≡ OnTail t → GetHolds (sought w1) v1 into
   arrives t h e =
       let d : Within (w1.slot, t) v1.pass.durable = subst (λ (z : Stand). WalkStandsOn w1.slot z v1) e h.stand in
-      let c : length v1.pass.since ≤ w1.turns * (w1.pool.words + 4) + 2 = subst (λ (z : Stand). length v1.pass.since ≤ w1.turns * (w1.pool.words + 4) + walked z) e count in
+      let c : length v1.pass.since ≤ w1.turns * (w1.pool.words + 5) + 3 = subst (λ (z : Stand). length v1.pass.since ≤ w1.turns * (w1.pool.words + 5) + walked z) e count in
       subst (λ (z : Stand). GetHolds (getting w1 (stage_at z)) v1 into) (sym e) (record {
         walk = h;
         stage = (e, later, subst (λ (q : Pool). InRange q t) (sym of) (in_range p _ _ v o x v1 o1 w1.slot t made d));
@@ -90,9 +97,9 @@ module _ (p : Pool) (f f1 : ℕ) (g : Getting) (into : ValueBuf) (v : View) (o :
 
   went_by : (turn : Turn) → Answers w1 turn → OnWalking turn (Holds w1 v1) → IfWalkBehind turn (λ (n : ℕ). (n ≡ budget p) × (v1.pass.turns ≡ budget p)) → OnWalkAhead turn (v1.pass.turns < budget p)
       → Went p f f1 g (sought w1) into into v o v1 o1 (answer_of turn)
-  went_by WalksOn a h b c = record { made = (x, made, goes_so, fills); found = tt; at = tt; absent = tt; behind = tt; ahead = c; unreached = tt; stands = seeks h a; ends = tt; bound = allowed (counted_so h) }
-  went_by (AtTail t) a h b c = record { made = (x, made, goes_so, fills); found = tt; at = tt; absent = tt; behind = tt; ahead = c; unreached = tt; stands = arrives (tag_number t) h a; ends = tt; bound = allowed (counted_so h) }
-  went_by (WalkBehind n) a h b c = record { made = (x, made, goes_so, fills); found = tt; at = tt; absent = tt; behind = b; ahead = tt; unreached = tt; stands = tt; ends = ap stage_at a.0; bound = allowed (sym a.1 ∙ b.0 ∙ sym b.1) }
+  went_by WalksOn a h b c = record { made = (x, made, goes_so, fills); found = tt; at = tt; absent = tt; known = tt; behind = tt; ahead = c; unreached = tt; stands = seeks h a; ends = tt; bound = allowed (counted_so h) }
+  went_by (AtTail t) a h b c = record { made = (x, made, goes_so, fills); found = tt; at = tt; absent = tt; known = tt; behind = tt; ahead = c; unreached = tt; stands = arrives (tag_number t) h a; ends = tt; bound = allowed (counted_so h) }
+  went_by (WalkBehind n) a h b c = record { made = (x, made, goes_so, fills); found = tt; at = tt; absent = tt; known = tt; behind = b; ahead = tt; unreached = tt; stands = tt; ends = ap stage_at a.0; bound = allowed (sym a.1 ∙ b.0 ∙ sym b.1) }
   went_by Refused a h b c = absurd a
 
   pub went_on : (r : GetTurn) → Follows p w1 v1 r → Went p f f1 g (sought w1) into into v o v1 o1 r
@@ -100,6 +107,7 @@ module _ (p : Pool) (f f1 : ℕ) (g : Getting) (into : ValueBuf) (v : View) (o :
 
 -- a named slot has a root
 root_says : (p : Pool) (ws : List ℕ) (s : ℕ) (k : List ℕ) (at : Stand) (v : View) (x : ℕ) → Within (s, k) v.pass.names → Says p ws (step_at s at) v x → HasRoot at x
+root_says p ws s k AtShort v x n h = tt
 root_says p ws s k AtRoot v x n h = h k n
 root_says p ws s k (AtTag t) v x n h = tt
 root_says p ws s k (AtLink t u) v x n h = tt
@@ -130,7 +138,7 @@ module _ (p : Pool) (f f1 : ℕ) (w : Walking) (into : ValueBuf) (v : View) (o :
   walk_refused : (w1 : Walking) → Rose f f1 → v1 ≡ v → o1 ≡ o → w1 ≡ w → (g1 : Getting) → g1 ≡ getting w1 Seeking → Went p f f1 (getting w Seeking) g1 into into v o v1 o1 Unreached
   walk_refused w1 rose ve oe we g1 still =
       let ge : g1 ≡ getting w Seeking = still ∙ ap (λ (z : Walking). getting z Seeking) we in
-      record { made = tt; found = tt; at = tt; absent = tt; behind = tt; ahead = tt; unreached = (rose, ve, oe, ge, refl); stands = subst (λ (z : Getting). GetHolds z v1 into) (sym ge) (subst (λ (z : View). GetHolds (getting w Seeking) z into) (sym ve) holds); ends = tt; bound = tt }
+      record { made = tt; found = tt; at = tt; absent = tt; known = tt; behind = tt; ahead = tt; unreached = (rose, ve, oe, ge, refl); stands = subst (λ (z : Getting). GetHolds z v1 into) (sym ge) (subst (λ (z : View). GetHolds (getting w Seeking) z into) (sym ve) holds); ends = tt; bound = tt }
 
   pub seek_went : (turn : Turn) (w1 : Walking) → WalkReached turn ((x : ℕ) × Made p (walk_step w) w.first v o x v1 o1 × (w1 ≡ goes_on w x) × (IsAtTail turn ↔ ShowsTail w.stand x)) → WalkReached turn (Answers w1 turn)
       → IfWalkBehind turn (λ (n : ℕ). (n ≡ budget w.pool) × (v1.pass.turns ≡ budget w.pool)) → OnWalkAhead turn (v1.pass.turns < budget w.pool)
@@ -143,7 +151,7 @@ module _ (p : Pool) (f f1 : ℕ) (w : Walking) (into : ValueBuf) (v : View) (o :
 
 module _ (p : Pool) (f f1 : ℕ) (w : Walking) (t : ℕ) (into : ValueBuf) (v : View) (o : Option Open) (x : ℕ) (v1 : View) (o1 : Option Open) (of : p ≡ w.pool) where
   -- a last load that showed the tag not unlinked
-  missed : (s : Stage) → IsAt w t → cond w.first 0 (length v.pass.since) ≤ w.turns * (w.pool.words + 4) + (3 + w.pool.words)
+  missed : (s : Stage) → IsAt w t → cond w.first 0 (length v.pass.since) ≤ w.turns * (w.pool.words + 5) + (4 + w.pool.words)
       → Made p (get_step (getting w s) (key_of (getting w s) v) into) w.first v o x v1 o1 → GoesOn (getting w s) into.length x (sought (goes_on w x)) → FillsFrom s x into into
       → next_code (next_of x) ≡ x → x ≢ unlinked t → (g1 : Getting) (r : GetTurn) → g1 ≡ sought (goes_on w x) → Follows p g1.walk v1 r → Went p f f1 (getting w s) g1 into into v o v1 o1 r
   missed s at bound made so fills code d g1 r value follows =
@@ -153,16 +161,13 @@ module _ (p : Pool) (f f1 : ℕ) (w : Walking) (t : ℕ) (into : ValueBuf) (v : 
       (went_on p f f1 (getting w s) into v o x v1 o1 (goes_on w x) made so fills (go.pool ∙ sym of) go.first count r
       (subst (λ (z : Walking). Follows p z v1 r) (ap (λ (z : Getting). z.walk) value) follows))
 
-  made_later : (a : Step) → w.first ≡ false → Made p a false v o x v1 o1 → Made p a w.first v o x v1 o1
-  made_later a e made = subst (λ (b : Bool). Made p a b v o x v1 o1) (sym e) made
-
   pub found_missed : (fl : ℕ) → GetHolds (getting w (AtFound t fl)) v into → Made p (get_step (getting w (AtFound t fl)) (key_of (getting w (AtFound t fl)) v) into) false v o x v1 o1
       → x ≢ unlinked t → (g1 : Getting) (r : GetTurn) → g1 ≡ sought (goes_on w x) → Follows p g1.walk v1 r → Went p f f1 (getting w (AtFound t fl)) g1 into into v o v1 o1 r
-  found_missed fl h made d = missed (AtFound t fl) h.stage.0 h.bound (made_later _ h.stage.0.1 made) (sym (ap (λ (b : Bool). cond b (getting w Over) (sought (goes_on w x))) (ne_eqb x (unlinked t) d))) refl made.told.number.0 d
+  found_missed fl h made d = missed (AtFound t fl) h.stage.0 h.bound (made_later h.stage.0.1 made) (sym (ap (λ (b : Bool). cond b (getting w Over) (sought (goes_on w x))) (ne_eqb x (unlinked t) d))) refl made.told.number.0 d
 
   pub dead_missed : GetHolds (getting w (AtDead t)) v into → Made p (get_step (getting w (AtDead t)) (key_of (getting w (AtDead t)) v) into) false v o x v1 o1
       → x ≢ unlinked t → (g1 : Getting) (r : GetTurn) → g1 ≡ sought (goes_on w x) → Follows p g1.walk v1 r → Went p f f1 (getting w (AtDead t)) g1 into into v o v1 o1 r
-  dead_missed h made d = let b = h.bound in missed (AtDead t) h.stage.0 (omega arith) (made_later _ h.stage.0.1 made) (sym (ap (λ (b : Bool). cond b (getting w Over) (sought (goes_on w x))) (ne_eqb x (unlinked t) d))) refl made.told.number.0 d
+  dead_missed h made d = let b = h.bound in missed (AtDead t) h.stage.0 (omega arith) (made_later h.stage.0.1 made) (sym (ap (λ (b : Bool). cond b (getting w Over) (sought (goes_on w x))) (ne_eqb x (unlinked t) d))) refl made.told.number.0 d
 
   -- a tag whose meta word is no version's is not found unlinked
   pub bad_differs : GetHolds (getting w (AtBad t)) v into → Made p (LoadNext w.slot t) false v o x v1 o1 → x ≢ unlinked t
@@ -170,4 +175,4 @@ module _ (p : Pool) (f f1 : ℕ) (w : Walking) (t : ℕ) (into : ValueBuf) (v : 
 
   pub bad_missed : GetHolds (getting w (AtBad t)) v into → Made p (LoadNext w.slot t) false v o x v1 o1
       → (g1 : Getting) (r : GetTurn) → g1 ≡ sought (goes_on w x) → Follows p g1.walk v1 r → Went p f f1 (getting w (AtBad t)) g1 into into v o v1 o1 r
-  bad_missed h made = let b = h.bound in missed (AtBad t) h.stage.0 (omega arith) (made_later _ h.stage.0.1 made) refl refl made.told.number.0 (bad_differs h made)
+  bad_missed h made = let b = h.bound in missed (AtBad t) h.stage.0 (omega arith) (made_later h.stage.0.1 made) refl refl made.told.number.0 (bad_differs h made)

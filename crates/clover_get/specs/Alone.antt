@@ -8,10 +8,9 @@ use Rattle.clover_map.specs.declared.call.Call.TheVariants.{Get}
 use Rattle.clover_map.specs.declared.call.Reply.{Reply}
 use Rattle.clover_map.specs.declared.call.Reply.TheVariants.{Found, Absent}
 use Rattle.clover_rule.specs.Steps.{Step, DecideNext, found, words_after_step, unlinked}
-use Rattle.clover_rule.specs.Words.{mem_of}
 use Rattle.clover_rule.specs.declared.view.View.{View}
-use Rattle.clover_walk.specs.Alone.{LeadsOver, HasVersion, raised, version_words}
-use Rattle.clover_walk.specs.Walking.{Walking, AtRoot, budget}
+use Rattle.clover_walk.specs.Alone.{Way, ComesBy, HasVersion, raised, version_words}
+use Rattle.clover_walk.specs.Walking.{Walking}
 use Rattle.clover_get.specs.Getting.{Getting, Seeking, Over, IsOpen, getting, get_step, value_in, GoesOn, FillsFrom}
 use Rattle.clover_get.specs.Going.{key_of}
 
@@ -53,7 +52,7 @@ pub record EndsAfter (n : ℕ) (v : ℕ → View) (a : Moment) (t : ℕ) (o : Op
   pub last : (k : ℕ) (b : Moment) (w : View) → suc k ≡ n → LeadsAlone a.call.walk.pool v k a b → (next_step w b ≡ DecideNext a.call.walk.slot t (Get (key_of a.call w)) (reply_at t o)) × (found a.call.walk.pool (next_step w b) b.words ≡ unlinked t)
   pub over : (b : Moment) → LeadsAlone a.call.walk.pool v n a b → (b.call.stage ≡ Over) × StandsIn o b.room × (b.words ≡ words)
 
--- From the root of a slot with d links before the tail a get makes 2 d + 3 accesses and one for each content word of the tail, where its turns do not reach the budget.
+-- From a live tag with d links before the tail a get makes 2 d + 2 accesses and one for each content word of the tail, and before these the loads of the way to that tag, where its turns do not reach the budget.
 abbrev pub GetLaw : Type 0
-GetLaw = (v : ℕ → View) (ws : List ℕ) (w : Walking) (room : ValueBuf) (ts : List ℕ) (u : ℕ) (o : Option Value) → w.stand ≡ AtRoot → w.slot < w.pool.slots → LeadsOver w.pool ws ((mem_of w.pool ws).root w.slot) ts u → w.turns + length ts < budget w.pool → HasVersion w.pool ws u o
-    → EndsAfter (2 * length ts + 3 + version_words o) v (record { words = ws; call = getting w Seeking; room = room }) u o (raised w.pool w.slot (ts ++ u ∷ []) ws)
+GetLaw = (v : ℕ → View) (ws : List ℕ) (w : Walking) (room : ValueBuf) (known : Option ℕ) (y : Way) (ts : List ℕ) (u : ℕ) (o : Option Value) → ComesBy ws w known y ts u → HasVersion w.pool ws u o
+    → EndsAfter (y.loads + 2 * length ts + 2 + version_words o) v (record { words = ws; call = getting w Seeking; room = room }) u o (raised w.pool w.slot (ts ++ u ∷ []) ws)

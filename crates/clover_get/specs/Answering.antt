@@ -38,6 +38,12 @@ abbrev pub IfAbsent : GetTurn → (TagParts → Type 0) → Type 0
 IfAbsent (Absent t) P = P t
 IfAbsent r P = Unit {0}
 
+-- the get was answered, at this tail
+abbrev pub IfAnswered : GetTurn → (TagParts → Type 0) → Type 0
+IfAnswered (Found t f) P = P t
+IfAnswered (Absent t) P = P t
+IfAnswered r P = Unit {0}
+
 abbrev pub IfBehind : GetTurn → (ℕ → Type 0) → Type 0
 IfBehind (Behind n) P = P n
 IfBehind r P = Unit {0}

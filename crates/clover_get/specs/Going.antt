@@ -7,6 +7,8 @@ use Rattle.clover_map.specs.declared.bytes.Value.{Value}
 use Rattle.clover_map.specs.declared.call.Call.TheVariants.{Get}
 use Rattle.clover_map.specs.declared.call.Reply.TheVariants.{Found, Absent}
 use Rattle.clover_port.specs.Told.{Open, Made, Rose}
+use Rattle.clover_rule.specs.Content.{InRange}
+use Rattle.clover_rule.specs.Lists.{Within}
 use Rattle.clover_rule.specs.declared.view.View.{View}
 use Rattle.clover_walk.specs.Ending.{Ended}
 use Rattle.clover_walk.specs.Turning.{Answers, OnGoing as OnWalking, IfBehind as IfWalkBehind, OnAhead as OnWalkAhead}
@@ -15,7 +17,7 @@ use Rattle.clover_walk.specs.declared.turn.Turn.{Turn}
 use Rattle.clover_walk.specs.declared.turn.Turn.TheVariants.{More as WalksOn, AtTail, Behind as WalkBehind, Unreached as WalkUnreached}
 use Rattle.clover_get.specs.declared.turn.GetTurn.TheVariants.{More, Behind, Unreached}
 use Rattle.clover_get.specs.declared.turn.GetTurn.{GetTurn}
-use Rattle.clover_get.specs.Answering.{OnReached, OnUnreached, OnGoing, OnOver, OnAhead, IfFound, IfAbsent, IfBehind}
+use Rattle.clover_get.specs.Answering.{OnReached, OnUnreached, OnGoing, OnOver, OnAhead, IfFound, IfAbsent, IfAnswered, IfBehind}
 use Rattle.clover_get.specs.Getting.{Getting, AtFound, Over, get_step, value_in, GoesOn, FillsFrom}
 use Rattle.clover_get.specs.Holding.{GetHolds}
 
@@ -44,6 +46,7 @@ pub record Went (p : Pool) (faults faults1 : ℕ) (g g1 : Getting) (into into1 :
   pub found : IfFound r (λ t f. FoundAt p g (tag_number t) (value_in f into1) v o v1 o1)
   pub at : IfFound r (λ t f. (g.stage ≡ AtFound (tag_number t) f) × (into1 ≡ into))
   pub absent : IfAbsent r (λ t. AbsentAt p g (tag_number t) v o v1 o1)
+  pub known : IfAnswered r (λ t. InRange g.walk.pool (tag_number t) × Within (g.walk.slot, tag_number t) v1.pass.durable)
   pub behind : IfBehind r (λ n. (n ≡ budget p) × (v1.pass.turns ≡ budget p))
   pub ahead : OnAhead r (v1.pass.turns < budget p)
   pub unreached : OnUnreached r (Rose faults faults1 × (v1 ≡ v) × (o1 ≡ o) × (g1 ≡ g) × (into1 ≡ into))

@@ -4,7 +4,7 @@ use Rattle.clover_words.specs.declared.bytes.ValueBuf.{ValueBuf}
 use Rattle.clover_words.specs.Pack.{words_of}
 use Rattle.clover_rule.specs.Content.{InRange}
 use Rattle.clover_rule.specs.declared.view.View.{View}
-use Rattle.clover_walk.specs.Walking.{Walking, Stand, AtRoot, AtTag, AtLink, OnTail, Ended, IsOnWay, Holds}
+use Rattle.clover_walk.specs.Walking.{Walking, Stand, AtShort, AtRoot, AtTag, AtLink, OnTail, Ended, IsOnWay, Holds}
 use Rattle.clover_get.specs.Copying.{Copied, CopiedDead, CopiedBad}
 use Rattle.clover_get.specs.Getting.{Getting, Stage, Seeking, AtMeta, AtValue, AtFound, AtDead, AtBad, Over}
 
@@ -22,26 +22,27 @@ StandsOn (AtDead t) w v into = IsAt w t × CopiedDead w.slot t v
 StandsOn (AtBad t) w v into = IsAt w t × CopiedBad w.pool w.slot t v
 StandsOn Over w v into = ⊥
 
--- the accesses since the last turn: a raise or a load of a root, the load that showed the tail, its meta word, its value words
+-- the most accesses since the last turn: a raise, or the loads of a shortcut and of a root; the load that showed the tail; its meta word; its value words
 abbrev pub walked : Stand → ℕ
-walked AtRoot = 0
-walked (AtTag t) = 1
+walked AtShort = 0
+walked AtRoot = 1
+walked (AtTag t) = 2
 walked (AtLink t u) = 0
-walked (OnTail t) = 2
+walked (OnTail t) = 3
 walked Ended = 0
 
 abbrev pub copied : Stage → Stand → ℕ → ℕ
 copied Seeking at n = walked at
-copied (AtMeta t) at n = 2
-copied (AtValue t f j) at n = 3 + j
-copied (AtFound t f) at n = 3 + n
-copied (AtDead t) at n = 3
-copied (AtBad t) at n = 3
-copied Over at n = 4 + n
+copied (AtMeta t) at n = 3
+copied (AtValue t f j) at n = 4 + j
+copied (AtFound t f) at n = 4 + n
+copied (AtDead t) at n = 4
+copied (AtBad t) at n = 4
+copied Over at n = 5 + n
 
--- the most accesses that a get has made where it stands: four and the value words for each turn
+-- the most accesses that a get has made where it stands: five and the value words for each turn
 abbrev pub most : Getting → ℕ
-most g = g.walk.turns * (g.walk.pool.words + 4) + copied g.stage g.walk.stand g.walk.pool.words
+most g = g.walk.turns * (g.walk.pool.words + 5) + copied g.stage g.walk.stand g.walk.pool.words
 
 -- the view and the room hold what the get stands on
 pub record GetHolds (g : Getting) (v : View) (into : ValueBuf) : Type 0 where

@@ -2,10 +2,12 @@
 ghost use Rattle.std.specs.Prelude.{◌≡◌, ◌≤◌, ◌<◌, ℕ, Option, Some, IfSome, IfNone, length};
 ghost use Rattle.clover_words.specs.Meta.{MetaParts};
 ghost use Rattle.clover_words.specs.Tag.{tag_number};
+ghost use Rattle.clover_rule.specs.Content.{InRange};
+ghost use Rattle.clover_rule.specs.Lists.{Within};
 ghost use Rattle.clover_port.specs.Told.{Rose};
 ghost use Rattle.clover_walk.specs.Turning.{Answers, OnReached as WalkReached, OnUnreached as WalkUnreached};
 ghost use Rattle.clover_walk.specs.Walking.{ShowsNext, goes_on, budget};
-ghost use Rattle.clover_get.specs.Answering.{OnReached, OnUnreached, OnGoing, OnOver, OnAhead, IfFound, IfAbsent, IfBehind, ExactGet};
+ghost use Rattle.clover_get.specs.Answering.{OnReached, OnUnreached, OnGoing, OnOver, OnAhead, IfFound, IfAbsent, IfAnswered, IfBehind, ExactGet};
 ghost use Rattle.clover_get.specs.Getting.{Seeking, AtMeta, AtValue, AtFound, AtDead, AtBad, Over, IsOpen, Reads, getting, read_stage, valued, sought, value_in};
 ghost use Rattle.clover_get.specs.Going.{OneAccess, FoundAt, AbsentAt, Went, Follows, answer_of, key_of, most_accesses};
 ghost use Rattle.clover_get.specs.Holding.{GetHolds};
@@ -57,10 +59,10 @@ impl GetCall {
     /// room is passed to all its steps.
     ///
     /// `Found` and `Absent`, only where this access was the load of the tail's next word that showed the tail
-    /// unlinked; at `Found` the value's bytes stand in the room, whose length is theirs, and stood there before the
-    /// access too; earlier the room holds no promise to the caller. `Behind`, exactly where by this access the turns of
-    /// the call have reached the budget. `Unreached`, only where the access was refused; neither the call nor the room
-    /// nor what the actor knows has changed then.
+    /// unlinked, and then the tail is known to be durable in the slot; at `Found` the value's bytes stand in the room,
+    /// whose length is theirs, and stood there before the access too; earlier the room holds no promise to the caller.
+    /// `Behind`, exactly where by this access the turns of the call have reached the budget. `Unreached`, only where
+    /// the access was refused; neither the call nor the room nor what the actor knows has changed then.
     pub fn step<P: Port>(&mut self, port: &mut P, into: &mut ValueBuf) -> GetTurn
         requires open { IsOpen self.old.stage }
         requires pool { P.pool port.old ≡ self.old.walk.pool }
@@ -69,6 +71,7 @@ impl GetCall {
         ensures found { IfFound result (λ tag flags. FoundAt (P.pool port.old) self.old (tag_number tag) (value_in flags into.new) (P.view port.old) (P.told port.old) (P.view port.new) (P.told port.new)) }
         ensures at { IfFound result (λ tag flags. (self.old.stage ≡ AtFound (tag_number tag) flags) × (into.new ≡ into.old)) }
         ensures absent { IfAbsent result (λ tail. AbsentAt (P.pool port.old) self.old (tag_number tail) (P.view port.old) (P.told port.old) (P.view port.new) (P.told port.new)) }
+        ensures known { IfAnswered result (λ tag. InRange self.old.walk.pool (tag_number tag) × Within (self.old.walk.slot, tag_number tag) (P.view port.new).pass.durable) }
         ensures behind { IfBehind result (λ turns. (turns ≡ budget (P.pool port.old)) × ((P.view port.new).pass.turns ≡ budget (P.pool port.old))) }
         ensures ahead { OnAhead result ((P.view port.new).pass.turns < budget (P.pool port.old)) }
         ensures unreached { OnUnreached result (Rose (P.faults port.old) (P.faults port.new) × (P.view port.new ≡ P.view port.old) × (P.told port.new ≡ P.told port.old) × (self.new ≡ self.old) × (into.new ≡ into.old)) }
@@ -82,6 +85,13 @@ impl GetCall {
         ensures exact { ExactGet (P.refuses port.old) result }
     {
         self.advance(port, into)
+    }
+
+    /// The slot whose key it gets.
+    pub fn slot(&self) -> u32
+        ensures { result ≡ self.now.walk.slot }
+    {
+        self.walk.slot()
     }
 
     /// The flags of the value that stands in the room, where the next access is the last load for it. Only such an

@@ -16,8 +16,7 @@ use Rattle.clover_map.specs.declared.call.Call.TheVariants.{Get, Put, Delete, Sw
 use Rattle.clover_map.specs.declared.call.Entry.{Entry}
 use Rattle.clover_map.specs.declared.call.Reply.{Reply}
 use Rattle.clover_map.specs.declared.call.Reply.TheVariants.{Stored, Found, Absent, Deleted, Differs}
-use Rattle.clover_rule.proofs.Stages.{within_end}
-use Rattle.clover_rule.proofs.Steps.{within_prefix}
+use Rattle.clover_rule.proofs.Steps.{within_last, within_prefix}
 use Rattle.clover_main.specs.Performing.{Stores, IsCommitted, AllCommitted}
 
 -- each pair of the map was committed in the history
@@ -35,7 +34,7 @@ stored : (h : List Entry) (e : Entry) (m : Tagged) (k q : List ℕ) (t : ℕ) (v
     → eq_by_cmp (slice_cmp nat_cmp) q k ≡ b → cond b (Some (held t v)) (get m q) ≡ Some x → IsCommitted (h ++ e ∷ []) q x.tag x.value
 unfolding AllKept
 stored h e m k q t v x true all reply stores is at =
-    let here : IsCommitted (h ++ e ∷ []) k t v = (e, within_end e h, reply, stores) in
+    let here : IsCommitted (h ++ e ∷ []) k t v = (e, within_last e h, reply, stores) in
     let key : q ≡ k = tells_apart exact_bytes q k is in
     let same : held t v ≡ x = cc in
     subst (λ (y : Held). IsCommitted (h ++ e ∷ []) q y.tag y.value) same (subst (λ (j : List ℕ). IsCommitted (h ++ e ∷ []) j t v) (sym key) here)

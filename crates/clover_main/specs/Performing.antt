@@ -11,7 +11,7 @@ use Rattle.clover_map.specs.declared.call.Reply.TheVariants.{Stored, Found}
 use Rattle.clover_script.specs.declared.line.Line.{Line}
 use Rattle.clover_rule.specs.Accesses.{Replays}
 use Rattle.clover_rule.specs.Lists.{Within}
-use Rattle.clover_sched.specs.Alone.{AllFound, AllAlone}
+use Rattle.clover_sched.specs.Alone.{AllAlone}
 use Rattle.clover_sched.specs.Folds.{accesses_in, entries_in}
 use Rattle.clover_sched.specs.Lines.{Covers}
 use Rattle.clover_sched.specs.Record.{Record}
@@ -33,7 +33,7 @@ IsCommitted h k t v = (e : Entry) × Within e h × (e.reply ≡ Stored t) × Sto
 abbrev pub AllCommitted : List Entry → Type 0
 AllCommitted h = (before after : List Entry) (e : Entry) (k : List ℕ) (t : ℕ) (v : Value) → h ≡ before ++ e ∷ after → e.call ≡ Get k → e.reply ≡ Found t v → IsCommitted before k t v
 
--- Out is the text of a run of the lines: its accesses replay, its history is legal and in each client's order, no value is torn, and a call that runs alone is answered at its cost.
+-- Out is the text of a run of the lines: its accesses replay, its history is legal and in each client's order, no value is torn, and a call that runs alone is answered at exactly its cost.
 pub record IsPerformed (o : Opening) (lines : List Line) (t : Bool) (out : List ℕ) : Type 0 where
   pub records : List Record
   pub covers : Covers lines [] records
@@ -42,7 +42,6 @@ pub record IsPerformed (o : Opening) (lines : List Line) (t : Bool) (out : List 
   pub legal : Legal empty [] (entries_in records)
   pub numbered : IsNumberedByClient (entries_in records)
   pub whole : AllCommitted (entries_in records)
-  pub found : AllFound o records
   pub alone : AllAlone o records
   pub printed : out ≡ text t records
 

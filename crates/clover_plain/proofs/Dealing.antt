@@ -1,5 +1,5 @@
 -- Buffers by their numbers: the tags of the tombstones, and the tags that are dealt to the clients.
-use Rattle.std.proofs.Common.{◌≡◌, ◌≢◌, ℕ, zero, suc, ◌+◌, ◌*◌, ◌/◌, ◌%◌, ◌<◌, ◌≤◌, List, [], ◌∷◌, Bool, true, false, cond, nat_lt, refl, sym, ap, ◌∙◌, inl, inr, ⊎_elim, subst, arith}
+use Rattle.std.proofs.Common.{◌≡◌, ◌≢◌, ℕ, zero, suc, ◌+◌, ◌*◌, ◌/◌, ◌%◌, ◌<◌, ◌≤◌, [], ◌∷◌, Bool, true, false, cond, nat_lt, refl, sym, ap, ◌∙◌, inl, inr, ⊎_elim, subst, arith}
 use native.Mathlib.Decide.{ℕ_discrete, dec_le}
 use mathlib.Core.Logic.{dite}
 use Rattle.std.proofs.lemmas.Nat.{mul-add-lt}
@@ -17,6 +17,7 @@ use Rattle.clover_rule.specs.Views.{Apart}
 use Rattle.clover_rule.specs.Words.{buffer_at}
 use Rattle.clover_rule.proofs.Codecs.{home_tag, age_tag, buffer_tag}
 use Rattle.clover_rule.proofs.Keeping.{inside_of}
+use Rattle.clover_rule.proofs.Steps.{each_of}
 use Rattle.clover_rule.proofs.Ties.{below, test_below, buffer_in}
 use Rattle.clover_plain.specs.Preset.{number_of, tag_at, dealt_from}
 
@@ -100,12 +101,8 @@ module _ (s : Setup) (c : ℕ) where
       here : (suc put ≤ q → q < suc put + n → dealt_number s c q + s.pool.slots < buffers_total s.pool → Within (tag_at s.pool (dealt_number s c q)) (dealt_from s c (suc put) n)) → Within (tag_at s.pool (dealt_number s c q)) (tag_at s.pool (dealt_number s c put) ∷ dealt_from s c (suc put) n)
       here f = dite (ℕ_discrete put q) (λ d. inl (ap (λ (z : ℕ). tag_at s.pool (dealt_number s c z)) d)) (λ d. inr (f (omega arith) (omega arith) e))
 
-  each_within : (P : ℕ → Type 0) (xs : List ℕ) → ((t : ℕ) → Within t xs → P t) → Each P xs
-  each_within P [] f = tt
-  each_within P (x ∷ xs) f = (f x (inl refl), each_within P xs (λ t w. f t (inr w)))
-
   pub dealt_each : (P : ℕ → Type 0) (n put : ℕ) → ((q : ℕ) → dealt_number s c q + s.pool.slots < buffers_total s.pool → P (tag_at s.pool (dealt_number s c q))) → Each P (dealt_from s c put n)
-  dealt_each P n put f = each_within P (dealt_from s c put n) (λ t w. let d = dealt_within n put t w in subst P (sym d.3) (f d.0 d.2))
+  dealt_each P n put f = each_of P (dealt_from s c put n) (λ t w. let d = dealt_within n put t w in subst P (sym d.3) (f d.0 d.2))
 
   pub dealt_once : (n put : ℕ) → Apart (dealt_from s c put n)
   dealt_once zero put = tt
@@ -114,7 +111,7 @@ module _ (s : Setup) (c : ℕ) where
       go : (b : Bool) → fits put ≡ b → Apart (dealt_from s c (suc put) n) → ((t : ℕ) → Within t (dealt_from s c (suc put) n) → IsDealt s c (suc put) t) → Apart (cond b (tag_at s.pool (dealt_number s c put) ∷ dealt_from s c (suc put) n) [])
       go false e a f = tt
       go true e a f = (
-        each_within (λ (u : ℕ). home u ≢ home (tag_at s.pool (dealt_number s c put))) (dealt_from s c (suc put) n) (λ t w z.
+        each_of (λ (u : ℕ). home u ≢ home (tag_at s.pool (dealt_number s c put))) (dealt_from s c (suc put) n) (λ t w z.
             let d = f t w in
             let x = d.2 in
             let y = below _ _ e in

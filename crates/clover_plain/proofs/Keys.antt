@@ -4,7 +4,8 @@ use Rattle.std.specs.Prelude.{Some, None}
 use Rattle.clover_words.specs.Pack.{packed, words_of}
 use Rattle.clover_rule.specs.Content.{spelling, words_from}
 use Rattle.clover_rule.specs.Lists.{nth}
-use Rattle.clover_rule.proofs.Spelling.{nth_all}
+use Rattle.clover_rule.proofs.Spelling.{length_words, nth_all}
+use Rattle.clover_rule.proofs.Tools.{nth_none}
 use Rattle.clover_plain.specs.Preset.{AreDistinct, or_zero}
 
 pub key_there : (xs : List (List ℕ)) (i : ℕ) (x k : List ℕ) → x ≡ get_or xs i x → nth xs i ≡ Some k → x ≡ k
@@ -12,25 +13,13 @@ key_there [] i x k e f = absurd cc
 key_there (y ∷ xs) zero x k e f = cc
 key_there (y ∷ xs) (suc i) x k e f = key_there xs i x k e f
 
-pub key_below : (xs : List (List ℕ)) (i : ℕ) (k : List ℕ) → nth xs i ≡ Some k → i < length xs
-key_below [] i k e = absurd cc
-key_below (x ∷ xs) zero k e = omega arith
-key_below (x ∷ xs) (suc i) k e = let z = key_below xs i k e in omega arith
-
 pub key_nth : (xs : List (List ℕ)) (i : ℕ) (x : List ℕ) → i < length xs → x ≡ get_or xs i x → nth xs i ≡ Some x
 key_nth [] i x h e = absurd (omega arith)
 key_nth (y ∷ xs) zero x h e = ap Some (sym e)
 key_nth (y ∷ xs) (suc i) x h e = key_nth xs i x (omega arith) e
 
-pub key_past : (xs : List (List ℕ)) (i : ℕ) → length xs ≤ i → nth xs i ≡ None
-key_past [] i h = refl
-key_past (x ∷ xs) zero h = absurd (omega arith)
-key_past (x ∷ xs) (suc i) h = key_past xs i (omega arith)
-
 words_past : (bytes : List ℕ) (k n j : ℕ) → n ≤ j → nth (words_from bytes k n) j ≡ None
-words_past bytes k zero j h = refl
-words_past bytes k (suc n) zero h = absurd (omega arith)
-words_past bytes k (suc n) (suc j) h = words_past bytes (suc k) n j (omega arith)
+words_past bytes k n j h = nth_none (words_from bytes k n) j (let z = length_words bytes k n in omega arith)
 
 pub word_there : (key : List ℕ) (k : ℕ) → k < (8 + length key) / 8 → packed (length key ∷ key) k ≡ or_zero (nth (spelling key) k)
 unfolding spelling

@@ -1,6 +1,6 @@
 -- The preset pool meets the rule.
-use Rattle.std.proofs.Common.{◌≡◌, ℕ, zero, suc, ◌+◌, ◌-◌, ◌*◌, ◌/◌, ◌%◌, ◌<◌, ◌≤◌, ◌&&◌, List, [], ◌∷◌, length, Bool, true, false, cond, nat_lt, refl, sym, ap, ◌∙◌, subst, arith}
-use Rattle.std.proofs.lemmas.Bool.Decides.{nat_tests}
+use Rattle.std.proofs.Common.{◌≡◌, ℕ, suc, ◌+◌, ◌-◌, ◌*◌, ◌/◌, ◌%◌, ◌<◌, ◌≤◌, ◌&&◌, List, [], ◌∷◌, length, Bool, true, false, cond, nat_lt, refl, sym, ap, ◌∙◌, subst, arith}
+use Rattle.std.proofs.lemmas.Bool.{le-ltb}
 use Rattle.std.proofs.Math.Nat.{mul-le-mul_left}
 use Rattle.std.specs.Prelude.{Option, Some, None}
 use Rattle.std.specs.FinMap as finite
@@ -29,13 +29,12 @@ use Rattle.clover_rule.specs.declared.view.Role.TheVariants.{Client, Serving}
 use Rattle.clover_rule.specs.declared.view.View.{View}
 use Rattle.clover_rule.proofs.Longest.{longest_law}
 use Rattle.clover_rule.proofs.Presets.{preset_law}
+use Rattle.clover_rule.proofs.Spelling.{length_words}
 use Rattle.clover_rule.proofs.Steps.{prefix_self}
+use Rattle.clover_rule.proofs.Tools.{nth_within, nth_some}
 use Rattle.clover_rule.proofs.Ties.{guard, guard_true, both, below, test_below, buffer_in, content_in, content_side, root_again, and_true}
 use Rattle.clover_plain.specs.Preset.{tag_at, tomb, preset_word, key_word, or_zero, IsPreset, dealt_from, start_view, AreDistinct}
 use Rattle.clover_plain.proofs.Dealing.{tag_young, tag_inside, number_tag, one_number, number_at, home_number, dealt_each, dealt_once, within_dealt}
-
-not_below : (a b : ℕ) → b ≤ a → nat_lt a b ≡ false
-not_below a b h = grind (arith, nat_tests)
 
 -- both sides of a guard are one value
 same_guard : {A : Type 0} (b : Bool) (x y : A) → (b ≡ true → x ≡ y) → guarded b x y ≡ y
@@ -77,7 +76,7 @@ module _ (s : Setup) (keys : List (List ℕ)) (ws : List ℕ) (sized : length ws
 
   unrooted : (n : ℕ) (side : Side) → HasSide (Root n) side → length keys ≤ n → guarded (nat_lt n p.slots) (root_of (copy_in p ws (Root n) side)) None ≡ None
   unrooted n side i h = same_guard (nat_lt n p.slots) (root_of (copy_in p ws (Root n) side)) None
-      (λ e. ap root_of (set (Root n) side (below n p.slots e) i ∙ ap (λ (t : Bool). cond t (root_code (Some (tomb p n))) 0) (not_below n (length keys) h)))
+      (λ e. ap root_of (set (Root n) side (below n p.slots e) i ∙ ap (λ (t : Bool). cond t (root_code (Some (tomb p n))) 0) (le-ltb n (length keys) h)))
 
   tombs : (n : ℕ) → n < length keys → guarded (inside p (home (tomb p n)) && nat_lt 0 (1 + p.words)) (copy_in p ws (content_at (home (tomb p n)) 0) Current) 0 ≡ tombstone
   tombs n h =
@@ -94,23 +93,13 @@ module _ (s : Setup) (keys : List (List ℕ)) (ws : List ℕ) (sized : length ws
       let w = content_in p b j q.0 (below j (1 + p.words) q.1) in
       set (content_at b j) Flushed w (content_side b j Flushed) ∙ sym (set (content_at b j) Current w (content_side b j Current)))
 
-  words_within : (bytes : List ℕ) (k n j x : ℕ) → nth (words_from bytes k n) j ≡ Some x → j < n
-  words_within bytes k zero j x e = absurd cc
-  words_within bytes k (suc n) zero x e = omega arith
-  words_within bytes k (suc n) (suc j) x e = let z = words_within bytes (suc k) n j x e in omega arith
-
-  nth_below : (xs : List (List ℕ)) (i : ℕ) (k : List ℕ) → nth xs i ≡ Some k → i < length xs
-  nth_below [] i k e = absurd cc
-  nth_below (x ∷ xs) zero k e = omega arith
-  nth_below (x ∷ xs) (suc i) k e = let z = nth_below xs i k e in omega arith
-
   spelled_below : (k : List ℕ) (j x : ℕ) → IsKey k → nth (spelling k) j ≡ Some x → j < 32
   unfolding spelling
-  spelled_below k j x i e = let z = words_within (length k ∷ k) 0 (words_of (length (length k ∷ k))) j x e in let m = i.most in omega arith
+  spelled_below k j x i e = let z = nth_within (words_from (length k ∷ k) 0 (words_of (length (length k ∷ k)))) j x e in let q = length_words (length k ∷ k) 0 (words_of (length (length k ∷ k))) in let m = i.most in omega arith
 
   keyed : (n j x : ℕ) (k : List ℕ) → nth keys n ≡ Some k → nth (spelling k) j ≡ Some x → guarded (nat_lt n p.slots && nat_lt j 32) (copy_in p ws (Key n j) Current) 0 ≡ x
   keyed n j x k e f =
-      let a : n < p.slots = (let z = nth_below keys n k e in omega arith) in
+      let a : n < p.slots = (let z = nth_within keys n k e in omega arith) in
       let b : j < 32 = spelled_below k j x (are n k e) f in
       guard_true (nat_lt n p.slots && nat_lt j 32) (copy_in p ws (Key n j) Current) x 0 (and_true (nat_lt n p.slots) (nat_lt j 32) (test_below n p.slots a) (test_below j 32 b))
       (set (Key n j) Current (a, b) tt ∙ ap (λ (o : Option (List ℕ)). key_word o j) e ∙ ap or_zero f)
@@ -168,16 +157,6 @@ module _ (s : Setup) (keys : List (List ℕ)) (ws : List ℕ) (sized : length ws
       (λ k. owner_of (tag_inside p n f k) (number_tag p n f k)) ∙ ap (λ (t : Bool). cond t (Some (n % s.clients)) None) (test_below (n + p.slots) (buffers_total p) h) ∙ ap Some m.1
 
   module _ (vs : List View) (seats : length vs ≡ s.clients) (vs_are : (i : ℕ) (v : View) → nth vs i ≡ Some v → v ≡ start_view s keys i) where
-    seat_below : (xs : List View) (i : ℕ) (v : View) → nth xs i ≡ Some v → i < length xs
-    seat_below [] i v e = absurd cc
-    seat_below (x ∷ xs) zero v e = omega arith
-    seat_below (x ∷ xs) (suc i) v e = let z = seat_below xs i v e in omega arith
-
-    seat_there : (xs : List View) (i : ℕ) → i < length xs → (v : View) × (nth xs i ≡ Some v)
-    seat_there [] i h = absurd (omega arith)
-    seat_there (x ∷ xs) zero h = (x, refl)
-    seat_there (x ∷ xs) (suc i) h = seat_there xs i (omega arith)
-
     starts : (i : ℕ) → i < s.clients → Starts (mem_of p ws) (bindings_from 0 keys) owner i (start_view s keys i)
     starts i c = record {
       stock = dealt_each s (suc i) _ (buffers_total p) 0 (λ q h.
@@ -208,7 +187,7 @@ module _ (s : Setup) (keys : List (List ℕ)) (ws : List ℕ) (sized : length ws
         let c : i < s.clients = omega arith in
         let same : dealt_number s (suc i) q ≡ n = omega arith in
         let small : q < 0 + buffers_total p = (let k : q * 1 ≤ q * s.clients = mul-le-mul_left q y in omega arith) in
-        let r = seat_there vs i (omega arith) in
+        let r = nth_some vs i (omega arith) in
         let there : Within (tag_at p (dealt_number s (suc i) q)) (dealt_from s (suc i) 0 (buffers_total p)) = within_dealt s (suc i) (buffers_total p) 0 q (omega arith) small (omega arith) in
         (r.0, r.1, tag_at p (dealt_number s (suc i) q), subst (λ (u : View). Within (tag_at p (dealt_number s (suc i) q)) u.pass.stock) (sym (vs_are i r.0 r.1)) there, ap (λ (m : ℕ). home (tag_at p m)) same ∙ (home_number p b o.0).1)
 
@@ -217,7 +196,7 @@ module _ (s : Setup) (keys : List (List ℕ)) (ws : List ℕ) (sized : length ws
 
     preset_views : PresetViews p keys (tomb p) owner (mem_of p ws) vs
     preset_views = record {
-      starts = λ i v e. subst (Starts (mem_of p ws) (bindings_from 0 keys) owner i) (sym (vs_are i v e)) (starts i (let z = seat_below vs i v e in omega arith));
+      starts = λ i v e. subst (Starts (mem_of p ws) (bindings_from 0 keys) owner i) (sym (vs_are i v e)) (starts i (let z = nth_within vs i v e in omega arith));
       off = λ b i e n h f.
           let o = owner_is b i e in
           let x = o.1 in
@@ -227,7 +206,7 @@ module _ (s : Setup) (keys : List (List ℕ)) (ws : List ℕ) (sized : length ws
       in_pool = λ b i e. (owner_is b i e).0;
       held = held;
       numbered = λ i j n v w e f g h. let z : Client (suc i) ≡ Client (suc j) = sym (role_is i v e) ∙ g ∙ sym h ∙ role_is j w f in let y : suc i ≡ suc j = cc in omega arith;
-      some = let c = s.some_client in let r = seat_there vs 0 (omega arith) in (0, r.0, r.1);
+      some = let c = s.some_client in let r = nth_some vs 0 (omega arith) in (0, r.0, r.1);
       unserved = λ i v e f. absurd (let z : Client (suc i) ≡ Serving = sym (role_is i v e) ∙ f in cc);
     }
 

@@ -1,14 +1,14 @@
 -- A put, delete or swap that is made alone: what each of its accesses finds, and how many bring it to its end.
 use Prim.Native.Nat.{zero, suc}
 use Rattle.std.proofs.Common.{◌≡◌, ◌≢◌, ℕ, ◌+◌, ◌-◌, ◌*◌, ◌<◌, ◌≤◌, List, [], ◌∷◌, ◌++◌, length, Bool, true, false, cond, eqb, ltb, refl, sym, ap, ◌∙◌, arith, subst, eq-eqb}
-use Rattle.std.specs.Prelude.{Option, Some, None, slice_set}
-use Rattle.std.proofs.lemmas.Bool.Decides.{nat_tests}
+use Rattle.std.specs.Prelude.{Option, Some, None, IfSome, slice_set}
+use Rattle.std.proofs.lemmas.Bool.{lt-ltb, le-ltb}
 use Rattle.clover_words.specs.declared.meta.Kind.{Kind}
 use Rattle.clover_words.specs.declared.meta.Kind.TheVariants.{Value as IsValue, Tombstone}
 use Rattle.clover_words.specs.declared.pool.Pool.{Pool}
 use Rattle.clover_words.specs.declared.word.Buffer.{Buffer}
 use Rattle.clover_words.specs.declared.word.Word.{Word}
-use Rattle.clover_words.specs.declared.word.Word.TheVariants.{Next as NextOf, Root, Meta, Value as ValueOf}
+use Rattle.clover_words.specs.declared.word.Word.TheVariants.{Next as NextOf, Root, Short, Meta, Value as ValueOf}
 use Rattle.clover_words.specs.declared.word.Side.{Side}
 use Rattle.clover_words.specs.declared.word.Side.TheVariants.{Current, Flushed}
 use Rattle.clover_words.specs.Place.{IsWithin, copy_in, address_of}
@@ -17,22 +17,22 @@ use Rattle.clover_words.proofs.Places.{copy_kept, has_current}
 use Rattle.clover_map.specs.declared.bytes.Value.{Value}
 use Rattle.clover_rule.specs.Content.{inside, InRange, content, tombstone, value_meta}
 use Rattle.clover_rule.specs.Lists.{Each}
-use Rattle.clover_rule.specs.Memory.{word, home}
-use Rattle.clover_rule.specs.Parts.{Walk}
+use Rattle.clover_rule.specs.Memory.{Mem, word, gen, home, age}
 use Rattle.clover_rule.specs.Steps.{LoadContent, found, words_after_step, unlinked, turn_of, turn_at}
 use Rattle.clover_rule.specs.Words.{next_of, root_of, buffer_at, content_at, mem_of}
 use Rattle.clover_rule.specs.declared.view.View.{View}
 use Rattle.clover_rule.proofs.Spelling.{short_enough}
 use Rattle.clover_rule.proofs.Ties.{kind_of as word_kind, content_kind, buffer_in, content_in, content_side, buffer_same, guard}
-use Rattle.clover_rule.proofs.Keeping.{read_root}
-use Rattle.clover_walk.specs.Alone.{LeadsOver, HasVersion, raised, version_words, alone as walk_alone}
-use Rattle.clover_walk.specs.Walking.{Walking, Stand, AtRoot, AtTag, AtLink as OnLink, OnTail, Ended, IsOnWay, budget, begun, walk_step, goes_on}
-use Rattle.clover_walk.proofs.Alone.{load_leaves, walk_same, root_law, raised_version, last_range, content_within, content_words}
+use Rattle.clover_rule.proofs.Keeping.{read_root, read_short}
+use Rattle.clover_walk.specs.Alone.{Way, way_from, way_from_short, ComesBy, HasVersion, raised, version_words, alone as walk_alone}
+use Rattle.clover_walk.specs.declared.start.Start.TheVariants.{FromCursor}
+use Rattle.clover_walk.specs.Walking.{Walking, Stand, AtShort as ToShort, AtRoot, AtTag, AtLink as OnLink, OnTail, Ended, IsOnWay, begun, walk_step, goes_on}
+use Rattle.clover_walk.proofs.Alone.{load_leaves, walk_same, start_law, raised_version, last_range, content_within, content_words}
 use Rattle.clover_put.specs.declared.job.Job.{Job}
 use Rattle.clover_put.specs.declared.job.Job.TheVariants.{Put, Delete, Swap}
 use Rattle.clover_put.specs.Alone.{alone, IsOpen, last_stage, tail_accesses, EndsAfter, PutLaw}
-use Rattle.clover_put.specs.Putting.{Putting, Stage, Storing, Flushing, Seeking, AtMeta, AtLink, AtDead, AtOther, AtRaise, Over, body, body_word, commits, kind_of, at_tail, reached, staged, filled, walked, on_meta, unless_left, put_step, put_on}
-use Rattle.clover_put.proofs.Body.{kind_meta, value_length, tombstone_length}
+use Rattle.clover_put.specs.Putting.{Putting, Stage, Storing, Flushing, Seeking, AtMeta, AtLink, AtDead, AtOther, AtRaise, AtShort, Over, body, body_word, commits, kind_of, at_tail, reached, staged, filled, walked, on_meta, unless_left, put_step, put_on}
+use Rattle.clover_put.proofs.Body.{kind_meta, body_some}
 
 -- one access more
 ends_more : (p : Pool) (n : ℕ) (v : ℕ → View) (ws : List ℕ) (c : Putting) (at : Stage) (ws1 : List ℕ) (c1 : Putting) → 0 < n → IsOpen c.stage → words_after_step p (put_step c (v 0)) ws ≡ ws1 → put_on c (found p (put_step c (v 0)) ws) ≡ c1
@@ -86,9 +86,9 @@ module _ (p : Pool) (v : ℕ → View) (ws : List ℕ) (c : Putting) (u : ℕ) w
   no_turn : next ≡ unlinked u → turn_at u next ≡ 0
   no_turn e = ap (λ (b : Bool). cond b 0 1) (eq-eqb next (unlinked u) e)
 
-commit : (p : Pool) (v : ℕ → View) (ws : List ℕ) (c : Putting) (u : ℕ) → copy_in p ws (NextOf (buffer_at (home u))) Current ≡ unlinked u → EndsAfter p 2 v ws (staged c (AtLink u)) (AtRaise u)
-commit p v ws c u e = ends_more p 1 v ws (staged c (AtLink u)) (AtRaise u) _ (staged c (AtRaise u)) (omega arith) tt refl (found_unlinked p v ws (staged c (AtLink u)) u (AtRaise u) e)
-    (ends_last p _ _ (staged c (AtRaise u)) (AtRaise u) tt refl (λ w. refl) refl)
+commit : (p : Pool) (v : ℕ → View) (ws : List ℕ) (c : Putting) (u : ℕ) → copy_in p ws (NextOf (buffer_at (home u))) Current ≡ unlinked u → EndsAfter p 3 v ws (staged c (AtLink u)) AtShort
+commit p v ws c u e = ends_more p 2 v ws (staged c (AtLink u)) AtShort _ (staged c (AtRaise u)) (omega arith) tt refl (found_unlinked p v ws (staged c (AtLink u)) u (AtRaise u) e)
+    (ends_more p 1 _ _ (staged c (AtRaise u)) AtShort _ (staged c AtShort) (omega arith) tt refl refl (ends_last p _ _ (staged c AtShort) AtShort tt refl (λ w. refl) refl))
 
 dead : (p : Pool) (v : ℕ → View) (ws : List ℕ) (c : Putting) (u : ℕ) → copy_in p ws (NextOf (buffer_at (home u))) Current ≡ unlinked u → EndsAfter p 1 v ws (staged c (AtDead u)) (AtDead u)
 dead p v ws c u e = ends_last p v ws (staged c (AtDead u)) (AtDead u) tt refl (λ w. no_turn p v ws c u e) (ap (λ (x : Putting). x.stage) (found_unlinked p v ws (staged c (AtDead u)) u Over e))
@@ -113,15 +113,15 @@ look p n v ws c u o at some h rest = ends_more p n v ws (staged c (AtMeta u)) at
 at_the_tail : (p : Pool) (j : Job) (v : ℕ → View) (ws : List ℕ) (c : Putting) (u : ℕ) (o : Option Value) → HasVersion p ws u o → EndsAfter p (tail_accesses j u o) v ws (record c { job = j; stage = at_tail j u }) (last_stage j u o)
 at_the_tail p Put v ws c u o h = commit p v ws (record c { job = Put }) u h.next
 at_the_tail p Delete v ws c u None h = look p 1 v ws (record c { job = Delete }) u None (AtDead u) (omega arith) h (λ y. dead p y ws (record c { job = Delete }) u h.next)
-at_the_tail p Delete v ws c u (Some x) h = look p 2 v ws (record c { job = Delete }) u (Some x) (AtRaise u) (omega arith) h (λ y. commit p y ws (record c { job = Delete }) u h.next)
+at_the_tail p Delete v ws c u (Some x) h = look p 3 v ws (record c { job = Delete }) u (Some x) AtShort (omega arith) h (λ y. commit p y ws (record c { job = Delete }) u h.next)
 at_the_tail p (Swap e) v ws c u None h = look p 1 v ws (record c { job = Swap e }) u None (AtDead u) (omega arith) h (λ y. dead p y ws (record c { job = Swap e }) u h.next)
 at_the_tail p (Swap e) v ws c u (Some x) h = go (eqb (tag_number e) u) refl
   where
     d : Putting
     d = record c { job = Swap e }
 
-    go : (b : Bool) → eqb (tag_number e) u ≡ b → EndsAfter p (cond b 3 2) v ws (record c { job = Swap e; stage = AtMeta u }) (cond b (AtRaise u) (AtOther u))
-    go true q = look p 2 v ws (record c { job = Swap e }) u (Some x) (AtRaise u) (omega arith) h (λ y. subst (λ (b : Bool). EndsAfter p 2 y ws (record c { job = Swap e; stage = cond b (AtLink u) (AtOther u) }) (AtRaise u)) (sym q) (commit p y ws (record c { job = Swap e }) u h.next))
+    go : (b : Bool) → eqb (tag_number e) u ≡ b → EndsAfter p (cond b 4 2) v ws (record c { job = Swap e; stage = AtMeta u }) (cond b AtShort (AtOther u))
+    go true q = look p 3 v ws (record c { job = Swap e }) u (Some x) AtShort (omega arith) h (λ y. subst (λ (b : Bool). EndsAfter p 3 y ws (record c { job = Swap e; stage = cond b (AtLink u) (AtOther u) }) AtShort) (sym q) (commit p y ws (record c { job = Swap e }) u h.next))
     go false q = look p 1 v ws (record c { job = Swap e }) u (Some x) (AtOther u) (omega arith) h (λ y. subst (λ (b : Bool). EndsAfter p 1 y ws (record c { job = Swap e; stage = cond b (AtLink u) (AtOther u) }) (AtOther u)) (sym q) (other p y ws (record c { job = Swap e }) u h.next))
 
 tail_some : (j : Job) (u : ℕ) (o : Option Value) → 0 < tail_accesses j u o
@@ -131,7 +131,7 @@ tail_some Delete u (Some x) = omega arith
 tail_some (Swap e) u None = omega arith
 tail_some (Swap e) u (Some x) = go (eqb (tag_number e) u)
   where
-    go : (b : Bool) → 0 < cond b 3 2
+    go : (b : Bool) → 0 < cond b 4 2
     go true = omega arith
     go false = omega arith
 
@@ -141,6 +141,7 @@ module _ (p : Pool) (c : Putting) (at : Stage) where
   seek_one w h = ap (λ (s : Stage). record c { walk = w; stage = s }) (by w.stand h)
     where
       by : (s : Stand) → IsOnWay s → Seeking ≡ reached c.job s
+      by ToShort h = refl
       by AtRoot h = refl
       by (AtTag t) h = refl
       by (OnLink t u) h = refl
@@ -172,6 +173,19 @@ content_home b zero c (suc k) e = absurd (let z : Meta (buffer_at b) ≡ ValueOf
 content_home b (suc j) c zero e = absurd (let z : ValueOf (buffer_at b) j ≡ Meta (buffer_at c) = e in cc)
 content_home b (suc j) c (suc k) e = let q : buffer_at b ≡ buffer_at c = (let z : ValueOf (buffer_at b) j ≡ ValueOf (buffer_at c) k = e in cc) in buffer_same b c (ap (λ (x : Buffer). x.node) q) (ap (λ (x : Buffer). x.index) q)
 
+-- the way to a live tag reads the next words, the slot's shortcut and its root alone
+module _ (m n : Mem) (s : ℕ) (next : (b : ℕ) → n.next b ≡ m.next b) (root : n.root s ≡ m.root s) (short : n.short s ≡ m.short s) where
+  short_same : way_from_short n s ≡ way_from_short m s
+  short_same = go (m.short s) refl
+    where
+      go : (x : Option ℕ) → m.short s ≡ x → way_from_short n s ≡ way_from_short m s
+      go None e = rw (short, e, root) refl
+      go (Some t) e = rw (short, e, root, next (home t)) refl
+
+  way_same : (known : Option ℕ) → way_from n s known ≡ way_from m s known
+  way_same None = short_same
+  way_same (Some t) = λ i. cond (eqb (gen (next (home t) i)) (age t)) (record { loads = 0; stale = 0; start = FromCursor; from = Some t }) (record { loads = suc (short_same i).loads; stale = suc (short_same i).stale; start = (short_same i).start; from = (short_same i).from })
+
 module _ (p : Pool) (own : ℕ) (ws ws1 : List ℕ) (k : Kept p own ws ws1) where
   kept_next : (b : ℕ) → (mem_of p ws1).next b ≡ (mem_of p ws).next b
   kept_next b = guard (inside p b) _ _ (word 0 None) (λ h. ap next_of (k (NextOf (buffer_at b)) (buffer_in p b h) (λ j. not_content (NextOf (buffer_at b)) (home own) j (λ e. omega arith))))
@@ -179,11 +193,8 @@ module _ (p : Pool) (own : ℕ) (ws ws1 : List ℕ) (k : Kept p own ws ws1) wher
   kept_root : (s : ℕ) → s < p.slots → (mem_of p ws1).root s ≡ (mem_of p ws).root s
   kept_root s l = read_root p ws1 s l ∙ ap root_of (k (Root s) l (λ j. not_content (Root s) (home own) j (λ e. omega arith))) ∙ sym (read_root p ws s l)
 
-  kept_leads : (s : ℕ) (ts : List ℕ) (u : ℕ) → s < p.slots → LeadsOver p ws ((mem_of p ws).root s) ts u → LeadsOver p ws1 ((mem_of p ws1).root s) ts u
-  kept_leads s ts u l h = record {
-    walk = subst (λ (o : Option ℕ). Walk (mem_of p ws1) o (ts ++ u ∷ [])) (sym (kept_root s l)) (walk_same (mem_of p ws) (mem_of p ws1) kept_next ((mem_of p ws).root s) (ts ++ u ∷ []) h.walk);
-    range = h.range;
-  }
+  kept_short : (s : ℕ) → s < p.slots → (mem_of p ws1).short s ≡ (mem_of p ws).short s
+  kept_short s l = read_short p ws1 s l ∙ ap root_of (k (Short s) l (λ j. not_content (Short s) (home own) j (λ e. omega arith))) ∙ sym (read_short p ws s l)
 
   kept_version : (u : ℕ) (o : Option Value) → InRange p u → home u ≢ home own → HasVersion p ws u o → HasVersion p ws1 u o
   kept_version u o r d h = record {
@@ -192,15 +203,22 @@ module _ (p : Pool) (own : ℕ) (ws ws1 : List ℕ) (k : Kept p own ws ws1) wher
     words = λ j x e. k (content_at (home u) j) (content_within p (home u) o j x r.0 h.fits e) (λ i q. d (content_home (home u) j (home own) i q)) ∙ h.words j x e;
   }
 
-body_some : (o : Option Value) → 0 < length (content o)
-body_some None = let e = tombstone_length in omega arith
-body_some (Some x) = let e = value_length x in omega arith
-
-not_below : (a b : ℕ) → b ≤ a → ltb a b ≡ false
-not_below a b h = grind (arith, nat_tests)
-
-is_below : (a b : ℕ) → a < b → ltb a b ≡ true
-is_below a b h = grind (arith, nat_tests)
+-- and a walk comes by the same way
+kept_way : (w : Walking) (ws ws1 : List ℕ) (own : ℕ) → Kept w.pool own ws ws1 → (known : Option ℕ) (y : Way) (ts : List ℕ) (u : ℕ) → ComesBy ws w known y ts u → ComesBy ws1 (begun w) known y ts u
+kept_way w ws ws1 own k known y ts u h =
+    let p : Pool = w.pool in
+    let next = kept_next p own ws ws1 k in
+    let short = kept_short p own ws ws1 k w.slot h.slot in
+    record {
+      start = h.start;
+      stand = h.stand;
+      slot = h.slot;
+      cursor = h.cursor;
+      short = subst (λ (x : Option ℕ). IfSome x (InRange p)) (sym short) h.short;
+      way = h.way ∙ sym (way_same (mem_of p ws) (mem_of p ws1) w.slot next (kept_root p own ws ws1 k w.slot h.slot) short known);
+      leads = record { walk = walk_same (mem_of p ws) (mem_of p ws1) next y.from (ts ++ u ∷ []) h.leads.walk; range = h.leads.range };
+      below = h.below;
+    }
 
 -- the stores and the flushes
 module _ (p : Pool) (c : Putting) (ws : List ℕ) (at : Stage) (own : InRange p c.own) (fits : length (body c) ≤ 1 + p.words) where
@@ -216,20 +234,20 @@ module _ (p : Pool) (c : Putting) (ws : List ℕ) (at : Stage) (own : InRange p 
   flushes : (r n j : ℕ) → 0 < n → j + r ≡ length (body c) → Rest n Seeking → Rest (r + n) (at_flush j)
   flushes zero n j some e rest v ws1 k =
       subst (λ (i : ℕ). EndsAfter p i v ws1 (filled c (at_flush j)) at) (let z : n ≡ 0 + n = omega arith in z)
-      (subst (λ (b : Bool). EndsAfter p n v ws1 (filled c (cond b (Flushing j) Seeking)) at) (sym (not_below j (length (body c)) (omega arith))) (rest v ws1 k))
+      (subst (λ (b : Bool). EndsAfter p n v ws1 (filled c (cond b (Flushing j) Seeking)) at) (sym (le-ltb j (length (body c)) (omega arith))) (rest v ws1 k))
   flushes (suc r) n j some e rest v ws1 k =
       subst (λ (i : ℕ). EndsAfter p i v ws1 (filled c (at_flush j)) at) (let z : suc (r + n) ≡ suc r + n = omega arith in z)
-      (subst (λ (b : Bool). EndsAfter p (suc (r + n)) v ws1 (filled c (cond b (Flushing j) Seeking)) at) (sym (is_below j (length (body c)) (omega arith)))
+      (subst (λ (b : Bool). EndsAfter p (suc (r + n)) v ws1 (filled c (cond b (Flushing j) Seeking)) at) (sym (lt-ltb j (length (body c)) (omega arith)))
       (ends_more p (r + n) v ws1 (filled c (Flushing j)) at (slice_set ws1 (address_of p (content_at (home c.own) j) Flushed) (body_word c.job c.value j)) (filled c (at_flush (suc j))) (omega arith) tt refl refl
       (flushes r n (suc j) some (omega arith) rest (λ (i : ℕ). v (suc i)) _ (kept_write p c.own ws ws1 Flushed j (body_word c.job c.value j) own (omega arith) k))))
 
   stores : (r n j : ℕ) → 0 < n → j + r ≡ length (body c) → Rest n (Flushing 0) → Rest (r + n) (at_store j)
   stores zero n j some e rest v ws1 k =
       subst (λ (i : ℕ). EndsAfter p i v ws1 (filled c (at_store j)) at) (let z : n ≡ 0 + n = omega arith in z)
-      (subst (λ (b : Bool). EndsAfter p n v ws1 (filled c (cond b (Storing j) (Flushing 0))) at) (sym (not_below j (length (body c)) (omega arith))) (rest v ws1 k))
+      (subst (λ (b : Bool). EndsAfter p n v ws1 (filled c (cond b (Storing j) (Flushing 0))) at) (sym (le-ltb j (length (body c)) (omega arith))) (rest v ws1 k))
   stores (suc r) n j some e rest v ws1 k =
       subst (λ (i : ℕ). EndsAfter p i v ws1 (filled c (at_store j)) at) (let z : suc (r + n) ≡ suc r + n = omega arith in z)
-      (subst (λ (b : Bool). EndsAfter p (suc (r + n)) v ws1 (filled c (cond b (Storing j) (Flushing 0))) at) (sym (is_below j (length (body c)) (omega arith)))
+      (subst (λ (b : Bool). EndsAfter p (suc (r + n)) v ws1 (filled c (cond b (Storing j) (Flushing 0))) at) (sym (lt-ltb j (length (body c)) (omega arith)))
       (ends_more p (r + n) v ws1 (filled c (Storing j)) at (slice_set ws1 (address_of p (content_at (home c.own) j) Current) (body_word c.job c.value j)) (filled c (at_store (suc j))) (omega arith) tt refl refl
       (stores r n (suc j) some (omega arith) rest (λ (i : ℕ). v (suc i)) _ (kept_write p c.own ws ws1 Current j (body_word c.job c.value j) own (omega arith) k))))
 
@@ -238,7 +256,7 @@ module _ (p : Pool) (c : Putting) (ws : List ℕ) (at : Stage) (own : InRange p 
   begins n some size rest v =
       let l : ℕ = length (body c) in
       let r : ℕ = l - 1 in
-      let flushed : Rest (l + n) (Flushing 0) = (λ y ws1 k. subst (λ (b : Bool). EndsAfter p (l + n) y ws1 (filled c (cond b (Flushing 0) Seeking)) at) (is_below 0 l size) (flushes l n 0 some (omega arith) rest y ws1 k)) in
+      let flushed : Rest (l + n) (Flushing 0) = (λ y ws1 k. subst (λ (b : Bool). EndsAfter p (l + n) y ws1 (filled c (cond b (Flushing 0) Seeking)) at) (lt-ltb 0 l size) (flushes l n 0 some (omega arith) rest y ws1 k)) in
       subst (λ (i : ℕ). EndsAfter p i v ws (staged c (Storing 0)) at) (let z : suc (r + (l + n)) ≡ 2 * l + n = omega arith in z)
       (ends_more p (r + (l + n)) v ws (staged c (Storing 0)) at (slice_set ws (address_of p (content_at (home c.own) 0) Current) (body_word c.job c.value 0)) (filled c (at_store 1)) (omega arith) tt refl refl
       (stores r (l + n) 1 (omega arith) (omega arith) flushed (λ (i : ℕ). v (suc i)) _ (kept_write p c.own ws ws Current 0 (body_word c.job c.value 0) own (omega arith) (λ w h d. refl))))
@@ -248,30 +266,30 @@ last_apart b [] u r = r.0
 last_apart b (t ∷ ts) u r = last_apart b ts u r.1
 
 -- the walk and what it leads to
-module _ (c : Putting) (ws : List ℕ) (ts : List ℕ) (u : ℕ) (o : Option Value) (root : c.walk.stand ≡ AtRoot) (low : c.walk.slot < c.walk.pool.slots) (below : c.walk.turns + length ts < budget c.walk.pool)
-    (l : LeadsOver c.walk.pool ws ((mem_of c.walk.pool ws).root c.walk.slot) ts u) (h : HasVersion c.walk.pool ws u o) where
-  seeks : (v : ℕ → View) → EndsAfter c.walk.pool (2 * length ts + 2 + tail_accesses c.job u o) v ws (filled c Seeking) (last_stage c.job u o)
+module _ (c : Putting) (ws : List ℕ) (known : Option ℕ) (y : Way) (ts : List ℕ) (u : ℕ) (o : Option Value) (come : ComesBy ws (begun c.walk) known y ts u) (h : HasVersion c.walk.pool ws u o) where
+  seeks : (v : ℕ → View) → EndsAfter c.walk.pool (y.loads + 2 * length ts + 1 + tail_accesses c.job u o) v ws (filled c Seeking) (last_stage c.job u o)
   seeks v =
       let w : Walking = begun c.walk in
-      let r = root_law ws w ts u root low l below in
-      let there : Putting = walked c (record w { turns = w.turns + length ts; first = false; stand = OnTail u }) in
+      let n : ℕ = y.loads + 2 * length ts + 1 in
+      let r = start_law ws w known y ts u come in
+      let end : Walking = record w { turns = w.turns + (y.stale + length ts); first = false; start = y.start; stand = OnTail u } in
       let after : List ℕ = raised w.pool w.slot (ts ++ u ∷ []) ws in
-      let end : (y : ℕ → View) → EndsAfter c.walk.pool (tail_accesses c.job u o) y after there (last_stage c.job u o) =
-      (λ y. at_the_tail c.walk.pool c.job y after (record c { walk = record w { turns = w.turns + length ts; first = false; stand = OnTail u } }) u o (raised_version w.pool w.slot (ts ++ u ∷ []) ws u o l.range (last_range w.pool ts u l.range) h)) in
-      subst (λ (x : Putting). EndsAfter c.walk.pool (2 * length ts + 2 + tail_accesses c.job u o) v ws x (last_stage c.job u o)) (λ i. record c { walk = w; stage = reached c.job (root i) })
-      (walking c.walk.pool c (last_stage c.job u o) (2 * length ts + 2) (tail_accesses c.job u o) ws w (tail_some c.job u o) r.before
-      (λ y. subst (λ (x : List ℕ × Putting). EndsAfter c.walk.pool (tail_accesses c.job u o) y x.0 x.1 (last_stage c.job u o)) (λ i. (sym r.words i, walked c (sym r.there i))) (end y)) v)
+      let tail : (z : ℕ → View) → EndsAfter c.walk.pool (tail_accesses c.job u o) z after (walked c end) (last_stage c.job u o) =
+      (λ z. at_the_tail c.walk.pool c.job z after (record c { walk = end }) u o (raised_version w.pool w.slot (ts ++ u ∷ []) ws u o come.leads.range (last_range w.pool ts u come.leads.range) h)) in
+      subst (λ (x : Putting). EndsAfter c.walk.pool (n + tail_accesses c.job u o) v ws x (last_stage c.job u o)) (sym (seek_one c.walk.pool c (last_stage c.job u o) w (r.before 0 (omega arith))))
+      (walking c.walk.pool c (last_stage c.job u o) n (tail_accesses c.job u o) ws w (tail_some c.job u o) r.before
+      (λ z. subst (λ (x : List ℕ × Putting). EndsAfter c.walk.pool (tail_accesses c.job u o) z x.0 x.1 (last_stage c.job u o)) (λ i. (sym r.words i, walked c (sym r.there i))) (tail z)) v)
 
 pub put_law : PutLaw
-put_law v ws c ts u o st root low l below h own apart fits =
+put_law v ws c known y ts u o st come h own apart fits =
     let p : Pool = c.walk.pool in
-    let n : ℕ = 2 * length ts + 2 + tail_accesses c.job u o in
+    let n : ℕ = y.loads + 2 * length ts + 1 + tail_accesses c.job u o in
     let b = body_some (commits c.job c.value) in
-    let r = last_range p ts u l.range in
+    let r = last_range p ts u come.leads.range in
     let d = last_apart (home c.own) ts u apart in
     let more = tail_some c.job u o in
     let size : length (body c) ≡ version_words (commits c.job c.value) = content_words (commits c.job c.value) in
-    subst (λ (i : ℕ). EndsAfter p i v ws c (last_stage c.job u o)) (let z : 2 * length (body c) + n ≡ 2 * version_words (commits c.job c.value) + 2 * length ts + 2 + tail_accesses c.job u o = omega arith in z)
+    subst (λ (i : ℕ). EndsAfter p i v ws c (last_stage c.job u o)) (let z : 2 * length (body c) + n ≡ 2 * version_words (commits c.job c.value) + y.loads + 2 * length ts + 1 + tail_accesses c.job u o = omega arith in z)
     (subst (λ (s : Stage). EndsAfter p (2 * length (body c) + n) v ws (staged c s) (last_stage c.job u o)) (sym st)
     (begins p c ws (last_stage c.job u o) own (omega arith) n (omega arith) b
-    (λ y ws1 k. seeks c ws1 ts u o root low below (kept_leads p c.own ws ws1 k c.walk.slot ts u low l) (kept_version p c.own ws ws1 k u o r d h) y) v))
+    (λ z ws1 k. seeks c ws1 known y ts u o (kept_way c.walk ws ws1 c.own k known y ts u come) (kept_version p c.own ws ws1 k u o r d h) z) v))

@@ -1,5 +1,5 @@
 -- What each access of a put asks for is known where the put stands.
-use Rattle.std.proofs.Common.{◌≡◌, ℕ, List, ◌∷◌, refl, sym, ap, ◌∙◌, inl, arith, subst}
+use Rattle.std.proofs.Common.{◌≡◌, ℕ, ◌<◌, List, ◌∷◌, refl, sym, ap, ◌∙◌, inl, arith, subst}
 use Rattle.clover_words.specs.declared.pool.Pool.{Pool}
 use Rattle.clover_rule.specs.Content.{InRange, Fits, content}
 use Rattle.clover_rule.specs.Lists.{Within, nth}
@@ -9,15 +9,16 @@ use Rattle.clover_map.specs.declared.bytes.Value.{Value}
 use Rattle.clover_map.specs.declared.call.Reply.TheVariants.{Absent, Differs}
 use Rattle.clover_words.specs.Place.{IsWithin}
 use Rattle.clover_rule.specs.History.{named}
-use Rattle.clover_rule.specs.Steps.{StoreContent, FlushContent, LinkNext, DecideNext, Asks}
+use Rattle.clover_rule.specs.Steps.{StoreContent, FlushContent, StoreShort, LinkNext, DecideNext, Asks}
 use Rattle.clover_rule.specs.Words.{buffer_at}
 use Rattle.clover_walk.specs.Walking.{Stand, OnTail, StandsOn, key_at}
 use Rattle.std.specs.Prelude.{Option}
 use Rattle.clover_rule.specs.declared.view.View.{View}
 use Rattle.clover_rule.proofs.Ties.{content_in, buffer_in}
+use Rattle.clover_rule.proofs.Tools.{nth_within}
 use Rattle.clover_put.specs.Holding.{PutHolds}
-use Rattle.clover_put.specs.Putting.{Putting, Storing, Flushing, AtLink, AtDead, AtOther, AtRaise, body, commits, call_at}
-use Rattle.clover_put.proofs.Body.{body_fits, nth_less}
+use Rattle.clover_put.specs.Putting.{Putting, Storing, Flushing, AtLink, AtDead, AtOther, AtRaise, AtShort, body, commits, call_at}
+use Rattle.clover_put.proofs.Body.{body_fits}
 use Rattle.clover_put.proofs.Done.{at_stage}
 use Rattle.clover_put.proofs.Tail.{named_is, value_is, act_raise}
 
@@ -59,7 +60,7 @@ module _ (p : Pool) (c : Putting) (v : View) (u : ℕ) (h : PutHolds c v) (here 
           stock = k.0.1;
           tail = tail_in k.2.0.0;
           name = name_in;
-          stored = λ j x q. let e = ap (λ (o : Option Value). nth (content o) j) (sym value) ∙ q in let l = nth_less (body c) j x e in ((k.1.0.written j x l e).0, (k.1.0.flushed j x l e).0);
+          stored = λ j x q. let e = ap (λ (o : Option Value). nth (content o) j) (sym value) ∙ q in let l = nth_within (body c) j x e in ((k.1.0.written j x l e).0, (k.1.0.flushed j x l e).0);
           fits = subst (Fits p) (sym value) (subst (λ (q : Pool). Fits q (commits c.job c.value)) (sym here) f);
           call = k.2.1;
         },
@@ -77,3 +78,6 @@ module _ (p : Pool) (c : Putting) (v : View) (u : ℕ) (h : PutHolds c v) (here 
 
   pub asks_raise : c.stage ≡ AtRaise u → Asks p (act_raise c u) v
   asks_raise at = let k = at_stage c (AtRaise u) v at h in (word_in k.2.0.1, (h.walk.client, k.2.1))
+
+pub asks_short : (p : Pool) (c : Putting) (v : View) → PutHolds c v → p ≡ c.walk.pool → c.stage ≡ AtShort → Asks p (StoreShort c.walk.slot c.own) v
+asks_short p c v h here at = let k = at_stage c AtShort v at h in (subst (λ (q : Pool). c.walk.slot < q.slots) (sym here) k.2.0, (h.walk.client, k.2.1))

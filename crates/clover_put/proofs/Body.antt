@@ -1,6 +1,6 @@
 -- The content words of the version that a put commits, and what a meta word says.
 use Prim.Native.Nat.{zero, suc}
-use Rattle.std.proofs.Common.{⊎_elim, ◌⊎◌, ◌≡◌, ℕ, ◌+◌, ◌-◌, ◌/◌, ◌%◌, ◌^◌, ◌<◌, ◌≤◌, ◌==◌, List, [], ◌∷◌, length, Bool, true, false, cond, eqb, leb, ◌&&◌, refl, sym, ap, ◌∙◌, arith, eqb-true, eq-eqb}
+use Rattle.std.proofs.Common.{⊎_elim, ◌⊎◌, ◌≡◌, ℕ, ◌+◌, ◌-◌, ◌/◌, ◌%◌, ◌^◌, ◌<◌, ◌≤◌, ◌==◌, length, Bool, true, false, cond, eqb, leb, ◌&&◌, refl, sym, ap, ◌∙◌, arith, eqb-true, eq-eqb}
 use Rattle.std.specs.Prelude.{Option, Some, None}
 use Rattle.std.proofs.lemmas.Bool.Decides.{nat_tests}
 use Rattle.clover_words.specs.declared.meta.Kind.{Kind}
@@ -9,25 +9,17 @@ use Rattle.clover_words.specs.Meta.{MetaParts, IsMeta, meta_word}
 use Rattle.clover_words.specs.Tag.{TagParts}
 use Rattle.clover_words.specs.Pack.{packed, words_of}
 use Rattle.clover_map.specs.declared.bytes.Value.{Value}
-use Rattle.clover_rule.specs.Content.{content, tombstone, value_meta, words_from, Fits}
+use Rattle.clover_rule.specs.Content.{content, tombstone, value_meta, Fits}
 use Rattle.clover_rule.specs.Lists.{nth}
+use Rattle.clover_rule.proofs.Spelling.{length_words, nth_words}
 use Rattle.clover_words.specs.declared.pool.Pool.{Pool}
 use Rattle.clover_put.specs.declared.job.Job.{Job}
 use Rattle.clover_put.specs.declared.job.Job.TheVariants.{Put, Delete, Swap}
 use Rattle.clover_put.specs.Putting.{commits, body_word, kind_of}
 
-from_length : (bytes : List ℕ) (k n : ℕ) → length (words_from bytes k n) ≡ n
-from_length bytes k zero = refl
-from_length bytes k (suc n) = ap suc (from_length bytes (suc k) n)
-
-from_nth : (bytes : List ℕ) (k n i : ℕ) → i < n → nth (words_from bytes k n) i ≡ Some (packed bytes (k + i))
-from_nth bytes k zero i less = absurd (omega arith)
-from_nth bytes k (suc n) zero less = let e : k ≡ k + 0 = omega arith in ap (λ (z : ℕ). Some (packed bytes z)) e
-from_nth bytes k (suc n) (suc i) less = let e : suc k + i ≡ k + suc i = omega arith in from_nth bytes (suc k) n i (omega arith) ∙ ap (λ (z : ℕ). Some (packed bytes z)) e
-
 pub value_length : (x : Value) → length (content (Some x)) ≡ suc (words_of (length x.bytes))
 unfolding content
-value_length x = ap suc (from_length x.bytes 0 (words_of (length x.bytes)))
+value_length x = ap suc (length_words x.bytes 0 (words_of (length x.bytes)))
 
 pub tombstone_length : length (content None) ≡ 1
 unfolding content
@@ -35,7 +27,7 @@ tombstone_length = refl
 
 value_nth : (x : Value) (k : ℕ) → suc k < length (content (Some x)) → nth (content (Some x)) (suc k) ≡ Some (packed x.bytes k)
 unfolding content
-value_nth x k less = let e = from_length x.bytes 0 (words_of (length x.bytes)) in let z : 0 + k ≡ k = omega arith in from_nth x.bytes 0 (words_of (length x.bytes)) k (omega arith) ∙ ap (λ (n : ℕ). Some (packed x.bytes n)) z
+value_nth x k less = let e = length_words x.bytes 0 (words_of (length x.bytes)) in let z : 0 + k ≡ k = omega arith in nth_words x.bytes 0 (words_of (length x.bytes)) k (omega arith) ∙ ap (λ (n : ℕ). Some (packed x.bytes n)) z
 
 meta_nth : (x : Value) → nth (content (Some x)) 0 ≡ Some (value_meta x)
 unfolding content
@@ -54,23 +46,10 @@ body_nth Delete x i less = dead_nth i less
 body_nth (Swap t) x zero less = meta_nth x
 body_nth (Swap t) x (suc k) less = value_nth x k less
 
-pub nth_less : {A : Type 0} (xs : List A) (i : ℕ) (x : A) → nth xs i ≡ Some x → i < length xs
-nth_less [] i x e = absurd cc
-nth_less (y ∷ xs) zero x e = omega arith
-nth_less (y ∷ xs) (suc i) x e = let a = nth_less xs i x e in omega arith
-
-pub some_is : {A : Type 0} (x y : A) → Some x ≡ Some y → x ≡ y
-some_is {A} x y e = ap value e
-  where
-    value : Option A → A
-    value None = x
-    value (Some z) = z
-
 -- a version has a word, and fits
-pub body_some : (j : Job) (x : Value) → 0 < length (content (commits j x))
-body_some Put x = let e = value_length x in omega arith
-body_some Delete x = let e = tombstone_length in omega arith
-body_some (Swap t) x = let e = value_length x in omega arith
+pub body_some : (o : Option Value) → 0 < length (content o)
+body_some None = let e = tombstone_length in omega arith
+body_some (Some x) = let e = value_length x in omega arith
 
 fits_least : (p : Pool) (x : Value) → Fits p (Some x) → length (content (Some x)) ≤ suc p.words
 fits_least p x f = let e = value_length x in let b = f.1 in omega arith

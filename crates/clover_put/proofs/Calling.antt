@@ -4,7 +4,7 @@ use Rattle.clover_map.specs.declared.bytes.Value.{Value}
 use Rattle.clover_rule.specs.declared.view.View.{View}
 use Rattle.clover_walk.specs.Walking.{Walking, Holds, IsOnWay}
 use Rattle.clover_put.specs.Holding.{PutHolds}
-use Rattle.clover_put.specs.Putting.{made_put}
+use Rattle.clover_put.specs.Putting.{commits, made_put}
 use Rattle.clover_put.specs.declared.job.Job.{Job}
 use Rattle.clover_put.proofs.Body.{body_some}
 
@@ -13,7 +13,7 @@ pub made_holds : (w : Walking) (v : View) (j : Job) (t : ℕ) (x : Value) → Ho
 made_holds w v j t x h first way own = record {
   walk = h;
   owns = own;
-  fills = (record { written = λ i y l q. absurd (omega arith); flushed = λ i y l q. absurd (omega arith) }, body_some j x, first);
+  fills = (record { written = λ i y l q. absurd (omega arith); flushed = λ i y l q. absurd (omega arith) }, body_some (commits j x), first);
   looks = way;
   spent = subst (λ (b : Bool). cond b 0 (length v.pass.since) ≤ 0) (sym first) (omega arith);
 }

@@ -10,18 +10,33 @@ use Rattle.clover_rule.specs.Steps.{Step, StoreContent, FlushContent}
 use Rattle.clover_rule.specs.declared.access.Act.{Act}
 use Rattle.clover_rule.specs.declared.view.View.{View}
 use Rattle.clover_walk.specs.Walking.{Holds, begun, budget}
+use Rattle.clover_rule.proofs.Tools.{length_snoc}
 use Rattle.clover_walk.proofs.Endings.{Stepped, stepped}
-use Rattle.clover_put.specs.Answering.{IsBefore}
+use Rattle.clover_put.specs.Answering.{IsBefore, Onward}
 use Rattle.clover_put.specs.Holding.{Filled, Fills, Owns, Looks, PutHolds, most}
-use Rattle.clover_put.specs.Putting.{Putting, Stage, Storing, Flushing, Seeking, body, body_word, filled, after_store, after_flush, put_step, put_on}
+use Rattle.clover_put.specs.Putting.{Putting, Stage, Storing, Flushing, Seeking, AtMeta, AtLink, AtDead, AtOther, AtBad, AtRaise, AtShort, Over, commits, body, body_word, filled, after_store, after_flush, put_step, put_on}
 use Rattle.clover_put.specs.Stepping.{PutStep}
 use Rattle.clover_put.specs.declared.turn.PutTurn.TheVariants.{More, Unreached}
 use Rattle.clover_put.proofs.Body.{body_nth, body_some}
-use Rattle.clover_put.proofs.Known.{walk_kept, filled_stored, filled_flushed, length_more, bounded}
+use Rattle.clover_put.proofs.Known.{walk_kept, filled_stored, filled_flushed, bounded}
 
 -- a refused access leaves all as it was
 pub refused_step : (p : Pool) (c : Putting) (v : View) (o : Option Open) (f : ℕ) (w : View) (o1 : Option Open) (f1 : ℕ) → PutHolds c v → IsBefore c.stage → Rose f f1 × (w ≡ v) × (o1 ≡ o) → PutStep p c v o f c w o1 f1 Unreached
-refused_step p c v o f w o1 f1 h b r = record { made = tt; answer = (b, refl); decided = tt; done = tt; absent = tt; differs = tt; behind = tt; ahead = tt; refused = r; stands = subst (PutHolds c) (sym r.1) h; bound = tt }
+refused_step p c v o f w o1 f1 h b r = record { made = tt; answer = (b, refl); decided = tt; known = tt; absent = tt; differs = tt; behind = tt; ahead = tt; refused = r; stands = subst (PutHolds c) (sym r.1) h; bound = tt }
+
+-- a call that has committed nothing goes on where it still has not
+pub before_onward : (s : Stage) (c n : Putting) → IsBefore s → IsBefore n.stage → Onward s c n
+before_onward (Storing j) c n b e = e
+before_onward (Flushing j) c n b e = e
+before_onward Seeking c n b e = e
+before_onward (AtMeta u) c n b e = e
+before_onward (AtLink u) c n b e = e
+before_onward (AtDead u) c n b e = e
+before_onward (AtOther u) c n b e = e
+before_onward (AtBad u) c n b e = e
+before_onward (AtRaise u) c n b e = absurd b
+before_onward AtShort c n b e = absurd b
+before_onward Over c n b e = absurd b
 
 -- the parts of what is known, at a known stage
 pub at_stage : (c : Putting) (at : Stage) (v : View) → c.stage ≡ at → PutHolds c v → Owns at c v × Fills at c v × Looks at c v × (cond c.walk.first 0 (length v.pass.since) ≤ most at c)
@@ -35,8 +50,8 @@ at_on c at x e = ap (λ (s : Stage). put_on (record c { stage = s }) x) e
 
 -- how many accesses there are after one more
 pub one_more : (b : Bool) (v w : View) (a : Act) (k : ℕ) → w.pass.since ≡ cond b [] v.pass.since ++ a ∷ [] → cond b 0 (length v.pass.since) ≤ k → length w.pass.since ≤ suc k
-one_more true v w a k e h = let q = ap length e ∙ length_more a [] in omega arith
-one_more false v w a k e h = let q = ap length e ∙ length_more a v.pass.since in omega arith
+one_more true v w a k e h = let q = ap length e ∙ length_snoc a [] in omega arith
+one_more false v w a k e h = let q = ap length e ∙ length_snoc a v.pass.since in omega arith
 
 module _ (p : Pool) (c : Putting) (v : View) (o : Option Open) (f : ℕ) (w : View) (o1 : Option Open) (f1 : ℕ) (h : PutHolds c v) (here : p ≡ c.walk.pool) (fit : length (body c) ≤ suc p.words) (j : ℕ) where
   -- a store of the word at place j
@@ -73,15 +88,15 @@ module _ (p : Pool) (c : Putting) (v : View) (o : Option Open) (f : ℕ) (w : Vi
     stands false q =
         let l = k.1.1 in
         let all : suc j ≡ length (body c) = grind (arith, nat_tests) in
-        record { walk = held; owns = (k.0.0, stock ∙ k.0.1); fills = (subst (λ (n : ℕ). Filled (filled c (Flushing 0)) n 0 w) all (fills (filled c (Flushing 0)) refl refl), body_some c.job c.value, refl); looks = k.2; spent = omega (arith, spent) }
+        record { walk = held; owns = (k.0.0, stock ∙ k.0.1); fills = (subst (λ (n : ℕ). Filled (filled c (Flushing 0)) n 0 w) all (fills (filled c (Flushing 0)) refl refl), body_some (commits c.job c.value), refl); looks = k.2; spent = omega (arith, spent) }
 
     pub store_step : PutStep p c v o f (filled c (after_store (length (body c)) j)) w o1 f1 More
     store_step =
         let t = held.turns in let l = k.1.1 in let b = held.below in record {
           made = (x, subst (λ (a : Step). Made p a c.walk.first v o x w o1) (sym (at_step c (Storing j) v at)) made, sym (at_on c (Storing j) x at));
-          answer = (subst IsBefore (sym at) tt, before (ltb (suc j) (length (body c))));
+          answer = before_onward c.stage c _ (subst IsBefore (sym at) tt) (before (ltb (suc j) (length (body c))));
           decided = tt;
-          done = tt;
+          known = tt;
           absent = tt;
           differs = tt;
           behind = tt;
@@ -135,9 +150,9 @@ module _ (p : Pool) (c : Putting) (v : View) (o : Option Open) (f : ℕ) (w : Vi
     flush_step =
         let t = held1.turns in let l = k1.1.1 in let b = held1.below in record {
           made = (x, subst (λ (a : Step). Made p a c.walk.first v o x w o1) (sym (at_step c (Flushing j) v at)) later, sym (at_on c (Flushing j) x at));
-          answer = (subst IsBefore (sym at) tt, before (ltb (suc j) (length (body c))));
+          answer = before_onward c.stage c _ (subst IsBefore (sym at) tt) (before (ltb (suc j) (length (body c))));
           decided = tt;
-          done = tt;
+          known = tt;
           absent = tt;
           differs = tt;
           behind = tt;

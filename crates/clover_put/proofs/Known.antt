@@ -2,8 +2,9 @@
 use Prim.Native.Nat.{zero, suc}
 use native.Mathlib.Decide.{ℕ_discrete}
 use mathlib.Core.Logic.{dite}
-use Rattle.std.proofs.Common.{◌≡◌, ◌≢◌, ℕ, ◌+◌, ◌*◌, ◌<◌, ◌≤◌, List, [], ◌∷◌, ◌++◌, length, Bool, true, false, cond, eqb, ◌&&◌, refl, sym, ap, ◌∙◌, inl, inr, ⊎_elim, arith, subst, eqb-true, ne_eqb}
+use Rattle.std.proofs.Common.{◌≡◌, ◌≢◌, ℕ, ◌+◌, ◌*◌, ◌<◌, ◌≤◌, List, [], ◌∷◌, ◌++◌, Bool, true, false, cond, eqb, ◌&&◌, refl, sym, ap, ◌∙◌, inl, inr, ⊎_elim, arith, subst, eqb-true, ne_eqb}
 use Rattle.std.specs.Prelude.{Some}
+use Rattle.std.proofs.lemmas.Option.{same_Some}
 use Rattle.clover_words.specs.declared.word.Side.TheVariants.{Current, Flushed}
 use Rattle.clover_words.specs.declared.pool.Pool.{Pool}
 use Rattle.clover_rule.specs.Knowing.{dropped}
@@ -18,25 +19,19 @@ use Rattle.clover_rule.specs.declared.view.Link.{Link}
 use Rattle.clover_rule.specs.declared.view.Role.{Role}
 use Rattle.clover_rule.specs.declared.view.Role.TheVariants.{Client}
 use Rattle.clover_rule.specs.declared.view.View.{View}
-use Rattle.clover_rule.proofs.Snocs.{within_back}
 use Rattle.clover_rule.proofs.Steps.{within_prefix}
-use Rattle.clover_walk.specs.Walking.{Walking, Stand, AtRoot, AtTag, AtLink as OnLink, OnTail, Ended, StandsOn, Holds, begun, key_at}
+-- the layers above name these two from here
+pub use Rattle.clover_rule.proofs.Steps.{within_last}
+pub use Rattle.clover_rule.proofs.Tools.{length_snoc as length_more}
+use Rattle.clover_walk.specs.Walking.{Walking, Stand, AtShort, AtRoot, AtTag, AtLink as OnLink, OnTail, Ended, StandsOn, Holds, begun, key_at}
 use Rattle.clover_walk.proofs.Endings.{Stepped}
 use Rattle.clover_put.specs.Holding.{Filled}
 use Rattle.clover_put.specs.Putting.{Putting, body}
 use Rattle.clover_put.specs.Stepping.{turn_bound}
-use Rattle.clover_put.proofs.Body.{some_is}
 
 -- a list of accesses that has grown by one
 pub within_more : {A : Type 0} (x y : A) (xs : List A) → Within x xs → Within x (xs ++ y ∷ [])
 within_more x y xs w = within_prefix x xs (y ∷ []) w
-
-pub within_last : {A : Type 0} (y : A) (xs : List A) → Within y (xs ++ y ∷ [])
-within_last y xs = within_back y xs (y ∷ []) (inl refl)
-
-pub length_more : {A : Type 0} (y : A) (xs : List A) → length (xs ++ y ∷ []) ≡ suc (length xs)
-length_more y [] = refl
-length_more y (x ∷ xs) = ap suc (length_more y xs)
 
 -- what is stored at another place stays
 pub dropped_else : (t j i : ℕ) (x : ℕ) (cs : List Content) → i ≢ j → Within (record { tag = t; place = i; word = x }) cs → Within (record { tag = t; place = i; word = x }) (dropped t j cs)
@@ -50,6 +45,7 @@ dropped_else t j i x (c ∷ cs) d w = go (eqb c.tag t) (eqb c.place j) refl w (�
 
 -- where a walk stands is still known
 pub stands_kept : (s : ℕ) (at : Stand) (v w : View) → ((q : ℕ × ℕ) → Within q v.pass.durable → Within q w.pass.durable) → ((l : Link) → Within l v.pass.links → Within l w.pass.links) → StandsOn s at v → StandsOn s at w
+stands_kept s AtShort v w d k h = tt
 stands_kept s AtRoot v w d k h = tt
 stands_kept s (AtTag t) v w d k h = d (s, t) h
 stands_kept s (OnLink t u) v w d k h = k (record { slot = s; from = t; to = u }) h
@@ -87,7 +83,7 @@ pub filled_stored : (c e : Putting) (j y : ℕ) (b : Bool) (v w : View) → e.ow
     → Filled c j 0 v → Filled e (suc j) 0 w
 filled_stored c e j y b v w eo eb first here ew es f = record {
   written = λ i x l q. let z = ap (λ (xs : List ℕ). nth xs i) (sym eb) ∙ q in
-      let r = dite (ℕ_discrete i j) (λ d. now i x (some_is y x (sym here ∙ ap (nth (body c)) (sym d) ∙ z)) d) (λ d. old i x (omega arith) z d) in
+      let r = dite (ℕ_discrete i j) (λ d. now i x (same_Some y x (sym here ∙ ap (nth (body c)) (sym d) ∙ z)) d) (λ d. old i x (omega arith) z d) in
       (subst (λ (t : ℕ). Within (record { tag = t; place = i; word = x }) w.pass.written) (sym eo) r.0, subst (λ (t : ℕ). Within (Store (content_at (home t) i) Current x) w.pass.since) (sym eo) r.1);
   flushed = λ i x l q. absurd (omega arith);
 }
@@ -119,7 +115,7 @@ filled_flushed c e n j y v w eo eb here ew ef es f = record {
     subst (λ (t : ℕ). Within (Store (content_at (home t) i) Current x) w.pass.since) (sym eo) (subst (Within (Store (content_at (home c.own) i) Current x)) (sym es) (within_more (Store (content_at (home c.own) i) Current x) (Store (content_at (home c.own) j) Flushed y) v.pass.since r.1)),
   );
   flushed = λ i x l q. let z = ap (λ (xs : List ℕ). nth xs i) (sym eb) ∙ q in
-      let r = dite (ℕ_discrete i j) (λ d. now i x (some_is y x (sym here ∙ ap (nth (body c)) (sym d) ∙ z)) d) (λ d. old i x (omega arith) z d) in
+      let r = dite (ℕ_discrete i j) (λ d. now i x (same_Some y x (sym here ∙ ap (nth (body c)) (sym d) ∙ z)) d) (λ d. old i x (omega arith) z d) in
       (subst (λ (t : ℕ). Within (record { tag = t; place = i; word = x }) w.pass.flushed) (sym eo) r.0, subst (λ (t : ℕ). Within (Store (content_at (home t) i) Flushed x) w.pass.since) (sym eo) r.1);
 }
   where
@@ -143,7 +139,7 @@ times (suc a) b = let h = times a b in let e : suc (suc a) * (b + 5) ≡ suc a *
     refl_at : (m n : ℕ) → suc m * n ≡ m * n + n
     refl_at m n = omega arith
 
-pub bounded : (p : Pool) (k n turns : ℕ) → k ≤ 2 * n + 5 * turns + 5 → n ≤ suc p.words → k ≤ turn_bound p turns
+pub bounded : (p : Pool) (k n turns : ℕ) → k ≤ 2 * n + 5 * turns + 7 → n ≤ suc p.words → k ≤ turn_bound p turns
 bounded p k n turns h l =
     let a = times turns p.words in
     let e : turns + 1 ≡ suc turns = omega arith in

@@ -17,7 +17,7 @@ use Rattle.clover_rule.specs.Words.{buffer_at}
 use Rattle.clover_rule.specs.declared.view.View.{View}
 use Rattle.clover_rule.proofs.Steps.{each_within}
 use Rattle.clover_words.specs.Tag.{TagParts, tag_number}
-use Rattle.clover_walk.specs.Walking.{Walking, Stand, AtRoot, AtTag, AtLink as OnLink, OnTail, Ended, Holds, IsOnWay, ShowsNext, walk_step, step_at, goes_on, budget}
+use Rattle.clover_walk.specs.Walking.{Walking, Stand, AtShort, AtRoot, AtTag, AtLink as OnLink, OnTail, Ended, Holds, IsOnWay, ShowsNext, walk_step, step_at, goes_on, budget}
 use Rattle.clover_walk.specs.Turning.{OnReached as WalkReached, ExactTurn, Answers as WalkAnswers, IfAtTail, IfBehind as WalkIfBehind, OnAhead as WalkAhead, OnGoing as WalkGoing}
 use Rattle.clover_walk.specs.declared.turn.Turn.{Turn}
 use Rattle.clover_walk.specs.declared.turn.Turn.TheVariants.{More as WalkMore, AtTail, Behind as WalkBehind, Unreached as WalkUnreached}
@@ -86,6 +86,7 @@ module _ (p : Pool) (c : Putting) (v : View) (o : Option Open) (w : View) (o1 : 
 
 -- a step of a walk ends no call
 plain_walk : (s : ℕ) (at : Stand) (x : ℕ) → IsOnWay at → IsPlain (step_at s at) x
+plain_walk s AtShort x h = tt
 plain_walk s AtRoot x h = tt
 plain_walk s (AtTag t) x h = tt
 plain_walk s (OnLink t u) x h = tt
@@ -112,13 +113,13 @@ seek_done p c v o f w o1 f1 h here fit at n r d reached went m t em et =
 
 -- where the call's own access found the tail left
 module _ (p : Pool) (c : Putting) (v : View) (o : Option Open) (f : ℕ) (w : View) (o1 : Option Open) (f1 : ℕ) (h : PutHolds c v) (here : p ≡ c.walk.pool) (fit : length (body c) ≤ suc p.words) (u x : ℕ) (a : Step)
-    (later : c.walk.first ≡ false) (on_tail : c.walk.stand ≡ OnTail u) (before : IsBefore c.stage) (own : (rest : List ℕ) × (v.pass.stock ≡ c.own ∷ rest)) (fills : Filled c (length (body c)) (length (body c)) v) (spent : cond c.walk.first 0 (length v.pass.since) ≤ behind_it c + 3)
+    (later : c.walk.first ≡ false) (on_tail : c.walk.stand ≡ OnTail u) (before : IsBefore c.stage) (own : (rest : List ℕ) × (v.pass.stock ≡ c.own ∷ rest)) (fills : Filled c (length (body c)) (length (body c)) v) (spent : cond c.walk.first 0 (length v.pass.since) ≤ behind_it c + 4)
     (step : put_step c v ≡ a) (word_is : word_of a ≡ NextOf (buffer_at (home u))) (made : Made p a false v o x w o1) (plain : IsPlain a x) (left : x ≢ unlinked u) (goes : put_on c x ≡ walked c (goes_on c.walk x)) where
   turned : Turned c.walk (goes_on c.walk x)
   turned = left_turns c.walk u x on_tail (subst (λ (y : Word). IsShown p y x) word_is made.told.number).0 left
 
   less : suc (length v.pass.since) ≤ 2 * length (body c) + 5 * (goes_on c.walk x).turns + steps_at (goes_on c.walk x).stand
-  less = let q : length v.pass.since ≤ behind_it c + 3 = subst (λ (b : Bool). cond b 0 (length v.pass.since) ≤ behind_it c + 3) later spent in let e = turned.turns in let e1 = turned.stand in omega arith
+  less = let q : length v.pass.since ≤ behind_it c + 4 = subst (λ (b : Bool). cond b 0 (length v.pass.since) ≤ behind_it c + 4) later spent in let e = turned.turns in omega arith
 
   pub left_done : (r : Turn) → Went p c.walk.slot (goes_on c.walk x) w r → (m : Putting) (t : PutTurn) → m ≡ walked c (goes_on c.walk x) → t ≡ as_put r → PutStep p c v o f m w o1 f1 t
   left_done r went m t em et =

@@ -1,4 +1,4 @@
--- What a put promises at the tail: the meta word, the exchange, the last load and the raise.
+-- What a put promises at the tail: the meta word, the exchange, the last load, the raise and the store of the shortcut.
 use Prim.Native.Nat.{suc}
 use Rattle.std.proofs.Common.{◌≡◌, ℕ, ◌+◌, ◌<◌, ◌≤◌, ◌==◌, List, [], ◌∷◌, ◌++◌, length, Bool, true, false, cond, eqb, refl, sym, ap, ◌∙◌, inl, inr, arith, subst, eqb-true, eq-eqb}
 use Rattle.std.specs.Prelude.{Option, Some, None}
@@ -13,29 +13,31 @@ use Rattle.clover_map.specs.declared.call.Reply.{Reply}
 use Rattle.clover_map.specs.declared.call.Reply.TheVariants.{Absent, Differs}
 use Rattle.clover_port.specs.Told.{Open, Made, Rose}
 use Rattle.clover_rule.specs.Accesses.{SawDead, SawLive, SawFor, StoredBoth, Decides, Committed, AtTail}
-use Rattle.clover_rule.specs.Content.{content, tombstone}
+use Rattle.clover_rule.specs.Content.{InRange, content, tombstone}
 use Rattle.clover_rule.specs.History.{named}
 use Rattle.clover_rule.specs.Knowing.{SawTombstone, SawValue, link_view}
 use Rattle.clover_rule.specs.Lists.{nth, Within}
 use Rattle.clover_rule.specs.Memory.{home}
-use Rattle.clover_rule.specs.Steps.{Step, LoadContent, LinkNext, DecideNext, RaiseNext, MayCall, MayReply, unlinked, value_of, reply_of, turn_at, counted, act_of, client, rest_of, seen}
+use Rattle.clover_rule.specs.Steps.{Step, LoadContent, LinkNext, DecideNext, RaiseNext, StoreShort, MayCall, MayReply, unlinked, value_of, reply_of, turn_at, counted, act_of, client, rest_of, decided, seen}
 use Rattle.clover_rule.specs.Words.{buffer_at, next_of}
 use Rattle.clover_rule.specs.declared.access.Act.{Act}
 use Rattle.clover_rule.specs.declared.access.Act.TheVariants.{Load}
 use Rattle.clover_rule.specs.declared.view.View.{View}
+use Rattle.clover_rule.proofs.Steps.{each_within, within_last}
+use Rattle.clover_rule.proofs.Tools.{nth_within}
 use Rattle.clover_walk.specs.Ending.{Ended}
-use Rattle.clover_walk.specs.Walking.{Walking, Holds, begun, budget, key_at, goes_on}
+use Rattle.clover_walk.specs.Walking.{Walking, Stand, StandsOn, Holds, begun, budget, key_at, goes_on}
 use Rattle.clover_walk.proofs.Endings.{Stepped, stepped, at_tail, commits as committed_by}
-use Rattle.clover_put.specs.Answering.{IsBefore, IsRaising, Stores, Deletes}
-use Rattle.clover_put.specs.Holding.{Filled, Fills, Owns, Looks, Reads, PutHolds, behind_it}
-use Rattle.clover_put.specs.Putting.{Putting, Stage, AtMeta, AtLink, AtDead, AtOther, AtBad, AtRaise, Over, body, call_of, call_at, commits, kind_of, on_meta, on_value, staged, unless_left, walked, put_step, put_on}
+use Rattle.clover_put.specs.Answering.{IsBefore, IsBehind, Onward, Stores, Deletes}
+use Rattle.clover_put.specs.Holding.{Filled, Fills, Owns, IsAt, Looks, Reads, PutHolds, behind_it}
+use Rattle.clover_put.specs.Putting.{Putting, Stage, AtMeta, AtLink, AtDead, AtOther, AtBad, AtRaise, AtShort, Over, body, call_of, call_at, commits, kind_of, on_meta, on_value, staged, unless_left, walked, put_step, put_on}
 use Rattle.clover_put.specs.Stepping.{PutStep, turn_bound, done_with}
 use Rattle.clover_put.specs.declared.job.Job.{Job}
 use Rattle.clover_put.specs.declared.job.Job.TheVariants.{Put, Delete, Swap}
 use Rattle.clover_put.specs.declared.turn.PutTurn.TheVariants.{More, Decided, Stored, Deleted, Absent as AbsentTurn, Differs as DiffersTurn, Linked}
-use Rattle.clover_put.proofs.Body.{kind_value, kind_dead, nth_less}
-use Rattle.clover_put.proofs.Known.{walk_kept, filled_kept, within_last, bounded}
-use Rattle.clover_put.proofs.Done.{at_stage, at_step, at_on, one_more}
+use Rattle.clover_put.proofs.Body.{kind_value, kind_dead}
+use Rattle.clover_put.proofs.Known.{walk_kept, filled_kept, bounded}
+use Rattle.clover_put.proofs.Done.{before_onward, at_stage, at_step, at_on, one_more}
 
 -- a walk of which the call has made an access already
 later_walk : (w : Walking) → w.first ≡ false → begun w ≡ w
@@ -59,7 +61,7 @@ may_miss (Swap t) k x w s u r h = h
 module _ (p : Pool) (c : Putting) (v : View) (o : Option Open) (f : ℕ) (w : View) (o1 : Option Open) (f1 : ℕ) (h : PutHolds c v) (here : p ≡ c.walk.pool) (fit : length (body c) ≤ suc p.words) (u : ℕ) where
   -- the load of the tail's meta word
   module _ (at : c.stage ≡ AtMeta u) (y : ℕ) (made : Made p (LoadContent c.walk.slot u 0) false v o y w o1) where
-    k : Owns (AtMeta u) c v × Fills (AtMeta u) c v × Looks (AtMeta u) c v × (cond c.walk.first 0 (length v.pass.since) ≤ behind_it c + 2)
+    k : Owns (AtMeta u) c v × Fills (AtMeta u) c v × Looks (AtMeta u) c v × (cond c.walk.first 0 (length v.pass.since) ≤ behind_it c + 3)
     k = at_stage c (AtMeta u) v at h
 
     later : Made p (LoadContent c.walk.slot u 0) c.walk.first v o y w o1
@@ -74,14 +76,14 @@ module _ (p : Pool) (c : Putting) (v : View) (o : Option Open) (f : ℕ) (w : Vi
     copied : w.pass.copied ≡ (c.walk.slot, record { tag = u; place = 0; word = y }) ∷ v.pass.copied
     copied = ap (λ (z : View). z.pass.copied) made.told.next
 
-    spent : length w.pass.since ≤ suc (behind_it c + 2)
-    spent = one_more c.walk.first v w _ (behind_it c + 2) s.since k.3
+    spent : length w.pass.since ≤ suc (behind_it c + 3)
+    spent = one_more c.walk.first v w _ (behind_it c + 3) s.since k.3
 
     held : Holds c.walk w
     held = holds_later c.walk w k.1.1 (walk_kept c.walk v w _ y h.walk s refl (λ q i. subst (Within q) (sym (ap (λ (z : View). z.pass.durable) made.told.next)) i) (λ l i. subst (Within l) (sym (ap (λ (z : View). z.pass.links) made.told.next)) i))
 
-    small : cond c.walk.first 0 (length w.pass.since) ≤ behind_it c + 3
-    small = subst (λ (b : Bool). cond b 0 (length w.pass.since) ≤ behind_it c + 3) (sym k.1.1) (omega (arith, spent))
+    small : cond c.walk.first 0 (length w.pass.since) ≤ behind_it c + 4
+    small = subst (λ (b : Bool). cond b 0 (length w.pass.since) ≤ behind_it c + 4) (sym k.1.1) (omega (arith, spent))
 
     own : (rest : List ℕ) × (w.pass.stock ≡ c.own ∷ rest)
     own = (k.0.0, ap (λ (z : View). z.pass.stock) made.told.next ∙ k.0.1)
@@ -152,9 +154,9 @@ module _ (p : Pool) (c : Putting) (v : View) (o : Option Open) (f : ℕ) (w : Vi
     look_step =
         let t : w.pass.turns ≡ c.walk.turns = subst (λ (b : Bool). cond b 0 w.pass.turns ≡ c.walk.turns) k.1.1 held.turns in record {
           made = (y, subst (λ (a : Step). Made p a c.walk.first v o y w o1) (sym (at_step c (AtMeta u) v at)) later, sym (at_on c (AtMeta u) y at));
-          answer = (subst IsBefore (sym at) tt, before (kind_of y));
+          answer = before_onward c.stage c (staged c (on_meta c.job u (kind_of y))) (subst IsBefore (sym at) tt) (before (kind_of y));
           decided = tt;
-          done = tt;
+          known = tt;
           absent = tt;
           differs = tt;
           behind = tt;
@@ -201,15 +203,19 @@ decides_other p ws names acts (Swap e) k x v s u m h = (m.1, h)
 pub stored_both : (c : Putting) (v : View) (k : List ℕ) → Filled c (length (body c)) (length (body c)) v → StoredBoth c.own (value_of (call_of c.job k c.value)) v.pass.since
 stored_both c v k f j x q =
     let e = ap (λ (o : Option Value). nth (content o) j) (sym (value_is c.job k c.value)) ∙ q in
-    let l = nth_less (body c) j x e in
+    let l = nth_within (body c) j x e in
     ((f.written j x l e).1, (f.flushed j x l e).1)
+
+-- a refusal behind the exchange ends the call, which stands in the history
+linked_done : (p : Pool) (c : Putting) (v : View) (o : Option Open) (f : ℕ) (w : View) (o1 : Option Open) (f1 : ℕ) (t : TagParts) → IsBehind c.stage → tag_number t ≡ c.own → Rose f f1 × (w ≡ v) × (o1 ≡ o) → PutStep p c v o f (staged c Over) w o1 f1 (Linked t)
+linked_done p c v o f w o1 f1 t b own r = record { made = tt; answer = (b, refl, own); decided = tt; known = tt; absent = tt; differs = tt; behind = tt; ahead = tt; refused = r; stands = tt; bound = tt }
 
 module _ (p : Pool) (c : Putting) (v : View) (o : Option Open) (f : ℕ) (w : View) (o1 : Option Open) (f1 : ℕ) (h : PutHolds c v) (here : p ≡ c.walk.pool) (fit : length (body c) ≤ suc p.words) (u : ℕ) (t : TagParts) where
   abbrev key : List ℕ
   key = key_at v.pass.names c.walk.slot
 
   module _ (at : c.stage ≡ AtLink u) (own : tag_number t ≡ c.own) (made : Made p (LinkNext c.walk.slot u c.own (call_at c v)) false v o (unlinked u) w o1) where
-    kl : Owns (AtLink u) c v × Fills (AtLink u) c v × Looks (AtLink u) c v × (cond c.walk.first 0 (length v.pass.since) ≤ behind_it c + 3)
+    kl : Owns (AtLink u) c v × Fills (AtLink u) c v × Looks (AtLink u) c v × (cond c.walk.first 0 (length v.pass.since) ≤ behind_it c + 4)
     kl = at_stage c (AtLink u) v at h
 
     laterl : Made p (LinkNext c.walk.slot u c.own (call_at c v)) c.walk.first v o (unlinked u) w o1
@@ -228,8 +234,8 @@ module _ (p : Pool) (c : Putting) (v : View) (o : Option Open) (f : ℕ) (w : Vi
     heldl = holds_later c.walk w kl.1.1 (walk_kept c.walk v w _ (unlinked u) h.walk sl (ap (λ (b : Bool). cond b 0 1) same)
         (λ q i. subst (Within q) (sym (ap (λ (z : View). z.pass.durable) next)) i) (λ l i. subst (Within l) (sym (ap (λ (z : View). z.pass.links) next)) (inr i)))
 
-    spentl : length w.pass.since ≤ suc (behind_it c + 3)
-    spentl = one_more c.walk.first v w _ (behind_it c + 3) sl.since kl.3
+    spentl : length w.pass.since ≤ suc (behind_it c + 4)
+    spentl = one_more c.walk.first v w _ (behind_it c + 4) sl.since kl.3
 
     pub link_hit : PutStep p c v o f (staged c (AtRaise u)) w o1 f1 (Decided t)
     link_hit =
@@ -241,18 +247,18 @@ module _ (p : Pool) (c : Putting) (v : View) (o : Option Open) (f : ℕ) (w : Vi
           );
           answer = (u, at, refl, own);
           decided = record { slot = c.walk.slot; tail = u; made = made; decides = decides_link p made.now.words v.pass.names w.pass.since c.job key c.value c.own (committed_by p c.walk.slot u c.own (call_at c v) v o w o1 made (stored_both c v key kl.1.0) kl.2.2) };
-          done = tt;
+          known = tt;
           absent = tt;
           differs = tt;
           behind = tt;
           ahead = subst (λ (n : ℕ). n < budget p) (sym turns) (subst (λ (q : Pool). c.walk.turns < budget q) (sym here) heldl.below);
           refused = tt;
-          stands = record { walk = heldl; owns = tt; fills = kl.1.1; looks = (kl.2.0, subst (Within (record { slot = c.walk.slot; from = u; to = c.own })) (sym (ap (λ (z : View). z.pass.links) next)) (inl refl)); spent = subst (λ (b : Bool). cond b 0 (length w.pass.since) ≤ behind_it c + 4) (sym kl.1.1) (omega (arith, spentl)) };
+          stands = record { walk = heldl; owns = tt; fills = kl.1.1; looks = (kl.2.0, subst (Within (record { slot = c.walk.slot; from = u; to = c.own })) (sym (ap (λ (z : View). z.pass.links) next)) (inl refl)); spent = subst (λ (b : Bool). cond b 0 (length w.pass.since) ≤ behind_it c + 5) (sym kl.1.1) (omega (arith, spentl)) };
           bound = bounded p (length w.pass.since) (length (body c)) w.pass.turns (let q = spentl in omega arith) fit;
         }
 
   -- the last load of a tombstone, and of another tag than the expected one
-  module _ (r : Reply) (at_r : ℕ → Stage) (at : c.stage ≡ at_r u) (first : c.walk.first ≡ false) (own : tag_number t ≡ u) (spent_v : cond c.walk.first 0 (length v.pass.since) ≤ behind_it c + 3)
+  module _ (r : Reply) (at_r : ℕ → Stage) (at : c.stage ≡ at_r u) (first : c.walk.first ≡ false) (own : tag_number t ≡ u) (spent_v : cond c.walk.first 0 (length v.pass.since) ≤ behind_it c + 4)
       (made : Made p (DecideNext c.walk.slot u (call_at c v) r) false v o (unlinked u) w o1) (step : put_step c v ≡ DecideNext c.walk.slot u (call_at c v) r) (goes : put_on c (unlinked u) ≡ unless_left c u Over (unlinked u)) where
     laterd : Made p (put_step c v) c.walk.first v o (unlinked u) w o1
     laterd = subst (λ (b : Bool). Made p (put_step c v) b v o (unlinked u) w o1) (sym first) (subst (λ (a : Step). Made p a false v o (unlinked u) w o1) (sym step) made)
@@ -273,8 +279,14 @@ module _ (p : Pool) (c : Putting) (v : View) (o : Option Open) (f : ℕ) (w : Vi
 
     pub boundd : length w.pass.since ≤ turn_bound p w.pass.turns
     boundd =
-        let a : length v.pass.since ≤ behind_it c + 3 = subst (λ (b : Bool). cond b 0 (length v.pass.since) ≤ behind_it c + 3) first spent_v in
-        let q = one_more false v w _ (behind_it c + 3) sd.since a in let e = turnsd in bounded p (length w.pass.since) (length (body c)) w.pass.turns (omega arith) fit
+        let a : length v.pass.since ≤ behind_it c + 4 = subst (λ (b : Bool). cond b 0 (length v.pass.since) ≤ behind_it c + 4) first spent_v in
+        let q = one_more false v w _ (behind_it c + 4) sd.since a in let e = turnsd in bounded p (length w.pass.since) (length (body c)) w.pass.turns (omega arith) fit
+
+    pub knownd : IsAt c u → InRange c.walk.pool (tag_number t) × Within (c.walk.slot, tag_number t) w.pass.durable
+    knownd there =
+        let kept : w.pass.durable ≡ v.pass.durable = ap (λ (z : View). z.pass.durable) made.told.next ∙ ap (λ (b : Bool). (cond b (decided v made.now.history u (call_at c v) r) (seen c.walk.slot u v (next_of (unlinked u)))).pass.durable) samed in
+        subst (λ (n : ℕ). InRange c.walk.pool n × Within (c.walk.slot, n) w.pass.durable) (sym own)
+        (there.1, subst (Within (c.walk.slot, u)) (sym kept) (subst (λ (z : Stand). StandsOn c.walk.slot z v) there.0 h.walk.stand))
 
     pub aheadd : w.pass.turns < budget p
     aheadd = subst (λ (n : ℕ). n < budget p) (sym turnsd) (subst (λ (q : Pool). c.walk.turns < budget q) (sym here) h.walk.below)
@@ -286,7 +298,7 @@ module _ (p : Pool) (c : Putting) (v : View) (o : Option Open) (f : ℕ) (w : Vi
         made = maded Absent AtDead at k.1.1 own k.3 made step goes;
         answer = (at ∙ ap AtDead (sym own), refl);
         decided = tt;
-        done = tt;
+        known = knownd Absent AtDead at k.1.1 own k.3 made step goes k.2.0;
         absent = record { slot = c.walk.slot; tag = u; made = made; decides = decides_dead p made.now.words v.pass.names w.pass.since c.job key c.value v c.walk.slot u k.2.1 (at_tail p c.walk.slot u (call_at c v) Absent (SawDead u) v o w o1 made k.2.2) };
         differs = tt;
         behind = tt;
@@ -303,7 +315,7 @@ module _ (p : Pool) (c : Putting) (v : View) (o : Option Open) (f : ℕ) (w : Vi
         made = maded (Differs u) AtOther at k.1.1 own k.3 made step goes;
         answer = (at ∙ ap AtOther (sym own), refl);
         decided = tt;
-        done = tt;
+        known = knownd (Differs u) AtOther at k.1.1 own k.3 made step goes k.2.0;
         absent = tt;
         differs = subst (λ (n : ℕ). Ended p (call_at c v) (Differs n) v o w o1) (sym own) (record { slot = c.walk.slot; tag = u; made = made; decides = decides_other p made.now.words v.pass.names w.pass.since c.job key c.value v c.walk.slot u k.2.1 (at_tail p c.walk.slot u (call_at c v) (Differs u) (SawLive u) v o w o1 made k.2.2) });
         behind = tt;
@@ -314,50 +326,97 @@ module _ (p : Pool) (c : Putting) (v : View) (o : Option Open) (f : ℕ) (w : Vi
       }
 
   -- the raise of the link
-  module _ (at : c.stage ≡ AtRaise u) (own : tag_number t ≡ c.own) where
-    kr : Owns (AtRaise u) c v × Fills (AtRaise u) c v × Looks (AtRaise u) c v × (cond c.walk.first 0 (length v.pass.since) ≤ behind_it c + 4)
+  module _ (at : c.stage ≡ AtRaise u) where
+    kr : Owns (AtRaise u) c v × Fills (AtRaise u) c v × Looks (AtRaise u) c v × (cond c.walk.first 0 (length v.pass.since) ≤ behind_it c + 5)
     kr = at_stage c (AtRaise u) v at h
 
-    raising : IsRaising c.stage
-    raising = subst IsRaising (sym at) tt
+    pub raise_refused : tag_number t ≡ c.own → Rose f f1 × (w ≡ v) × (o1 ≡ o) → PutStep p c v o f (staged c Over) w o1 f1 (Linked t)
+    raise_refused = linked_done p c v o f w o1 f1 t (subst IsBehind (sym at) tt)
 
     module _ (x : ℕ) (made : Made p (RaiseNext (record { slot = c.walk.slot; from = u; to = c.own })) false v o x w o1) where
-      sr : Stepped (RaiseNext (record { slot = c.walk.slot; from = u; to = c.own })) false x v w
-      sr = stepped p (RaiseNext (record { slot = c.walk.slot; from = u; to = c.own })) false v o x w o1 made
+      laterr : Made p (RaiseNext (record { slot = c.walk.slot; from = u; to = c.own })) c.walk.first v o x w o1
+      laterr = subst (λ (b : Bool). Made p (RaiseNext (record { slot = c.walk.slot; from = u; to = c.own })) b v o x w o1) (sym kr.1) made
 
-      mader : (y : ℕ) × Made p (put_step c v) c.walk.first v o y w o1 × (staged c Over ≡ put_on c y)
-      mader = (x, subst (λ (b : Bool). Made p (put_step c v) b v o x w o1) (sym kr.1) (subst (λ (a : Step). Made p a false v o x w o1) (sym (at_step c (AtRaise u) v at)) made), sym (at_on c (AtRaise u) x at))
+      sr : Stepped (RaiseNext (record { slot = c.walk.slot; from = u; to = c.own })) c.walk.first x v w
+      sr = stepped p (RaiseNext (record { slot = c.walk.slot; from = u; to = c.own })) c.walk.first v o x w o1 laterr
 
-      turnsr : w.pass.turns ≡ c.walk.turns
-      turnsr = let a : v.pass.turns ≡ c.walk.turns = subst (λ (b : Bool). cond b 0 v.pass.turns ≡ c.walk.turns) kr.1 h.walk.turns in let s = sr.turns in omega arith
+      durable : w.pass.durable ≡ (c.walk.slot, c.own) ∷ v.pass.durable
+      durable = ap (λ (z : View). z.pass.durable) made.told.next
 
-      aheadr : w.pass.turns < budget p
-      aheadr = subst (λ (n : ℕ). n < budget p) (sym turnsr) (subst (λ (q : Pool). c.walk.turns < budget q) (sym here) h.walk.below)
+      heldr : Holds c.walk w
+      heldr = holds_later c.walk w kr.1 (walk_kept c.walk v w _ x h.walk sr refl (λ q i. subst (Within q) (sym durable) (inr i)) (λ l i. subst (Within l) (sym (ap (λ (z : View). z.pass.links) made.told.next)) i))
 
-      boundr : length w.pass.since ≤ turn_bound p w.pass.turns
-      boundr =
-          let a : length v.pass.since ≤ behind_it c + 4 = subst (λ (b : Bool). cond b 0 (length v.pass.since) ≤ behind_it c + 4) kr.1 kr.3 in
-          let q = one_more false v w _ (behind_it c + 4) sr.since a in let e = turnsr in bounded p (length w.pass.since) (length (body c)) w.pass.turns (omega arith) fit
+      spentr : length w.pass.since ≤ suc (behind_it c + 5)
+      spentr = one_more c.walk.first v w _ (behind_it c + 5) sr.since kr.3
 
       known : Within (c.walk.slot, c.own) w.pass.durable
-      known = subst (Within (c.walk.slot, c.own)) (sym (ap (λ (z : View). z.pass.durable) made.told.next)) (inl refl)
+      known = subst (Within (c.walk.slot, c.own)) (sym durable) (inl refl)
 
-      pub stored_done : Stores c.job → PutStep p c v o f (staged c Over) w o1 f1 (Stored t)
-      stored_done j = record { made = mader; answer = (raising, refl, own, j); decided = tt; done = known; absent = tt; differs = tt; behind = tt; ahead = aheadr; refused = tt; stands = tt; bound = boundr }
+      low : c.walk.slot < c.walk.pool.slots
+      low = subst (λ (q : Pool). c.walk.slot < q.slots) here (each_within (λ (q : ℕ × ℕ). (q.0 < p.slots) × InRange p q.1) (c.walk.slot, c.own) w.pass.durable made.told.after.durable known).0
 
-      pub deleted_done : Deletes c.job → PutStep p c v o f (staged c Over) w o1 f1 (Deleted t)
-      deleted_done j = record { made = mader; answer = (raising, refl, own, j); decided = tt; done = known; absent = tt; differs = tt; behind = tt; ahead = aheadr; refused = tt; stands = tt; bound = boundr }
+      pub raise_step : PutStep p c v o f (staged c AtShort) w o1 f1 More
+      raise_step =
+          let turns : w.pass.turns ≡ c.walk.turns = subst (λ (b : Bool). cond b 0 w.pass.turns ≡ c.walk.turns) kr.1 heldr.turns in record {
+            made = (x, subst (λ (a : Step). Made p a c.walk.first v o x w o1) (sym (at_step c (AtRaise u) v at)) laterr, sym (at_on c (AtRaise u) x at));
+            answer = subst (λ (s : Stage). Onward s c (staged c AtShort)) (sym at) refl;
+            decided = tt;
+            known = tt;
+            absent = tt;
+            differs = tt;
+            behind = tt;
+            ahead = subst (λ (n : ℕ). n < budget p) (sym turns) (subst (λ (q : Pool). c.walk.turns < budget q) (sym here) heldr.below);
+            refused = tt;
+            stands = record { walk = heldr; owns = tt; fills = kr.1; looks = (low, known); spent = subst (λ (b : Bool). cond b 0 (length w.pass.since) ≤ behind_it c + 6) (sym kr.1) (omega (arith, spentr)) };
+            bound = bounded p (length w.pass.since) (length (body c)) w.pass.turns (let q = spentr in omega arith) fit;
+          }
+
+-- the store of the shortcut
+module _ (p : Pool) (c : Putting) (v : View) (o : Option Open) (f : ℕ) (w : View) (o1 : Option Open) (f1 : ℕ) (h : PutHolds c v) (here : p ≡ c.walk.pool) (fit : length (body c) ≤ suc p.words) (t : TagParts) where
+  module _ (at : c.stage ≡ AtShort) where
+    ks : Owns AtShort c v × Fills AtShort c v × Looks AtShort c v × (cond c.walk.first 0 (length v.pass.since) ≤ behind_it c + 6)
+    ks = at_stage c AtShort v at h
+
+    pub short_refused : tag_number t ≡ c.own → Rose f f1 × (w ≡ v) × (o1 ≡ o) → PutStep p c v o f (staged c Over) w o1 f1 (Linked t)
+    short_refused = linked_done p c v o f w o1 f1 t (subst IsBehind (sym at) tt)
+
+    module _ (own : tag_number t ≡ c.own) (x : ℕ) (made : Made p (StoreShort c.walk.slot c.own) false v o x w o1) where
+      ss : Stepped (StoreShort c.walk.slot c.own) false x v w
+      ss = stepped p (StoreShort c.walk.slot c.own) false v o x w o1 made
+
+      mades : (y : ℕ) × Made p (put_step c v) c.walk.first v o y w o1 × (staged c Over ≡ put_on c y)
+      mades = (x, subst (λ (b : Bool). Made p (put_step c v) b v o x w o1) (sym ks.1) (subst (λ (a : Step). Made p a false v o x w o1) (sym (at_step c AtShort v at)) made), sym (at_on c AtShort x at))
+
+      turnss : w.pass.turns ≡ c.walk.turns
+      turnss = let a : v.pass.turns ≡ c.walk.turns = subst (λ (b : Bool). cond b 0 v.pass.turns ≡ c.walk.turns) ks.1 h.walk.turns in let s = ss.turns in omega arith
+
+      aheads : w.pass.turns < budget p
+      aheads = subst (λ (n : ℕ). n < budget p) (sym turnss) (subst (λ (q : Pool). c.walk.turns < budget q) (sym here) h.walk.below)
+
+      bounds : length w.pass.since ≤ turn_bound p w.pass.turns
+      bounds =
+          let a : length v.pass.since ≤ behind_it c + 6 = subst (λ (b : Bool). cond b 0 (length v.pass.since) ≤ behind_it c + 6) ks.1 ks.3 in
+          let q = one_more false v w _ (behind_it c + 6) ss.since a in let e = turnss in bounded p (length w.pass.since) (length (body c)) w.pass.turns (omega arith) fit
+
+      knowns : InRange c.walk.pool (tag_number t) × Within (c.walk.slot, tag_number t) w.pass.durable
+      knowns =
+          let d : Within (c.walk.slot, c.own) w.pass.durable = subst (Within (c.walk.slot, c.own)) (sym (ap (λ (z : View). z.pass.durable) made.told.next)) ks.2.1 in
+          subst (λ (n : ℕ). InRange c.walk.pool n × Within (c.walk.slot, n) w.pass.durable) (sym own)
+          (subst (λ (q : Pool). InRange q c.own) here (each_within (λ (q : ℕ × ℕ). (q.0 < p.slots) × InRange p q.1) (c.walk.slot, c.own) w.pass.durable made.told.after.durable d).1, d)
+
+      stored_done : Stores c.job → PutStep p c v o f (staged c Over) w o1 f1 (Stored t)
+      stored_done j = record { made = mades; answer = (at, refl, own, j); decided = tt; known = knowns; absent = tt; differs = tt; behind = tt; ahead = aheads; refused = tt; stands = tt; bound = bounds }
+
+      deleted_done : Deletes c.job → PutStep p c v o f (staged c Over) w o1 f1 (Deleted t)
+      deleted_done j = record { made = mades; answer = (at, refl, own, j); decided = tt; known = knowns; absent = tt; differs = tt; behind = tt; ahead = aheads; refused = tt; stands = tt; bound = bounds }
 
       by_job : (j : Job) → c.job ≡ j → PutStep p c v o f (staged c Over) w o1 f1 (done_with j t)
       by_job Put e = stored_done (subst Stores (sym e) tt)
       by_job Delete e = deleted_done (subst Deletes (sym e) tt)
       by_job (Swap x) e = stored_done (subst Stores (sym e) tt)
 
-      pub raised_done : PutStep p c v o f (staged c Over) w o1 f1 (done_with c.job t)
-      raised_done = by_job c.job refl
-
-    pub linked_done : Rose f f1 × (w ≡ v) × (o1 ≡ o) → PutStep p c v o f (staged c Over) w o1 f1 (Linked t)
-    linked_done r = record { made = tt; answer = (raising, refl, own); decided = tt; done = tt; absent = tt; differs = tt; behind = tt; ahead = tt; refused = r; stands = tt; bound = tt }
+      pub short_done : PutStep p c v o f (staged c Over) w o1 f1 (done_with c.job t)
+      short_done = by_job c.job refl
 
 -- the step that the code names is the one of the call
 pub link_named : (c : Putting) (v : View) (u s t : ℕ) (j : Job) (x : Value) → s ≡ c.walk.slot → t ≡ c.own → j ≡ c.job → x ≡ c.value → LinkNext s u t (call_of j (key_at v.pass.names s) x) ≡ LinkNext c.walk.slot u c.own (call_at c v)
@@ -381,3 +440,9 @@ act_raise c u = RaiseNext (record { slot = c.walk.slot; from = u; to = c.own })
 
 pub raise_named : (c : Putting) (u s t : ℕ) → s ≡ c.walk.slot → t ≡ c.own → RaiseNext (record { slot = s; from = u; to = t }) ≡ act_raise c u
 raise_named c u s t es et = λ i. RaiseNext (record { slot = es i; from = u; to = et i })
+
+abbrev pub act_short : Putting → Step
+act_short c = StoreShort c.walk.slot c.own
+
+pub short_named : (c : Putting) (s t : ℕ) → s ≡ c.walk.slot → t ≡ c.own → StoreShort s t ≡ act_short c
+short_named c s t es et = λ i. StoreShort (es i) (et i)

@@ -1,6 +1,6 @@
 -- What a put promises where its walk has gone on.
 use Prim.Native.Nat.{suc}
-use Rattle.std.proofs.Common.{◌≡◌, ◌≢◌, ℕ, ◌+◌, ◌*◌, ◌≤◌, List, ◌∷◌, length, Bool, true, false, cond, eqb, ltb, refl, sym, ap, ◌∙◌, arith, subst, eqb-true}
+use Rattle.std.proofs.Common.{◌≡◌, ◌≢◌, ℕ, ◌+◌, ◌*◌, ◌≤◌, List, ◌∷◌, length, Bool, true, false, cond, eqb, refl, sym, ap, ◌∙◌, arith, subst, eqb-true}
 use Rattle.std.specs.Prelude.{Option, Some, None}
 use Rattle.clover_words.specs.declared.pool.Pool.{Pool}
 use Rattle.clover_words.specs.Tag.{tag_number}
@@ -12,9 +12,8 @@ use Rattle.clover_rule.specs.Memory.{Next, word, age}
 use Rattle.clover_rule.specs.Steps.{MayCall, unlinked}
 use Rattle.clover_rule.specs.Words.{next_of, next_code, root_of}
 use Rattle.clover_rule.specs.declared.view.View.{View}
-use Rattle.clover_walk.specs.Walking.{Walking, Stand, AtRoot, AtTag, AtLink as OnLink, OnTail, Ended, Holds, IsOnWay, budget, key_at, goes_on, goes_from, followed, hops, turned, rooted, next_start, begins}
+use Rattle.clover_walk.specs.Walking.{Walking, Stand, AtShort, AtRoot, AtTag, AtLink as OnLink, OnTail, Ended, Holds, IsOnWay, key_at, goes_on, goes_from, followed, hops, turned, shortened, rooted, next_start, begins}
 use Rattle.clover_walk.specs.declared.start.Start.{Start}
-use Rattle.clover_walk.specs.declared.start.Start.TheVariants.{FromCursor, FromRoot}
 use Rattle.clover_walk.specs.declared.turn.Turn.{Turn}
 use Rattle.clover_walk.specs.declared.turn.Turn.TheVariants.{More as WalkMore, AtTail, Behind as WalkBehind, Unreached as WalkUnreached}
 use Rattle.clover_walk.proofs.Codes.{no_turn}
@@ -24,6 +23,7 @@ use Rattle.clover_put.specs.Putting.{Putting, Stage, Seeking, AtMeta, AtLink, at
 use Rattle.clover_put.specs.Stepping.{PutStep, Went, as_put, turn_bound}
 use Rattle.clover_put.specs.declared.job.Job.{Job}
 use Rattle.clover_put.specs.declared.job.Job.TheVariants.{Put, Delete, Swap}
+use Rattle.clover_put.proofs.Done.{before_onward}
 use Rattle.clover_put.proofs.Known.{bounded}
 
 -- what is known of the call where its walk has gone on to n
@@ -41,6 +41,7 @@ module _ (p : Pool) (c : Putting) (n : Walking) (w : View) (here : p ≡ c.walk.
   count m l = subst (λ (b : Bool). cond b 0 (length w.pass.since) ≤ m) (sym k.first) (let s = k.spent in omega arith)
 
   on_way : (at : Stand) → n.stand ≡ at → IsOnWay at → Holds n w → PutHolds (record c { walk = n; stage = reached c.job at }) w
+  on_way AtShort e h on = record { walk = on; owns = k.own; fills = (k.fills (record c { walk = n; stage = Seeking }) refl refl, k.first); looks = subst IsOnWay (sym e) tt; spent = count _ (omega arith) }
   on_way AtRoot e h on = record { walk = on; owns = k.own; fills = (k.fills (record c { walk = n; stage = Seeking }) refl refl, k.first); looks = subst IsOnWay (sym e) tt; spent = count _ (omega arith) }
   on_way (AtTag t) e h on = record { walk = on; owns = k.own; fills = (k.fills (record c { walk = n; stage = Seeking }) refl refl, k.first); looks = subst IsOnWay (sym e) tt; spent = count _ (omega arith) }
   on_way (OnLink t u) e h on = record { walk = on; owns = k.own; fills = (k.fills (record c { walk = n; stage = Seeking }) refl refl, k.first); looks = subst IsOnWay (sym e) tt; spent = count _ (omega arith) }
@@ -65,6 +66,7 @@ module _ (p : Pool) (c : Putting) (n : Walking) (w : View) (here : p ≡ c.walk.
   turns_are on = subst (λ (b : Bool). cond b 0 w.pass.turns ≡ n.turns) k.first on.turns
 
   before_way : (at : Stand) → IsOnWay at → IsBefore (reached c.job at)
+  before_way AtShort h = tt
   before_way AtRoot h = tt
   before_way (AtTag t) h = tt
   before_way (OnLink t u) h = tt
@@ -76,7 +78,8 @@ module _ (p : Pool) (c : Putting) (n : Walking) (w : View) (here : p ≡ c.walk.
   before_tail Delete t = tt
   before_tail (Swap x) t = tt
 
-  most_steps : (at : Stand) → steps_at at ≤ 2
+  most_steps : (at : Stand) → steps_at at ≤ 3
+  most_steps AtShort = omega arith
   most_steps AtRoot = omega arith
   most_steps (AtTag t) = omega arith
   most_steps (OnLink t u) = omega arith
@@ -91,9 +94,9 @@ module _ (p : Pool) (c : Putting) (n : Walking) (w : View) (here : p ≡ c.walk.
     pub walked_step : (r : Turn) → Went p c.walk.slot n w r → PutStep p c v o f (walked c n) w o1 f1 (as_put r)
     walked_step WalkMore went = record {
       made = (x, made, on);
-      answer = (before, before_way n.stand went.answer);
+      answer = before_onward c.stage c (walked c n) before (before_way n.stand went.answer);
       decided = tt;
-      done = tt;
+      known = tt;
       absent = tt;
       differs = tt;
       behind = tt;
@@ -104,9 +107,9 @@ module _ (p : Pool) (c : Putting) (n : Walking) (w : View) (here : p ≡ c.walk.
     }
     walked_step (AtTail t) went = record {
       made = (x, made, on);
-      answer = (before, subst (λ (s : Stand). IsBefore (reached c.job s)) (sym went.answer) (before_tail c.job (tag_number t)));
+      answer = before_onward c.stage c (walked c n) before (subst (λ (s : Stand). IsBefore (reached c.job s)) (sym went.answer) (before_tail c.job (tag_number t)));
       decided = tt;
-      done = tt;
+      known = tt;
       absent = tt;
       differs = tt;
       behind = tt;
@@ -119,7 +122,7 @@ module _ (p : Pool) (c : Putting) (n : Walking) (w : View) (here : p ≡ c.walk.
       made = (x, made, on);
       answer = (before, ap (reached c.job) went.answer.0, went.answer.0, went.answer.1);
       decided = tt;
-      done = tt;
+      known = tt;
       absent = tt;
       differs = tt;
       behind = went.behind;
@@ -136,26 +139,17 @@ pub record Turned (w n : Walking) : Type 0 where
   pub slot : n.slot ≡ w.slot
   pub first : n.first ≡ false
   pub turns : n.turns ≡ suc w.turns
-  pub stand : steps_at n.stand ≡ 0
 
-none_steps : (b : Bool) (at : Stand) → steps_at at ≡ 0 → steps_at (cond b at Ended) ≡ 0
-none_steps true at e = e
-none_steps false at e = refl
-
-turned_by : (w : Walking) (f : Start) (at : Stand) → steps_at at ≡ 0 → Turned w (turned w f at)
-turned_by w f at e = record { pool = refl; slot = refl; first = refl; turns = refl; stand = none_steps (ltb (suc w.turns) (budget w.pool)) at e }
-
-begins_steps : (f : Start) → steps_at (begins (next_start f)) ≡ 0
-begins_steps FromCursor = refl
-begins_steps FromRoot = refl
+turned_by : (w : Walking) (f : Start) (at : Stand) → Turned w (turned w f at)
+turned_by w f at = record { pool = refl; slot = refl; first = refl; turns = refl }
 
 turned_next : (w : Walking) (t : ℕ) (a : ℕ) (l : Option ℕ) → word a l ≢ word (age t) None → Turned w (followed w t (word a l))
 turned_next w t a l d = go l (eqb a (age t)) refl d
   where
     go : (l : Option ℕ) (b : Bool) → eqb a (age t) ≡ b → word a l ≢ word (age t) None → Turned w (cond b (hops w t l) (turned w (next_start w.start) (begins (next_start w.start))))
     go None true q d = absurd (d (ap (λ (n : ℕ). word n None) (eqb-true a (age t) q)))
-    go (Some u) true q d = turned_by w w.start (OnLink t u) refl
-    go l false q d = turned_by w (next_start w.start) (begins (next_start w.start)) (begins_steps w.start)
+    go (Some u) true q d = turned_by w w.start (OnLink t u)
+    go l false q d = turned_by w (next_start w.start) (begins (next_start w.start))
 
 turned_word : (w : Walking) (t : ℕ) (n : Next) → n ≢ word (age t) None → Turned w (followed w t n)
 turned_word w t (word a l) d = turned_next w t a l d
@@ -172,7 +166,12 @@ pub record Paid (w n : Walking) : Type 0 where
   pub cost : suc (steps_at w.stand) + 5 * w.turns ≤ 5 * n.turns + steps_at n.stand
 
 turn_paid : (w n : Walking) → steps_at w.stand ≤ 4 → Turned w n → Paid w n
-turn_paid w n l t = record { pool = t.pool; slot = t.slot; first = t.first; cost = let a = t.turns in let b = t.stand in omega arith }
+turn_paid w n l t = record { pool = t.pool; slot = t.slot; first = t.first; cost = let a = t.turns in omega arith }
+
+-- an empty shortcut leads to the root
+short_paid : (w : Walking) (o : Option ℕ) → w.stand ≡ AtShort → Paid w (shortened w o)
+short_paid w None e = record { pool = refl; slot = refl; first = refl; cost = let a = ap steps_at e in omega arith }
+short_paid w (Some u) e = record { pool = refl; slot = refl; first = refl; cost = let a = ap steps_at e in omega arith }
 
 root_paid : (w : Walking) (o : Option ℕ) (t : ℕ) → w.stand ≡ AtRoot → o ≡ Some t → Paid w (rooted w o)
 root_paid w None t e q = absurd cc
@@ -183,13 +182,14 @@ tag_paid w t a l e = go l (eqb a (age t))
   where
     go : (l : Option ℕ) (b : Bool) → Paid w (cond b (hops w t l) (turned w (next_start w.start) (begins (next_start w.start))))
     go None true = record { pool = refl; slot = refl; first = refl; cost = let q = ap steps_at e in omega arith }
-    go (Some u) true = turn_paid w _ (let q = ap steps_at e in omega arith) (turned_by w w.start (OnLink t u) refl)
-    go l false = turn_paid w _ (let q = ap steps_at e in omega arith) (turned_by w (next_start w.start) (begins (next_start w.start)) (begins_steps w.start))
+    go (Some u) true = turn_paid w _ (let q = ap steps_at e in omega arith) (turned_by w w.start (OnLink t u))
+    go l false = turn_paid w _ (let q = ap steps_at e in omega arith) (turned_by w (next_start w.start) (begins (next_start w.start)))
 
 word_paid : (w : Walking) (t : ℕ) (n : Next) → w.stand ≡ AtTag t → Paid w (followed w t n)
 word_paid w t (word a l) e = tag_paid w t a l e
 
 from_paid : (w : Walking) (x : ℕ) (at : Stand) → w.stand ≡ at → IsOnWay at → (at ≡ AtRoot → (t : ℕ) × (root_of x ≡ Some t)) → Paid w (goes_from at w x)
+from_paid w x AtShort e h r = short_paid w (root_of x) e
 from_paid w x AtRoot e h r = let q = r refl in root_paid w (root_of x) q.0 e q.1
 from_paid w x (AtTag t) e h r = word_paid w t (next_of x) e
 from_paid w x (OnLink t u) e h r = record { pool = refl; slot = refl; first = refl; cost = let q = ap steps_at e in omega arith }

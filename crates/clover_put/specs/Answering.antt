@@ -6,18 +6,27 @@ use Rattle.clover_put.specs.declared.job.Job.{Job}
 use Rattle.clover_put.specs.declared.job.Job.TheVariants.{Put, Delete, Swap}
 use Rattle.clover_put.specs.declared.turn.PutTurn.{PutTurn}
 use Rattle.clover_put.specs.declared.turn.PutTurn.TheVariants.{More, Decided, Stored, Deleted, Absent, Differs, Behind, Unreached, Linked}
-use Rattle.clover_put.specs.Putting.{Putting, Stage, AtLink, AtDead, AtOther, AtRaise, Over, staged}
+use Rattle.clover_put.specs.Putting.{Putting, Stage, AtLink, AtDead, AtOther, AtRaise, AtShort, Over, staged}
 
 -- it has committed nothing yet and is not over
 abbrev pub IsBefore : Stage → Type 0
 IsBefore (AtRaise u) = ⊥
+IsBefore AtShort = ⊥
 IsBefore Over = ⊥
 IsBefore _ = Unit {0}
 
--- it has committed, and its link is to be raised
-abbrev pub IsRaising : Stage → Type 0
-IsRaising (AtRaise u) = Unit {0}
-IsRaising _ = ⊥
+-- it has committed and is not over
+abbrev pub IsBehind : Stage → Type 0
+IsBehind (AtRaise u) = Unit {0}
+IsBehind AtShort = Unit {0}
+IsBehind _ = ⊥
+
+-- it goes on: behind the raise of its link it is to store the shortcut, and otherwise it has committed nothing yet
+abbrev pub Onward : Stage → Putting → Putting → Type 0
+Onward (AtRaise u) c n = n ≡ staged c AtShort
+Onward AtShort c n = ⊥
+Onward Over c n = ⊥
+Onward _ c n = IsBefore n.stage
 
 abbrev pub Stores : Job → Type 0
 Stores Put = Unit {0}
@@ -31,15 +40,15 @@ Deletes (Swap t) = ⊥
 
 -- the answer of a step tells where the call stood before, and where it stands afterwards
 abbrev pub Answers : Putting → Putting → PutTurn → Type 0
-Answers c n More = IsBefore c.stage × IsBefore n.stage
+Answers c n More = Onward c.stage c n
 Answers c n (Decided t) = (u : ℕ) × (c.stage ≡ AtLink u) × (n ≡ staged c (AtRaise u)) × (tag_number t ≡ c.own)
-Answers c n (Stored t) = IsRaising c.stage × (n ≡ staged c Over) × (tag_number t ≡ c.own) × Stores c.job
-Answers c n (Deleted t) = IsRaising c.stage × (n ≡ staged c Over) × (tag_number t ≡ c.own) × Deletes c.job
+Answers c n (Stored t) = (c.stage ≡ AtShort) × (n ≡ staged c Over) × (tag_number t ≡ c.own) × Stores c.job
+Answers c n (Deleted t) = (c.stage ≡ AtShort) × (n ≡ staged c Over) × (tag_number t ≡ c.own) × Deletes c.job
 Answers c n (Absent t) = (c.stage ≡ AtDead (tag_number t)) × (n ≡ staged c Over)
 Answers c n (Differs t) = (c.stage ≡ AtOther (tag_number t)) × (n ≡ staged c Over)
 Answers c n (Behind k) = IsBefore c.stage × (n.stage ≡ Over) × (n.walk.stand ≡ Ended) × (k ≡ n.walk.turns)
 Answers c n Unreached = IsBefore c.stage × (n ≡ c)
-Answers c n (Linked t) = IsRaising c.stage × (n ≡ staged c Over) × (tag_number t ≡ c.own)
+Answers c n (Linked t) = IsBehind c.stage × (n ≡ staged c Over) × (tag_number t ≡ c.own)
 
 -- where the access was made, and where it was refused
 abbrev pub OnReached : PutTurn → Type 0 → Type 0
@@ -70,11 +79,13 @@ abbrev pub IfDecided : PutTurn → (TagParts → Type 0) → Type 0
 IfDecided (Decided t) P = P t
 IfDecided r P = Unit {0}
 
--- the call has ended with its own version
-abbrev pub IfDone : PutTurn → (TagParts → Type 0) → Type 0
-IfDone (Stored t) P = P t
-IfDone (Deleted t) P = P t
-IfDone r P = Unit {0}
+-- the call has ended with its own version or at a tail, with that tag
+abbrev pub IfEnded : PutTurn → (TagParts → Type 0) → Type 0
+IfEnded (Stored t) P = P t
+IfEnded (Deleted t) P = P t
+IfEnded (Absent t) P = P t
+IfEnded (Differs t) P = P t
+IfEnded r P = Unit {0}
 
 abbrev pub IfAbsent : PutTurn → (TagParts → Type 0) → Type 0
 IfAbsent (Absent t) P = P t

@@ -10,10 +10,10 @@ use Rattle.clover_rule.specs.Steps.{MayCall, MayReply}
 use Rattle.clover_rule.specs.Words.{content_at}
 use Rattle.clover_rule.specs.declared.access.Act.TheVariants.{Store}
 use Rattle.clover_rule.specs.declared.view.View.{View}
-use Rattle.clover_walk.specs.Walking.{Stand, AtRoot, AtTag, AtLink as OnLink, OnTail, Ended, IsOnWay, Holds}
+use Rattle.clover_walk.specs.Walking.{Stand, AtShort as ToShort, AtRoot, AtTag, AtLink as OnLink, OnTail, Ended, IsOnWay, Holds}
 use Rattle.clover_put.specs.declared.job.Job.{Job}
 use Rattle.clover_put.specs.declared.job.Job.TheVariants.{Put, Delete, Swap}
-use Rattle.clover_put.specs.Putting.{Putting, Stage, Storing, Flushing, Seeking, AtMeta, AtLink, AtDead, AtOther, AtBad, AtRaise, Over, body, call_at, kind_of}
+use Rattle.clover_put.specs.Putting.{Putting, Stage, Storing, Flushing, Seeking, AtMeta, AtLink, AtDead, AtOther, AtBad, AtRaise, AtShort, Over, body, call_at, kind_of}
 
 -- the first words of the version are stored, and of these the first ones flushed
 pub record Filled (c : Putting) (m n : ℕ) (v : View) : Type 0 where
@@ -25,12 +25,14 @@ abbrev pub Fills : Stage → Putting → View → Type 0
 Fills (Storing j) c v = Filled c j 0 v × (j < length (body c)) × (c.walk.first ≡ eqb j 0)
 Fills (Flushing j) c v = Filled c (length (body c)) j v × (j < length (body c)) × (c.walk.first ≡ false)
 Fills (AtRaise u) c v = c.walk.first ≡ false
+Fills AtShort c v = c.walk.first ≡ false
 Fills Over c v = ⊥
 Fills _ c v = Filled c (length (body c)) (length (body c)) v × (c.walk.first ≡ false)
 
 -- the own tag is the next one of the stock, until it is committed
 abbrev pub Owns : Stage → Putting → View → Type 0
 Owns (AtRaise u) c v = Unit {0}
+Owns AtShort c v = Unit {0}
 Owns Over c v = ⊥
 Owns _ c v = (rest : List ℕ) × (v.pass.stock ≡ c.own ∷ rest)
 
@@ -51,15 +53,17 @@ Looks (AtDead u) c v = IsAt c u × MayReply v c.walk.slot u (call_at c v) Absent
 Looks (AtOther u) c v = IsAt c u × MayReply v c.walk.slot u (call_at c v) (Differs u) × SawLive u v.pass.since
 Looks (AtBad u) c v = IsAt c u × ((y : ℕ) × Within (c.walk.slot, record { tag = u; place = 0; word = y }) v.pass.copied × (kind_of y ≡ None))
 Looks (AtRaise u) c v = IsAt c u × Within (record { slot = c.walk.slot; from = u; to = c.own }) v.pass.links
+Looks AtShort c v = (c.walk.slot < c.walk.pool.slots) × Within (c.walk.slot, c.own) v.pass.durable
 Looks Over c v = ⊥
 Looks _ c v = IsOnWay c.walk.stand
 
--- the accesses of a turn so far, by where the walk stands: a root, a tag's next word
+-- the most accesses of a turn so far, by where the walk stands: a shortcut, a root, a tag's next word
 abbrev pub steps_at : Stand → ℕ
-steps_at AtRoot = 0
-steps_at (AtTag t) = 1
+steps_at ToShort = 0
+steps_at AtRoot = 1
+steps_at (AtTag t) = 2
 steps_at (OnLink t u) = 0
-steps_at (OnTail t) = 2
+steps_at (OnTail t) = 3
 steps_at Ended = 0
 
 -- the accesses of the call at most: the stores and flushes, five for each turn, and those of the present turn
@@ -70,13 +74,14 @@ abbrev pub most : Stage → Putting → ℕ
 most (Storing j) c = j
 most (Flushing j) c = length (body c) + j
 most Seeking c = behind_it c + steps_at c.walk.stand
-most (AtMeta u) c = behind_it c + 2
-most (AtLink u) c = behind_it c + 3
-most (AtDead u) c = behind_it c + 3
-most (AtOther u) c = behind_it c + 3
-most (AtBad u) c = behind_it c + 3
-most (AtRaise u) c = behind_it c + 4
-most Over c = behind_it c + 5
+most (AtMeta u) c = behind_it c + 3
+most (AtLink u) c = behind_it c + 4
+most (AtDead u) c = behind_it c + 4
+most (AtOther u) c = behind_it c + 4
+most (AtBad u) c = behind_it c + 4
+most (AtRaise u) c = behind_it c + 5
+most AtShort c = behind_it c + 6
+most Over c = behind_it c + 7
 
 -- what the client knows where the call stands
 pub record PutHolds (c : Putting) (v : View) : Type 0 where

@@ -10,13 +10,13 @@ use Rattle.clover_map.specs.declared.call.Call.{Call}
 use Rattle.clover_map.specs.declared.call.Call.TheVariants.{Put as PutCall, Delete as DeleteCall, Swap as SwapCall}
 use Rattle.clover_map.specs.declared.call.Reply.TheVariants.{Absent, Differs}
 use Rattle.clover_rule.specs.Content.{content, tombstone, value_meta}
-use Rattle.clover_rule.specs.Steps.{Step, LoadNext, DecideNext, LinkNext, RaiseNext, StoreContent, FlushContent, LoadContent, unlinked}
+use Rattle.clover_rule.specs.Steps.{Step, StoreShort, LoadNext, DecideNext, LinkNext, RaiseNext, StoreContent, FlushContent, LoadContent, unlinked}
 use Rattle.clover_rule.specs.declared.view.View.{View}
-use Rattle.clover_walk.specs.Walking.{Walking, Stand, AtRoot, AtTag, AtLink as OnLink, OnTail, Ended, begun, walk_step, goes_on, key_at}
+use Rattle.clover_walk.specs.Walking.{Walking, Stand, AtShort as ToShort, AtRoot, AtTag, AtLink as OnLink, OnTail, Ended, begun, walk_step, goes_on, key_at}
 use Rattle.clover_put.specs.declared.job.Job.{Job}
 use Rattle.clover_put.specs.declared.job.Job.TheVariants.{Put, Delete, Swap}
 
--- where a put stands: which content word of its own version it stores or flushes, that it walks, or what it does at the tail: load its meta word, commit behind it, answer that the key has nothing or another tag's value, read it again where its meta word was of a passed buffer, raise the committed link; or it is over
+-- where a put stands: which content word of its own version it stores or flushes, that it walks, or what it does at the tail: load its meta word, commit behind it, answer that the key has nothing or another tag's value, read it again where its meta word was of a passed buffer, raise the committed link, or store the slot's shortcut; or it is over
 pub data Stage : Type 0 where
   Storing : ℕ → Stage
   Flushing : ℕ → Stage
@@ -27,6 +27,7 @@ pub data Stage : Type 0 where
   AtOther : ℕ → Stage
   AtBad : ℕ → Stage
   AtRaise : ℕ → Stage
+  AtShort : Stage
   Over : Stage
 
 -- a call that writes: its walk, its job, the tag that it commits, the value that it stores (a delete stores none), and where it stands
@@ -82,6 +83,7 @@ put_step c v = from c.stage
     from (AtOther u) = DecideNext c.walk.slot u (call_at c v) (Differs u)
     from (AtBad u) = LoadNext c.walk.slot u
     from (AtRaise u) = RaiseNext (record { slot = c.walk.slot; from = u; to = c.own })
+    from AtShort = StoreShort c.walk.slot c.own
     from Over = walk_step c.walk
 
 -- the call as it is made
@@ -109,6 +111,7 @@ at_tail Delete t = AtMeta t
 at_tail (Swap e) t = AtMeta t
 
 abbrev pub reached : Job → Stand → Stage
+reached j ToShort = Seeking
 reached j AtRoot = Seeking
 reached j (AtTag t) = Seeking
 reached j (OnLink t u) = Seeking
@@ -147,5 +150,6 @@ put_on c x = from c.stage
     from (AtDead u) = unless_left c u Over x
     from (AtOther u) = unless_left c u Over x
     from (AtBad u) = walked c (goes_on c.walk x)
-    from (AtRaise u) = staged c Over
+    from (AtRaise u) = staged c AtShort
+    from AtShort = staged c Over
     from Over = c

@@ -4,6 +4,7 @@ use Rattle.clover_words.specs.declared.pool.Pool.{Pool}
 use Rattle.clover_words.specs.Tag.{TagParts, tag_number}
 use Rattle.clover_map.specs.declared.call.Reply.TheVariants.{Absent, Differs}
 use Rattle.clover_port.specs.Told.{Open, Made, Rose}
+use Rattle.clover_rule.specs.Content.{InRange}
 use Rattle.clover_rule.specs.Lists.{Within}
 use Rattle.clover_rule.specs.declared.view.View.{View}
 use Rattle.clover_walk.specs.Ending.{Ended, Commits}
@@ -15,7 +16,7 @@ use Rattle.clover_put.specs.declared.job.Job.{Job}
 use Rattle.clover_put.specs.declared.job.Job.TheVariants.{Put, Delete, Swap}
 use Rattle.clover_put.specs.declared.turn.PutTurn.{PutTurn}
 use Rattle.clover_put.specs.declared.turn.PutTurn.TheVariants.{More, Behind, Unreached, Stored, Deleted}
-use Rattle.clover_put.specs.Answering.{Answers, OnReached, OnRefused, OnGoing, OnAhead, IfDecided, IfDone, IfAbsent, IfDiffers, IfBehind}
+use Rattle.clover_put.specs.Answering.{Answers, OnReached, OnRefused, OnGoing, OnAhead, IfDecided, IfEnded, IfAbsent, IfDiffers, IfBehind}
 use Rattle.clover_put.specs.Holding.{PutHolds}
 use Rattle.clover_put.specs.Putting.{Putting, put_step, put_on, call_at}
 
@@ -28,7 +29,7 @@ pub record PutStep (p : Pool) (c : Putting) (v : View) (told : Option Open) (fau
   pub made : OnReached r ((x : ℕ) × Made p (put_step c v) c.walk.first v told x w told1 × (n ≡ put_on c x))
   pub answer : Answers c n r
   pub decided : IfDecided r (λ t. Commits p (call_at c v) c.own v told w told1)
-  pub done : IfDone r (λ t. Within (c.walk.slot, c.own) w.pass.durable)
+  pub known : IfEnded r (λ t. InRange c.walk.pool (tag_number t) × Within (c.walk.slot, tag_number t) w.pass.durable)
   pub absent : IfAbsent r (λ t. Ended p (call_at c v) Absent v told w told1)
   pub differs : IfDiffers r (λ t. Ended p (call_at c v) (Differs (tag_number t)) v told w told1)
   pub behind : IfBehind r (λ n. (n ≡ budget p) × (w.pass.turns ≡ budget p))

@@ -6,9 +6,9 @@ ghost use Rattle.clover_words.specs.declared.word.Word.{Word};
 ghost use Rattle.clover_words.specs.declared.word.Word.TheVariants.{Next as NextOf};
 ghost use Rattle.clover_map.specs.declared.call.Reply.TheVariants.{Absent, Differs};
 ghost use Rattle.clover_rule.specs.Memory.{home};
-ghost use Rattle.clover_rule.specs.Steps.{StoreContent, FlushContent, LinkNext, DecideNext, Asks, unlinked};
+ghost use Rattle.clover_rule.specs.Steps.{StoreContent, FlushContent, StoreShort, LinkNext, DecideNext, Asks, unlinked};
 ghost use Rattle.clover_rule.specs.Words.{content_at, buffer_at};
-ghost use Rattle.clover_rule.specs.declared.step.Kind.TheVariants.{Fill, Decide};
+ghost use Rattle.clover_rule.specs.declared.step.Kind.TheVariants.{Fill, Lead, Decide};
 ghost use Rattle.clover_port.specs.Told.{Made, MadeBlind, Rose, Exact};
 ghost use Rattle.clover_walk.specs.Walking.{key_at};
 ghost use Rattle.clover_put.specs.Putting.{call_of};
@@ -17,7 +17,7 @@ use crate::job::Job;
 use clover_port::{Failed, Port, exchange_as, store_as};
 use clover_rule::StepName;
 use clover_walk::{buffer_of, content_word, load_last};
-use clover_words::{NextWord, Side, Tag, Word};
+use clover_words::{NextWord, Side, Tag, Word, root_encode};
 
 /// The number of a tag's next word where it is unlinked at the tag's generation.
 pub fn unlinked_word(tag: Tag) -> u64
@@ -84,6 +84,26 @@ pub fn flush_content<P: Port, M: StepName>(
     ensures exact { Exact (P.refuses port.old) result }
 {
     store_as::<P, M>(port, content_word(tag, place), Side::Flushed, value)
+}
+
+/// Stores a tag of the slot in the slot's shortcut. No such store is the first access of its call.
+pub fn store_short<P: Port, M: StepName>(port: &mut P, slot: u32, tag: Tag) -> Result<(), Failed>
+    requires name { (M.kind ≡ Lead) × (M.first ≡ false) × (M.slot ≡ slot) × (M.tag ≡ tag_number tag) }
+    requires rule { Asks (P.pool port.old) (StoreShort slot (tag_number tag)) (P.view port.old) }
+    ensures made { OnOk result (MadeBlind (P.pool port.old) (StoreShort slot (tag_number tag)) false (P.view port.old) (P.told port.old) (P.view port.new) (P.told port.new)) }
+    ensures failed { OnErr result (Rose (P.faults port.old) (P.faults port.new) × (P.view port.new ≡ P.view port.old) × (P.told port.new ≡ P.told port.old)) }
+    ensures same { (P.pool port.new ≡ P.pool port.old) × (P.table port.new ≡ P.table port.old) × (P.lender port.new ≡ P.lender port.old) }
+    ensures accessed { P.accessed port.old port.new }
+    ensures count { P.faults port.old ≤ P.faults port.new }
+    ensures kept { OnOk result (P.faults port.new ≡ P.faults port.old) }
+    ensures exact { Exact (P.refuses port.old) result }
+{
+    store_as::<P, M>(
+        port,
+        Word::Short(slot),
+        Side::Current,
+        root_encode(Some(tag)),
+    )
 }
 
 /// Exchanges a tail's next word from unlinked to the link to the own tag. The job, the flags and the bytes say which

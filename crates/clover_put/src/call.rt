@@ -12,13 +12,15 @@ ghost use Rattle.clover_walk.specs.Ending.{Ended, Commits};
 ghost use Rattle.clover_walk.specs.Turning.{Answers as WalkAnswers};
 ghost use Rattle.clover_walk.specs.Walking.{ShowsNext, goes_on, budget};
 ghost use Rattle.clover_walk.specs.declared.turn.Turn.{Turn as WalkTurn};
-ghost use Rattle.clover_put.specs.Putting.{Storing, Flushing, Seeking, AtMeta, AtLink, AtDead, AtOther, AtBad, AtRaise, Over, made_put, put_step, put_on, call_at, body, body_word, at_tail, staged, filled, walked, after_store, after_flush, on_meta, on_value, kind_of};
-ghost use Rattle.clover_put.specs.Answering.{Answers, OnReached, OnRefused, OnGoing, OnAhead, IfDecided, IfDone, IfAbsent, IfDiffers, IfBehind, ExactPut};
+ghost use Rattle.clover_put.specs.Putting.{Storing, Flushing, Seeking, AtMeta, AtLink, AtDead, AtOther, AtBad, AtRaise, AtShort, Over, made_put, put_step, put_on, call_at, body, body_word, at_tail, staged, filled, walked, after_store, after_flush, on_meta, on_value, kind_of};
+ghost use Rattle.clover_put.specs.Answering.{Answers, OnReached, OnRefused, OnGoing, OnAhead, IfDecided, IfEnded, IfAbsent, IfDiffers, IfBehind, ExactPut};
 ghost use Rattle.clover_put.specs.Holding.{PutHolds};
 ghost use Rattle.clover_put.specs.Standing.{standing};
 ghost use Rattle.clover_put.specs.Stepping.{PutStep, Went, as_put, done_with, turn_bound};
 
-use crate::access::{flush_content, link_own, load_dead, load_other, store_content, unlinked_word};
+use crate::access::{
+    flush_content, link_own, load_dead, load_other, store_content, store_short, unlinked_word,
+};
 use crate::job::{Job, TooLong};
 use crate::stage::Stage;
 use crate::turn::PutTurn;
@@ -33,7 +35,8 @@ use std::marker::{Brand, Model};
 /// order. Then it walks to the tail. A delete or a swap looks at the tail's meta word first: on a tombstone, and for
 /// a swap on another tag than the expected one, it loads the tail's next word again, and where that shows the tail
 /// still unlinked it is answered. Otherwise one exchange links the own tag behind the tail, where that is still
-/// unlinked; from then on the call stands in the history. The raise of the flushed copy of that link ends the call.
+/// unlinked; from then on the call stands in the history. The raise of the flushed copy of that link makes it durable,
+/// and the store of the own tag in the slot's shortcut ends the call.
 #[derive(Drop)]
 pub struct PutCall {
     walk: Walk,
@@ -124,10 +127,12 @@ impl PutCall {
     /// The call is not over; the port is of its pool, and of the one client that makes all its steps.
     ///
     /// `Decided`, once, exactly where this access was the exchange that linked the own tag. `Stored` and `Deleted`,
-    /// exactly where it was the raise after that. `Absent` and `Differs`, exactly where it was the load that showed
-    /// the tail again unlinked. `Behind`, exactly where by this access the turns of the call have reached the
-    /// budget. `Unreached`, only where the access was refused and nothing was committed: neither the call nor what
-    /// the client knows has changed then. `Linked`, only where the raise after the exchange was refused.
+    /// exactly where it was the store of the own tag in the slot's shortcut, which comes after the raise of that link.
+    /// `Absent` and `Differs`, exactly where it was the load that showed the tail again unlinked. After each of these
+    /// four the tag of the answer is known to be durable in the slot. `Behind`, exactly where by this access the turns
+    /// of the call have reached the budget. `Unreached`, only where the access was refused and nothing was committed:
+    /// neither the call nor what the client knows has changed then. `Linked`, only where an access after the exchange
+    /// was refused.
     pub fn step<P: Port>(&mut self, port: &mut P) -> PutTurn
         requires going { self.old.stage ≢ Over }
         requires pool { P.pool port.old ≡ self.old.walk.pool }
@@ -135,7 +140,7 @@ impl PutCall {
         ensures made { OnReached result ((x : ℕ) × Made (P.pool port.old) (put_step self.old (P.view port.old)) self.old.walk.first (P.view port.old) (P.told port.old) x (P.view port.new) (P.told port.new) × (self.new ≡ put_on self.old x)) }
         ensures answer { Answers self.old self.new result }
         ensures decided { IfDecided result (λ _. Commits (P.pool port.old) (call_at self.old (P.view port.old)) self.old.own (P.view port.old) (P.told port.old) (P.view port.new) (P.told port.new)) }
-        ensures done { IfDone result (λ _. Within (self.old.walk.slot, self.old.own) (P.view port.new).pass.durable) }
+        ensures known { IfEnded result (λ tag. InRange self.old.walk.pool (tag_number tag) × Within (self.old.walk.slot, tag_number tag) (P.view port.new).pass.durable) }
         ensures absent { IfAbsent result (λ _. Ended (P.pool port.old) (call_at self.old (P.view port.old)) Absent (P.view port.old) (P.told port.old) (P.view port.new) (P.told port.new)) }
         ensures differs { IfDiffers result (λ tag. Ended (P.pool port.old) (call_at self.old (P.view port.old)) (Differs (tag_number tag)) (P.view port.old) (P.told port.old) (P.view port.new) (P.told port.new)) }
         ensures behind { IfBehind result (λ turns. (turns ≡ budget self.old.walk.pool) × ((P.view port.new).pass.turns ≡ budget self.old.walk.pool)) }
@@ -160,8 +165,16 @@ impl PutCall {
             Stage::AtOther(tail) => self.last_other(port, tail),
             Stage::AtBad(tail) => self.again(port, tail),
             Stage::AtRaise(tail) => self.raise(port, tail),
+            Stage::AtShort => self.shorten(port),
             Stage::Over => unreachable!(),
         }
+    }
+
+    /// The slot whose key it writes.
+    pub fn slot(&self) -> u32
+        ensures { result ≡ self.now.walk.slot }
+    {
+        self.walk.slot()
     }
 
     /// What holds of each call: the version that it is to commit fits into a buffer of its pool. This is for proofs,
@@ -462,7 +475,7 @@ impl PutCall {
         }
     }
 
-    // Raises the flushed copy of the link to the own tag, which ends the call.
+    // Raises the flushed copy of the link to the own tag.
     fn raise<P: Port>(&mut self, port: &mut P, tail: Tag) -> PutTurn
         requires stage { self.old.stage ≡ AtRaise (tag_number tail) }
         requires pool { P.pool port.old ≡ self.old.walk.pool }
@@ -477,6 +490,31 @@ impl PutCall {
         let tag = self.own;
         match raise_next::<P, Brand>(port, false, self.walk.slot(), tail, tag) {
             Ok(_) => {
+                self.place(Stage::AtShort);
+                PutTurn::More
+            }
+            Err(_) => {
+                self.place(Stage::Over);
+                PutTurn::Linked { tag }
+            }
+        }
+    }
+
+    // Stores the own tag in the slot's shortcut, which ends the call.
+    fn shorten<P: Port>(&mut self, port: &mut P) -> PutTurn
+        requires stage { self.old.stage ≡ AtShort }
+        requires pool { P.pool port.old ≡ self.old.walk.pool }
+        requires holds { PutHolds self.old (P.view port.old) }
+        ensures done { PutStep (P.pool port.old) self.old (P.view port.old) (P.told port.old) (P.faults port.old) self.new (P.view port.new) (P.told port.new) (P.faults port.new) result }
+        ensures same { (P.pool port.new ≡ P.pool port.old) × (P.table port.new ≡ P.table port.old) × (P.lender port.new ≡ P.lender port.old) }
+        ensures accessed { P.accessed port.old port.new }
+        ensures count { P.faults port.old ≤ P.faults port.new }
+        ensures kept { OnReached result (P.faults port.new ≡ P.faults port.old) }
+        ensures exact { ExactPut (P.refuses port.old) result }
+    {
+        let tag = self.own;
+        match store_short::<P, Brand>(port, self.walk.slot(), tag) {
+            Ok(()) => {
                 self.place(Stage::Over);
                 done_turn(self.job, tag)
             }

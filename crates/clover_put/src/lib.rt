@@ -1,5 +1,6 @@
 //! Put, delete and swap of a key whose slot is known, as machines of single accesses over any port: the own version
-//! is stored and flushed, the walk finds the tail, one exchange commits behind it, and a raise makes that durable.
+//! is stored and flushed, the walk finds the tail, one exchange commits behind it, a raise makes that durable, and a
+//! store leaves the own tag in the slot's shortcut.
 #![tactic(auto)]
 
 mod access;

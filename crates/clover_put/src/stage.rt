@@ -22,6 +22,8 @@ pub enum Stage {
     AtBad(Tag),
     /// The own tag is linked behind this one, and the link is to be raised.
     AtRaise(Tag),
+    /// That link is durable, and the own tag is to be stored in the slot's shortcut.
+    AtShort,
     /// The call is over.
     Over,
 }

@@ -7,7 +7,7 @@ pub enum PutTurn {
     /// The call goes on by a further step.
     More,
     /// The exchange has linked this tag, which is the call's own, behind the tail: the call stands in the history.
-    /// It goes on by the raise that makes the link durable.
+    /// It goes on by the raise that makes the link durable, and by the store of the slot's shortcut.
     Decided { tag: Tag },
     /// The value is stored under the call's own tag, and durable. The call is over.
     Stored { tag: Tag },
@@ -23,7 +23,7 @@ pub enum PutTurn {
     Behind { turns: u64 },
     /// The access was refused, and nothing was committed. The call stands where it stood.
     Unreached,
-    /// The call's own tag was linked before, and the raise of the link was refused. The call is over, and stands in
-    /// the history.
+    /// The call's own tag was linked before, and the raise of the link or the store of the shortcut was refused. The
+    /// call is over, and stands in the history.
     Linked { tag: Tag },
 }

@@ -7,7 +7,7 @@ const SCRIPT: &[u8] =
     b"pool nodes=1 buffers=4 slots=2 words=2 wear=3 clients=1 batch=2\ncall 1 put a =hello\ncall 1 get a\n";
 
 const PRINTED: &[u8] =
-    b"1 stored 0.0.0\n1 found 0.0.0 =hello\nhistory\nh 1 1 1 put a =hello stored 0.0.0\nh 1 1 2 get a found 0.0.0 =hello\naccesses 15\nend\n";
+    b"1 stored 0.0.0\n1 found 0.0.0 =hello\nhistory\nh 1 1 1 put a =hello stored 0.0.0\nh 1 1 2 get a found 0.0.0 =hello\naccesses 14\nend\n";
 
 // the first of the two pieces in which that is put
 const ANSWERS: &[u8] = b"1 stored 0.0.0\n1 found 0.0.0 =hello\n";

@@ -9,7 +9,7 @@ use std::test::Fail;
 // The clients are 1 to 4: put, put, swap, get. A client's own buffer is the next one of its stock.
 const CALLS: [&str; 4] = ["put a =p", "put a =q", "swap a 0.0.0 =s", "get a"];
 
-const STEPS: [&str; 4] = ["8", "8", "9", "6"];
+const STEPS: [&str; 4] = ["5", "6", "7", "4"];
 
 const OWN: [u64; 4] = [4, 1, 2, 3];
 

@@ -5,9 +5,9 @@ use crate::text::Text;
 use std::alloc::Global;
 use std::test::Fail;
 
-// The put makes ten accesses: two stores, two flushes, the root, the tombstone's next word, a raise, the next word
-// of the version before it, the exchange, and the raise.
-const EXCHANGE: u64 = 8;
+// The put makes eight accesses: two stores, two flushes, the next word of the tail at which its client's cursor is, the
+// exchange, the raise, and the store of the shortcut.
+const EXCHANGE: u64 = 5;
 
 fn script_of(alloc: Global, made: u64) -> Result<Text, Fail> {
     let mut text = Text::make(alloc);
@@ -25,17 +25,17 @@ fn script_of(alloc: Global, made: u64) -> Result<Text, Fail> {
 
 fn printed_of(alloc: Global, made: u64) -> Result<Text, Fail> {
     let mut text = Text::make(alloc);
-    let accesses = made.saturating_add(8);
+    let accesses = made.saturating_add(10);
     if made > EXCHANGE {
         text.say(
             "1 stored 0.0.0\n1 linked 0.1.0\n1 found 0.1.0 =2\nhistory\nh 1 1 1 put a =1 stored 0.0.0\nh 1 1 2 put a =2 stored 0.1.0\nh 1 1 3 get a found 0.1.0 =2\naccesses ",
         )?;
-        text.number(accesses.saturating_add(9))?;
+        text.number(accesses.saturating_add(6))?;
     } else {
         text.say(
             "1 stored 0.0.0\n1 unreached\n1 found 0.0.0 =1\nhistory\nh 1 1 1 put a =1 stored 0.0.0\nh 1 1 2 get a found 0.0.0 =1\naccesses ",
         )?;
-        text.number(accesses.saturating_add(7))?;
+        text.number(accesses.saturating_add(4))?;
     }
     text.say("\nend\n")?;
     Ok(text)
@@ -44,7 +44,7 @@ fn printed_of(alloc: Global, made: u64) -> Result<Text, Fail> {
 #[test]
 fn each_access_of_a_put_is_refused_in_turn(rt: HostRuntime) -> Result<(), Fail> {
     let alloc = rt.alloc();
-    for made in 0..10u64 {
+    for made in 0..8u64 {
         let script = script_of(alloc, made)?;
         let printed = printed_of(alloc, made)?;
         let input = script.input(alloc)?;

@@ -3,9 +3,9 @@ use Rattle.std.proofs.Common.{◌≡◌, ℕ, zero, suc, ◌+◌, ◌≤◌, ◌
 use native.Mathlib.Decide.{ℕ_discrete}
 use mathlib.Core.Logic.{dite}
 use Rattle.std.specs.Prelude.{Option, Some, None}
-use Rattle.std.proofs.lemmas.Bool.Decides.{nat_tests}
+use Rattle.std.proofs.lemmas.List.{nil_from_length}
 use Rattle.clover_map.specs.declared.call.Entry.{Entry}
-use Rattle.clover_rule.specs.Content.{content, tombstone, spelling, Fits, IsKey}
+use Rattle.clover_rule.specs.Content.{spelling, Fits, IsKey}
 use Rattle.clover_rule.specs.History.{Version, Map, commits, ends, at_key}
 use Rattle.clover_rule.specs.Lists.{nth, upd}
 use Rattle.clover_rule.specs.Memory.{home, age, gen, Mem}
@@ -19,29 +19,18 @@ use Rattle.clover_rule.specs.declared.view.Task.TheVariants.{Storing, Rooted}
 use Rattle.clover_rule.specs.declared.view.View.{View}
 use Rattle.clover_words.specs.declared.pool.Pool.{Pool}
 use Rattle.clover_rule.proofs.Keys.{at_key_same, at_key_else}
+use Rattle.clover_rule.proofs.Spelling.{dead_word}
 use Rattle.clover_rule.proofs.Tools.{upd_same, upd_else, nth_within}
 use Rattle.clover_rule.proofs.Standings.{tag_there, tag_within}
 use Rattle.clover_rule.proofs.Steps.{prefix_self, Grows, durable_kept}
 use Rattle.clover_rule.proofs.ServerTools.{core_copy, Moves, whole, book_same}
 use Rattle.clover_rule.proofs.ServerLaws.{stage_at, serves_at}
 use Rattle.clover_rule.proofs.Binding.{CanBind, bound_story, bind_core, Case, here_tag, else_case, log_here, here_sure}
-use Rattle.clover_rule.proofs.Cuts.{unread_less}
-
-empty_list : {A : Type 0} (xs : List A) → length xs ≡ 0 → xs ≡ []
-empty_list [] e = refl
-empty_list (x ∷ xs) e = absurd (omega arith)
+use Rattle.clover_rule.proofs.Cuts.{unread_less, unsure_less}
 
 -- an unbound slot has no flushed root
 pub unrooted : (m : Mem) (st : Story) (s : ℕ) → Core m st → length (st.log s) ≡ 0 → m.froot s ≡ None
-unrooted m st s c e = ⊎_elim (λ q. q ∙ ap (λ (ws : List Version). tag_in_version (nth ws (st.flead s))) (empty_list (st.log s) e)) (λ q. q.empty) (c.froot s)
-
-dead_word : (j x : ℕ) → nth (content None) j ≡ Some x → (j ≡ 0) × (x ≡ tombstone)
-unfolding content
-dead_word zero x e = (refl, cc)
-dead_word (suc j) x e = absurd cc
-
-unsure_less : (a b c : ℕ) → a ≤ b → leb b c ≡ true → leb a c ≡ true
-unsure_less a b c h q = grind (arith, nat_tests)
+unrooted m st s c e = ⊎_elim (λ q. q ∙ ap (λ (ws : List Version). tag_in_version (nth ws (st.flead s))) (nil_from_length (st.log s) e)) (λ q. q.empty) (c.froot s)
 
 module _ (l : Pool) (m0 : Map) (used : List ℕ) (m : Mem) (vs : List View) (id : ℕ) (v : View) (st : Story) (h : List Entry) (w : Whole l m0 used m vs st h) (at : nth vs id ≡ Some v) (role : v.pass.role ≡ Serving)
     (s : ℕ) (k : List ℕ) (t : ℕ) (e : v.server.task ≡ Storing s k t (2 + length (spelling k) + length (spelling k))) where
@@ -79,7 +68,7 @@ module _ (l : Pool) (m0 : Map) (used : List ℕ) (m : Mem) (vs : List View) (id 
   st1 = record st0 { keys = upd st.keys s (Some k); first = upd st.first s (x ∷ []); task = Rooted s k t; slot_named = at_key st.slot_named k s }
 
   log_now : st1.log s ≡ x ∷ []
-  log_now = log_here m st s x r.core can ∙ ap (λ (ws : List Version). ws ++ x ∷ []) (empty_list (st.log s) bare)
+  log_now = log_here m st s x r.core can ∙ ap (λ (ws : List Version). ws ++ x ∷ []) (nil_from_length (st.log s) bare)
 
   log_else : (s1 : ℕ) → s1 ≢ s → st1.log s1 ≡ st.log s1
   log_else s1 d = upd_else st.log s s1 (st.log s ++ x ∷ []) d

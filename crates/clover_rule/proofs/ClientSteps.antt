@@ -1,15 +1,14 @@
 -- A client's steps keep the helping facts and what the server's view says.
-use Rattle.std.proofs.Common.{◌≡◌, ℕ, suc, ◌<◌, ◌≤◌, ◌≢◌, ◌⊎◌, List, [], ◌∷◌, ◌++◌, length, Bool, true, false, cond, eqb, ltb, refl, sym, ap, ◌∙◌, inl, inr, ⊎_elim, arith, subst, ne_eqb, true≢false}
+use Rattle.std.proofs.Common.{◌≡◌, ℕ, suc, ◌<◌, ◌≤◌, ◌≢◌, ◌⊎◌, List, [], ◌∷◌, ◌++◌, length, Bool, true, false, cond, eqb, refl, sym, ap, ◌∙◌, inl, inr, ⊎_elim, arith, subst, ne_eqb, true≢false}
 use native.Mathlib.Decide.{ℕ_discrete, dec_le}
 use mathlib.Core.Logic.{dite}
 use Rattle.std.specs.Prelude.{Option, Some, None}
-use Rattle.std.proofs.lemmas.Bool.Decides.{nat_tests}
 use Rattle.clover_map.specs.declared.call.Entry.{Entry}
 use Rattle.clover_rule.specs.Changes.{linked_mem, linked_story, raised_mem, raised_story}
 use Rattle.clover_rule.specs.Content.{InRange, Fits}
 use Rattle.clover_rule.specs.History.{Version, Map, used_by}
 use Rattle.clover_rule.specs.Lists.{Each, nth, Within}
-use Rattle.clover_rule.specs.Memory.{home, age, Next, word, gen, Mem, greater, order}
+use Rattle.clover_rule.specs.Memory.{home, age, word, gen, Mem, greater}
 use Rattle.clover_rule.specs.Server.{Ready, IsWaiting, IsRecycling, AtStage, Help, root_in, is_home, book_of, Serves, Whole}
 use Rattle.clover_rule.specs.Story.{Place, Chained, Taken, Story, tag_at, Core}
 use Rattle.clover_rule.specs.Views.{book, Basis, renewed}
@@ -26,7 +25,7 @@ use Rattle.clover_rule.proofs.Steps.{Grows, nth_set, durable_kept}
 use Rattle.clover_rule.proofs.Linking.{CanLink, gens, u_stands, tag_else, Pushed, before, new, pushed, length_linked}
 use Rattle.clover_rule.proofs.ServerTools.{book_same}
 use Rattle.clover_rule.proofs.Stages.{gen_most}
-use Rattle.clover_rule.proofs.Raising.{CanRaise}
+use Rattle.clover_rule.proofs.Raising.{CanRaise, order_below, order_self}
 
 pub each_snoc : {A : Type 0} (P : A → Type 0) (xs : List A) (x : A) → Each P xs → P x → Each P (xs ++ x ∷ [])
 each_snoc P [] x e p = (p, tt)
@@ -235,22 +234,13 @@ module _ (l : Pool) (m : Mem) (st : Story) (c : Core m st) (p : Help l m st) (s 
   abbrev sr : Story
   sr = raised_story st s i
 
-  order_under : (n o : Next) → gen n < gen o → ltb (order o) (order n) ≡ false
-  order_under (word a None) (word b None) q = grind (arith, nat_tests)
-  order_under (word a None) (word b (Some y)) q = grind (arith, nat_tests)
-  order_under (word a (Some y)) (word b None) q = grind (arith, nat_tests)
-  order_under (word a (Some y)) (word b (Some z)) q = grind (arith, nat_tests)
-
-  order_same : (n : Next) → ltb (order n) (order n) ≡ false
-  order_same n = grind (arith, nat_tests)
-
   -- a raise changes no buffer off the slot's chain
   raise_off : (b : ℕ) → st.place b ≢ Chained s → mr.fnext b ≡ m.fnext b
   raise_off b n = dite (ℕ_discrete b (home u)) (λ d. rw d (upd_same m.fnext (home u) (greater (m.fnext (home u)) (word (age u) (Some t))) ∙ still d (dec_le (st.gone s) i))) (λ d. upd_else m.fnext (home u) b (greater (m.fnext (home u)) (word (age u) (Some t))) d)
     where
       still : b ≡ home u → Dec (st.gone s ≤ i) → greater (m.fnext (home u)) (word (age u) (Some t)) ≡ m.fnext (home u)
       still d (yes q) = absurd (n (ap st.place d ∙ (c.standing s i u can.from q).placed))
-      still d (no q) = ⊎_elim (λ a. rw (order_under (word (age u) (Some t)) (m.fnext (home u)) a) refl) (λ a. let e : m.fnext (home u) ≡ word (age u) (Some t) = a ∙ ap (word (age u)) can.to in rw e (rw (order_same (word (age u) (Some t))) refl)) (c.passed s i u can.from (omega arith)).safe
+      still d (no q) = ⊎_elim (λ a. rw (order_below (word (age u) (Some t)) (m.fnext (home u)) a) refl) (λ a. let e : m.fnext (home u) ≡ word (age u) (Some t) = a ∙ ap (word (age u)) can.to in rw e (rw (order_self (word (age u) (Some t))) refl)) (c.passed s i u can.from (omega arith)).safe
 
   held_off : (b : ℕ) → st.place b ≡ Taken → mr.fnext b ≡ m.fnext b
   held_off b e = raise_off b (λ q. absurd (cc (q, e)))

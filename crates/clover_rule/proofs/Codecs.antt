@@ -12,6 +12,7 @@ use Rattle.clover_rule.specs.Memory.{word, home, age}
 use Rattle.clover_rule.specs.Steps.{unlinked, linked}
 use Rattle.clover_rule.specs.Told.{IsShown}
 use Rattle.clover_rule.specs.Words.{next_of, root_of, next_code, root_code, buffer_at}
+use Rattle.clover_words.proofs.Spellings.{tag_small}
 use Rattle.clover_rule.proofs.Ties.{next_again, root_again, buffer_in}
 use Rattle.clover_rule.proofs.Keeping.{inside_of}
 
@@ -60,12 +61,9 @@ next_code_is n = ap (λ (z : ℕ). n.own * 2 ^ 43 + z) (root_code_is n.link)
 pub root_of_word : (x : Option TagParts) → root_of (root_word x) ≡ tag_option x
 root_of_word x = ap root_of (sym (root_code_is x)) ∙ root_again (tag_option x)
 
-tag_below : (t : TagParts) → IsTag t → tag_number t < 4398046511104
-tag_below t h = let a = h.node in let b = h.index in let c = h.generation in omega arith
-
 link_below : (x : Option TagParts) → IsLink x → root_code (tag_option x) < 8796093022208
 link_below None h = omega arith
-link_below (Some t) h = let a = tag_below t h in omega arith
+link_below (Some t) h = let a = tag_small t h in omega arith
 
 pub next_of_word : (n : NextParts) → IsNext n → next_of (next_word n) ≡ word n.own (tag_option n.link)
 next_of_word n h = ap next_of (sym (next_code_is n)) ∙ next_again n.own (tag_option n.link) (link_below n.link h.link)

@@ -3,7 +3,7 @@ use Rattle.std.proofs.Common.{◌≡◌, ℕ, suc, ◌<◌, ◌≤◌, Bool, tru
 use native.Mathlib.Decide.{ℕ_discrete, dec_le}
 use mathlib.Core.Logic.{dite}
 use Rattle.std.specs.Prelude.{Some, None}
-use Rattle.std.proofs.lemmas.Bool.Decides.{nat_tests}
+use Rattle.std.proofs.lemmas.Bool.{lt-ltb, le-ltb}
 use Rattle.clover_rule.specs.Memory.{Next, word, gen, order, greater}
 use Rattle.clover_rule.specs.Words.{next_code}
 
@@ -33,15 +33,9 @@ OneLink _ _ = Unit {0}
 
 pick : (n o : Next) → (next_code o < next_code n → order o < order n) → (next_code n ≤ next_code o → (order n ≤ order o)) → max (next_code o) (next_code n) ≡ next_code (greater o n)
 pick n o f g = dite (dec_le (suc (next_code o)) (next_code n))
-    (λ d. let e : ltb (order o) (order n) ≡ true = yes_test (order o) (order n) (f d) in max_right (next_code o) (next_code n) d ∙ ap (λ (b : Bool). next_code (cond b n o)) (sym e))
-    (λ d. let e : ltb (order o) (order n) ≡ false = no_test (order o) (order n) (g (omega arith)) in max_left (next_code o) (next_code n) (omega arith) ∙ ap (λ (b : Bool). next_code (cond b n o)) (sym e))
+    (λ d. let e : ltb (order o) (order n) ≡ true = lt-ltb (order o) (order n) (f d) in max_right (next_code o) (next_code n) d ∙ ap (λ (b : Bool). next_code (cond b n o)) (sym e))
+    (λ d. let e : ltb (order o) (order n) ≡ false = le-ltb (order o) (order n) (g (omega arith)) in max_left (next_code o) (next_code n) (omega arith) ∙ ap (λ (b : Bool). next_code (cond b n o)) (sym e))
   where
-    yes_test : (a b : ℕ) → a < b → ltb a b ≡ true
-    yes_test a b h = grind (arith, nat_tests)
-
-    no_test : (a b : ℕ) → b ≤ a → ltb a b ≡ false
-    no_test a b h = grind (arith, nat_tests)
-
     max_right : (a b : ℕ) → a < b → max a b ≡ b
     max_right a b h = omega arith
 

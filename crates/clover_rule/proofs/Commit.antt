@@ -24,7 +24,7 @@ use Rattle.clover_rule.proofs.Keys.{eq_key, ne_key}
 use Rattle.clover_rule.proofs.Histories.{legal_snoc, commits_snoc}
 use Rattle.clover_rule.proofs.Linking.{CanLink, link_core, u_last, u_sure, gens, u_stands, tag_else, tag_new}
 use Rattle.clover_rule.proofs.Snocs.{unread_snoc, fresh_commit, within_nth, within_commits, within_back, used_snoc, own_snoc}
-use Rattle.clover_rule.proofs.Steps.{each_map, each_within, prefix_self, within_prefix, Grows, Leaves, view_kept, nth_set, set_here, link_kept, durable_kept, past_kept, copied_kept}
+use Rattle.clover_rule.proofs.Steps.{each_map, each_within, prefix_self, within_prefix, Grows, Leaves, view_kept, nth_set, set_here, link_kept, durable_kept, past_kept, copied_kept, role_was}
 
 version_kept : (st : Story) (s : ℕ) (w : Version) (s' i : ℕ) (x : Version) → nth (st.log s') i ≡ Some x → nth ((linked_story st s w).log s') i ≡ Some x
 version_kept st s w s' i x e = go (ℕ_discrete s' s)
@@ -246,11 +246,8 @@ module _ (m0 : Map) (used : List ℕ) (m : Mem) (vs : List View) (st : Story) (h
       go (inr a) = view_kept m st h m' st' h' grows i v1 (λ b o. leaves i b (λ f. let g = ap st.place f in absurd (a.0 (cc (g, o, owned.0)))) o)
           (λ c f. own_snoc c h e ∙ ap (λ (b : Bool). own c h ++ cond b (e ∷ []) []) (ne_eqb n c (λ g. a.0 (r.numbered i id n v1 v a.1 at (f ∙ ap Client (sym g)) p.client))) ∙ append-nil (own c h)) (r.views i v1 a.1)
 
-  was : (i : ℕ) (a : View) → nth (renewed vs id v') i ≡ Some a → (y : View) × (nth vs i ≡ Some y) × (y.pass.role ≡ a.pass.role)
-  was i a q = ⊎_elim {C = (y : View) × (nth vs i ≡ Some y) × (y.pass.role ≡ a.pass.role)} (λ d. (v, ap (nth vs) d.0 ∙ at, ap (λ (z : View). z.pass.role) d.1)) (λ d. (a, d.1, refl)) (nth_set vs id i v' a q)
-
   numbered' : Numbered (renewed vs id v')
-  numbered' i j c a b qa qb ra rb = let x = was i a qa in let y = was j b qb in r.numbered i j c x.0 y.0 x.1 y.1 (x.2 ∙ ra) (y.2 ∙ rb)
+  numbered' i j c a b qa qb ra rb = let x = role_was vs id v v' at refl i a qa in let y = role_was vs id v v' at refl j b qb in r.numbered i j c x.0 y.0 x.1 y.1 (x.2 ∙ ra) (y.2 ∙ rb)
 
   pub rule' : Basis m0 used m' (renewed vs id v') st' h'
   rule' = record {

@@ -24,12 +24,10 @@ use Rattle.clover_rule.proofs.Keys.{key_discrete}
 use Rattle.clover_rule.proofs.Tools.{nth_within}
 use Rattle.clover_rule.proofs.Histories.{legal_snoc, commits_snoc}
 use Rattle.clover_rule.proofs.Snocs.{unread_snoc, within_nth, within_commits, within_back, used_snoc, own_snoc}
-use Rattle.clover_rule.proofs.Steps.{prefix_self, Grows, view_kept, nth_set, set_here}
+use Rattle.clover_rule.proofs.Steps.{prefix_self, Grows, view_kept, nth_set, set_here, role_was}
 use Rattle.clover_rule.proofs.AbsentLaw.{absent_map, whole_prefix}
+use Rattle.clover_rule.proofs.Raising.{most_kept}
 use Rattle.clover_rule.proofs.ClientSteps.{each_snoc, client_whole}
-
-most_ok : (a b : ℕ) → a ≤ b → greatest a b ≤ b
-most_ok a b q = grind (arith, nat_tests)
 
 module _ (l : Pool) (m0 : Map) (used : List ℕ) (m : Mem) (vs : List View) (st : Story) (h : List Entry) (w : Whole l m0 used m vs st h)
     (id : ℕ) (v : View) (at : nth vs id ≡ Some v) (k : List ℕ) (missing : (s : ℕ) → Within (s, k) v.pass.names → ⊥) (found : m.count ≡ length v.pass.names) where
@@ -130,7 +128,7 @@ module _ (l : Pool) (m0 : Map) (used : List ℕ) (m : Mem) (vs : List View) (st 
       copied = ok.copied;
       names = ok.names;
       added = ok.added;
-      most = most_ok v.pass.most m.count ok.most;
+      most = most_kept v.pass.most m.count m.count ok.most (omega arith);
       words = ok.words;
       history = prefix_self h';
       calls = subst (λ (o : Role). OwnCalls o v.pass.calls h → OwnCalls o (v.pass.calls ++ e ∷ []) h') (sym role) (λ q. ap (λ (xs : List Entry). xs ++ e ∷ []) q ∙ sym (own_snoc n h e ∙ ap (λ (b : Bool). own n h ++ cond b (e ∷ []) []) (eq-eqb n n refl))) ok.calls;
@@ -144,9 +142,6 @@ module _ (l : Pool) (m0 : Map) (used : List ℕ) (m : Mem) (vs : List View) (st 
         go (inr a) = view_kept m st h m st h' grows i1 v1 (λ b o. record { place = o; next = refl; body = λ y. refl; fbody = λ y. refl })
             (λ c f. own_snoc c h e ∙ ap (λ (b : Bool). own c h ++ cond b (e ∷ []) []) (ne_eqb n c (λ g. a.0 (r.numbered i1 id n v1 v a.1 at (f ∙ ap Client (sym g)) role))) ∙ append-nil (own c h)) (r.views i1 v1 a.1)
 
-    was : (i1 : ℕ) (a : View) → nth (renewed vs id v') i1 ≡ Some a → (y : View) × (nth vs i1 ≡ Some y) × (y.pass.role ≡ a.pass.role)
-    was i1 a q = ⊎_elim {C = (y : View) × (nth vs i1 ≡ Some y) × (y.pass.role ≡ a.pass.role)} (λ d. (v, ap (nth vs) d.0 ∙ at, ap (λ (z : View). z.pass.role) d.1)) (λ d. (a, d.1, refl)) (nth_set vs id i1 v' a q)
-
     pub decide_rule : Basis m0 used m (renewed vs id v') st h'
     decide_rule = record {
       core = r.core;
@@ -156,7 +151,7 @@ module _ (l : Pool) (m0 : Map) (used : List ℕ) (m : Mem) (vs : List View) (st 
       bound = r.bound;
       keyed = r.keyed;
       views = views';
-      numbered = λ i1 j1 c a b qa qb ra rb. let x1 = was i1 a qa in let y1 = was j1 b qb in r.numbered i1 j1 c x1.0 y1.0 x1.1 y1.1 (x1.2 ∙ ra) (y1.2 ∙ rb);
+      numbered = λ i1 j1 c a b qa qb ra rb. let x1 = role_was vs id v v' at refl i1 a qa in let y1 = role_was vs id v v' at refl j1 b qb in r.numbered i1 j1 c x1.0 y1.0 x1.1 y1.1 (x1.2 ∙ ra) (y1.2 ∙ rb);
       longest = (id, v', set_here vs id v' v at, refl);
     }
 

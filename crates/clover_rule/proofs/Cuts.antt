@@ -3,6 +3,7 @@ use Rattle.std.proofs.Common.{◌≡◌, ℕ, zero, suc, ◌+◌, ◌<◌, ◌�
 use native.Mathlib.Decide.{ℕ_discrete, dec_le}
 use mathlib.Core.Logic.{dite}
 use Rattle.std.specs.Prelude.{Option, Some, None}
+use Rattle.std.proofs.lemmas.Bool.{lt-ltb, le-ltb}
 use Rattle.std.proofs.lemmas.Bool.Decides.{nat_tests}
 use Rattle.clover_map.specs.declared.call.Entry.{Entry}
 use Rattle.clover_map.specs.declared.bytes.Held.{Held}
@@ -12,7 +13,7 @@ use Rattle.clover_rule.specs.Lists.{Each, nth}
 use Rattle.clover_rule.specs.Memory.{home, age, gen, link, Mem}
 use Rattle.clover_rule.specs.Story.{Story, tag_in_version, tag_at, only, Core, Tale, unsure, Durable}
 use Rattle.clover_rule.proofs.Tools.{nth_within, nth_none}
-use Rattle.clover_rule.proofs.Histories.{kept_legal, unread_last, leads_commits}
+use Rattle.clover_rule.proofs.Histories.{kept_legal, unread_last, leads_commits, ends_more}
 use Rattle.clover_rule.proofs.Standings.{tag_there, only_none}
 
 -- sifting a history sifts the commits of each key
@@ -43,26 +44,20 @@ sift_none : (lost : ℕ → Bool) (ws : List Version) → ((i : ℕ) (w : Versio
 sift_none lost [] h = refl
 sift_none lost (w ∷ ws) h = rw (h zero w refl) (sift_none lost ws (λ i. h (suc i)))
 
-is_below : (a b : ℕ) → a < b → ltb a b ≡ true
-is_below a b h = grind (arith, nat_tests)
-
-not_below : (a b : ℕ) → b ≤ a → ltb a b ≡ false
-not_below a b h = grind (arith, nat_tests)
-
 shift : (a b : ℕ) → ltb a b ≡ ltb (suc a) (suc b)
 shift a b = grind (arith, nat_tests)
 
 pub up_to : (i n : ℕ) (x : Option Version) → i < n → x ≡ cond (ltb i n) x None
-up_to i n x h = rw (is_below i n h) refl
+up_to i n x h = rw (lt-ltb i n h) refl
 
 from_on : (i n : ℕ) (x : Option Version) → n ≤ i → None ≡ cond (ltb i n) x None
-from_on i n x h = rw (not_below i n h) refl
+from_on i n x h = rw (le-ltb i n h) refl
 
 -- what the sifted list has at a place
 sift_at : (lost : ℕ → Bool) (n : ℕ) (ws : List Version) → ((i : ℕ) (w : Version) → nth ws i ≡ Some w → i < n → lost w.tag ≡ false) → ((i : ℕ) (w : Version) → nth ws i ≡ Some w → n ≤ i → lost w.tag ≡ true) → (i : ℕ) → nth (sift lost ws) i ≡ cond (ltb i n) (nth ws i) None
 sift_at lost n [] f g i = elim (ltb i n) as (λ (b : Bool). ◌≡◌ {A = Option Version} None (cond b None None)) [ true ↦ refl | false ↦ refl ]
 sift_at lost zero (w ∷ ws) f g i = rw (sift_none lost (w ∷ ws) (λ j x e. g j x e (omega arith))) (let e : ltb i 0 ≡ false = grind (arith, nat_tests) in rw e refl)
-sift_at lost (suc n) (w ∷ ws) f g zero = rw (f zero w refl (omega arith)) (rw (is_below 0 (suc n) (omega arith)) refl)
+sift_at lost (suc n) (w ∷ ws) f g zero = rw (f zero w refl (omega arith)) (rw (lt-ltb 0 (suc n) (omega arith)) refl)
 sift_at lost (suc n) (w ∷ ws) f g (suc i) = rw (f zero w refl (omega arith)) (sift_at lost n ws (λ j x e l. f (suc j) x e (omega arith)) (λ j x e l. g (suc j) x e (omega arith)) i ∙ ap (λ (b : Bool). cond b (nth ws i) None) (shift i n))
 
 -- the chain of a list of versions each of whose links leads to the next
@@ -81,6 +76,9 @@ nth_drop (suc n) i (w ∷ ws) = nth_drop n i ws ∙ sym (ap (nth (w ∷ ws)) (le
 pub inside : (i n : ℕ) (x : Option Version) (w : Version) → cond (ltb i n) x None ≡ Some w → i < n
 inside i n x w e = dite (dec_le (suc i) n) (λ d. d) (λ d. absurd (cc (from_on i n x (omega arith), e)))
 
+pub unsure_less : (a b c : ℕ) → a ≤ b → leb b c ≡ true → leb a c ≡ true
+unsure_less a b c h q = grind (arith, nat_tests)
+
 pub unread_less : (a b : ℕ → Bool) → ((t : ℕ) → b t ≡ true → a t ≡ true) → (h : List Entry) → Unread a h → Unread b h
 unread_less a b f [] u = tt
 unread_less a b f (e ∷ h) u = ((λ p. u.0 (go (commit_of e) p)), unread_less a b f h u.1)
@@ -92,10 +90,6 @@ unread_less a b f (e ∷ h) u = ((λ p. u.0 (go (commit_of e) p)), unread_less a
 agree_self : (m : Map) (h : List Entry) → Each (λ (e : Entry). m (key_of e) ≡ m (key_of e)) h
 agree_self m [] = tt
 agree_self m (e ∷ h) = (refl, agree_self m h)
-
-ends_append : (x : Option Held) (vs ws : List Version) → ends x (vs ++ ws) ≡ ends (ends x vs) ws
-ends_append x [] ws = refl
-ends_append x (v ∷ vs) ws = ends_append (pair_of v) vs ws
 
 ends_some : (x y : Option Held) (ws : List Version) → 0 < length ws → ends x ws ≡ ends y ws
 ends_some x y [] h = absurd (omega arith)
@@ -140,7 +134,7 @@ module _ (m : Mem) (st : Story) (c : Core m st) (im : Image) (is : IsImage m im)
 
   -- a link to a durable version is in each image
   sure_link : (s i t : ℕ) → tag_at st s i ≡ Some t → st.gone s ≤ i → suc i < st.sure s → link (im.next (home t)) ≡ tag_at st s (suc i)
-  sure_link s i t e g h = let x = c.standing s i t e g in ⊎_elim (λ a. ap link (a ∙ x.now)) (λ a. ap link (a ∙ x.safe) ∙ ap (λ (b : Bool). only b (tag_at st s (suc i))) (is_below (suc i) (st.sure s) h)) (is.next (home t))
+  sure_link s i t e g h = let x = c.standing s i t e g in ⊎_elim (λ a. ap link (a ∙ x.now)) (λ a. ap link (a ∙ x.safe) ∙ ap (λ (b : Bool). only b (tag_at st s (suc i))) (lt-ltb (suc i) (st.sure s) h)) (is.next (home t))
 
   no_link : (s i t : ℕ) → tag_at st s i ≡ Some t → st.gone s ≤ i → tag_at st s (suc i) ≡ None → link (im.next (home t)) ≡ None
   no_link s i t e g h = let x = c.standing s i t e g in ⊎_elim (λ a. ap link (a ∙ x.now) ∙ h) (λ a. ap link (a ∙ x.safe) ∙ ap (only (ltb (suc i) (st.sure s))) h ∙ only_none (ltb (suc i) (st.sure s))) (is.next (home t))
@@ -163,8 +157,8 @@ module _ (m : Mem) (st : Story) (c : Core m st) (im : Image) (is : IsImage m im)
   whole s i = go (dec_le (suc i) (length (st.log s)))
     where
       go : Dec (suc i ≤ length (st.log s)) → nth (st.log s) i ≡ cond (ltb i (length (st.log s))) (nth (st.log s) i) None
-      go (yes d) = rw (is_below i (length (st.log s)) d) refl
-      go (no n) = rw (not_below i (length (st.log s)) (omega arith)) (nth_none (st.log s) i (omega arith))
+      go (yes d) = rw (lt-ltb i (length (st.log s)) d) refl
+      go (no n) = rw (le-ltb i (length (st.log s)) (omega arith)) (nth_none (st.log s) i (omega arith))
 
   end_none : (s i : ℕ) → length (st.log s) ≤ i → tag_at st s i ≡ None
   end_none s i h = ap tag_in_version (nth_none (st.log s) i h)
@@ -202,7 +196,7 @@ module _ (m : Mem) (st : Story) (c : Core m st) (im : Image) (is : IsImage m im)
     leads_on = λ i t p g h. dite (dec_le (suc (suc i)) (st.sure s))
         (λ d. sure_link s i t p g d ∙ ap tag_in_version (whole s (suc i)))
         (λ n. dite (ℕ_discrete (suc i) (st.sure s))
-        (λ f. ⊎_elim (λ a. ap link (a ∙ (c.standing s i t p g).now) ∙ ap tag_in_version (whole s (suc i))) (λ a. absurd (true≢false (sym (ap is_none (ap link (a ∙ (c.standing s i t p g).safe) ∙ ap (λ (b : Bool). only b (tag_at st s (suc i))) (not_below (suc i) (st.sure s) (omega arith)))) ∙ ap is_none (sym (link_of s i t p)) ∙ ap (λ (x : ℕ). is_none (leads_to st im s x)) f ∙ b))) (is.next (home t)))
+        (λ f. ⊎_elim (λ a. ap link (a ∙ (c.standing s i t p g).now) ∙ ap tag_in_version (whole s (suc i))) (λ a. absurd (true≢false (sym (ap is_none (ap link (a ∙ (c.standing s i t p g).safe) ∙ ap (λ (b : Bool). only b (tag_at st s (suc i))) (le-ltb (suc i) (st.sure s) (omega arith)))) ∙ ap is_none (sym (link_of s i t p)) ∙ ap (λ (x : ℕ). is_none (leads_to st im s x)) f ∙ b))) (is.next (home t)))
         (λ f. let q = end_none s (suc i) (omega arith) in no_link s i t p g q ∙ sym q ∙ ap tag_in_version (whole s (suc i))));
   }
 
@@ -265,7 +259,7 @@ module _ (m : Mem) (st : Story) (c : Core m st) (im : Image) (is : IsImage m im)
         ∙ ap (λ (ws : List Version). st.first s ++ ws) (sym (commits_kept lost k h))
 
     pub map_left : (s : ℕ) (k : List ℕ) → st.keys s ≡ Some k → ends None (sift lost (st.log s)) ≡ leads m0 (kept lost h) k
-    map_left s k e = ap (ends None) (log_left s k e) ∙ ends_append None (st.first s) (commits k (kept lost h)) ∙ ap (λ (x : Option Held). ends x (commits k (kept lost h))) (t.began s k e) ∙ sym (leads_commits m0 (kept lost h) k)
+    map_left s k e = ap (ends None) (log_left s k e) ∙ ends_more None (st.first s) (commits k (kept lost h)) ∙ ap (λ (x : Option Held). ends x (commits k (kept lost h))) (t.began s k e) ∙ sym (leads_commits m0 (kept lost h) k)
 
     pub longer : (s p : ℕ) → p < st.sure s → p < length (sift lost (st.log s))
     longer s p q =

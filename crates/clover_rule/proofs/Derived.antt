@@ -2,6 +2,7 @@
 use Rattle.std.proofs.Common.{◌≡◌, ℕ, zero, suc, ◌+◌, ◌-◌, ◌*◌, ◌<◌, ◌≤◌, ◌≢◌, ◌⊎◌, List, [], ◌∷◌, length, drop, Bool, true, cond, eqb, ltb, refl, sym, ap, ◌∙◌, inl, inr, ⊎_elim, arith, subst, eq-eqb, ne_eqb}
 use native.Mathlib.Decide.{ℕ_discrete, dec_le}
 use Rattle.std.specs.Prelude.{Option, Some, None}
+use Rattle.std.proofs.lemmas.Bool.{lt-ltb}
 use Rattle.std.proofs.lemmas.Bool.Decides.{nat_tests}
 use Rattle.clover_rule.specs.History.{Version}
 use Rattle.clover_rule.specs.Image.{tags}
@@ -96,11 +97,8 @@ module _ (m : Mem) (st : Story) (c : Core m st) where
           let f : tag_at st s p ≡ Some a.tag = ap tag_in_version (head_at p (st.log s) a (b ∷ ws) e) in
           let x = c.standing s p a.tag f g in
           let y = ap length e in let z = c.sure_all s in let k : length (drop p (st.log s)) ≤ length (st.log s) - p = drop_length p (st.log s) in
-          x.safe ∙ ap (λ (t : Bool). word (age a.tag) (only t (tag_at st s (suc p)))) (let q : ltb (suc p) (st.sure s) ≡ true = test (suc p) (st.sure s) (omega arith) in q) ∙ sym x.now
+          x.safe ∙ ap (λ (t : Bool). word (age a.tag) (only t (tag_at st s (suc p)))) (let q : ltb (suc p) (st.sure s) ≡ true = lt-ltb (suc p) (st.sure s) (omega arith) in q) ∙ sym x.now
         where
-          test : (i n : ℕ) → i < n → ltb i n ≡ true
-          test i n h = grind (arith, nat_tests)
-
           drop_length : (p : ℕ) (ws : List Version) → length (drop p ws) ≤ length ws - p
           drop_length zero ws = omega arith
           drop_length (suc p) [] = omega arith

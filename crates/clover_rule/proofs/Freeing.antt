@@ -3,6 +3,7 @@ use Rattle.std.proofs.Common.{◌≡◌, ℕ, suc, ◌<◌, ◌≢◌, List, Boo
 use native.Mathlib.Decide.{ℕ_discrete}
 use mathlib.Core.Logic.{dite}
 use Rattle.std.specs.Prelude.{Option, Some, None}
+use Rattle.std.proofs.lemmas.Bool.{lt-ltb}
 use Rattle.std.proofs.lemmas.Bool.Decides.{nat_tests}
 use Rattle.clover_map.specs.declared.call.Entry.{Entry}
 use Rattle.clover_rule.specs.Changes.{recycled_mem, recycled_story}
@@ -28,9 +29,6 @@ use Rattle.clover_rule.proofs.Stages.{load_root_whole, flush_link_whole, store_r
 use Rattle.clover_rule.proofs.Roots.{freed_core, freed_mem}
 use Rattle.clover_rule.proofs.Recycling.{CanRecycle, recycle_core, stands, is, else_same, behind}
 use Rattle.clover_rule.proofs.RecycleLaw.{gens', grows, leaves, spent_kept}
-
-passes : (a b : ℕ) → a < b → ltb a b ≡ true
-passes a b h = grind (arith, nat_tests)
 
 module _ (l : Pool) (m0 : Map) (used : List ℕ) (m : Mem) (vs : List View) (id : ℕ) (v : View) (st : Story) (h : List Entry) (w : Whole l m0 used m vs st h) (at : nth vs id ≡ Some v) (role : v.pass.role ≡ Serving) where
   abbrev ru : Basis m0 used m vs st h
@@ -102,7 +100,7 @@ module _ (l : Pool) (m0 : Map) (used : List ℕ) (m : Mem) (vs : List View) (id 
         here = record {
           place = place_now;
           now = next_now;
-          safe = stand.safe ∙ ap (λ (b : Bool). word (age r) (only b (tag_at st s (suc (st.gone s))))) (passes (suc (st.gone s)) (st.sure s) g.here.1) ∙ ap (word (age r)) g.here.0.next;
+          safe = stand.safe ∙ ap (λ (b : Bool). word (age r) (only b (tag_at st s (suc (st.gone s))))) (lt-ltb (suc (st.gone s)) (st.sure s) g.here.1) ∙ ap (word (age r)) g.here.0.next;
           root = ap (tag_at st s) gone_now ∙ g.here.0.next;
           old = (st.gone s, sym gone_now, g.here.0.root);
           inside = range.0;

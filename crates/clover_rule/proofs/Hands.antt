@@ -1,8 +1,9 @@
 -- Batches change hands: what is kept, and the laws of the splits and the joins.
-use Rattle.std.proofs.Common.{◌≡◌, ℕ, zero, suc, ◌≢◌, ◌⊎◌, List, [], ◌∷◌, ◌++◌, length, set, refl, sym, ap, ◌∙◌, inl, inr, ⊎_elim, arith, subst, ne_eqb}
+use Rattle.std.proofs.Common.{◌≡◌, ℕ, ◌≢◌, ◌⊎◌, List, [], ◌∷◌, ◌++◌, length, set, refl, sym, ap, ◌∙◌, inl, inr, ⊎_elim, arith, subst, ne_eqb}
 use native.Mathlib.Decide.{ℕ_discrete}
 use mathlib.Core.Logic.{dite}
 use Rattle.std.specs.Prelude.{Some}
+use Rattle.std.proofs.lemmas.List.{length-set}
 use Rattle.clover_map.specs.declared.call.Entry.{Entry}
 use Rattle.clover_rule.specs.History.{Map, own, used_by}
 use Rattle.clover_rule.specs.Lists.{Each, nth, upd, Within}
@@ -23,11 +24,6 @@ use Rattle.clover_rule.proofs.ServerTools.{tale_copy}
 pub each_both : {A : Type 0} (P : A → Type 0) (xs ys : List A) → Each P xs → Each P ys → Each P (xs ++ ys)
 each_both P [] ys a b = b
 each_both P (x ∷ xs) ys a b = (a.0, each_both P xs ys a.1 b)
-
-pub set_length : {A : Type 0} (l : List A) (i : ℕ) (a : A) → length (set l i a) ≡ length l
-set_length [] i a = refl
-set_length (x ∷ l) zero a = refl
-set_length (x ∷ l) (suc i) a = ap suc (set_length l i a)
 
 -- roots and held buffers of the books do not hang on places
 pub roots_placed : (st : Story) (P : ℕ → Place) (T : Task) (s1 : ℕ) → root_in T (record st { place = P }) s1 ≡ root_in T st s1
@@ -172,7 +168,7 @@ module _ (l : Pool) (m0 : Map) (used : List ℕ) (m : Mem) (vs : List View) (st 
   none_own cs (e ∷ xs) f a = rw (ne_eqb e.client n (λ q. f (subst (λ (z : ℕ). Within z cs) q a.0))) (none_own cs xs f a.1)
 
   made_case : (i : ℕ) (y : View) → nth views_then i ≡ Some y → ((i ≡ length vs) × (pass_view ≡ y)) ⊎ (((i ≡ id) × (making_view ≡ y)) ⊎ ((i ≢ id) × (nth vs i ≡ Some y)))
-  made_case i y e = ⊎_elim (λ a. inr (nth_set vs id i making_view y a)) (λ a. inl (a.0 ∙ set_length vs id making_view, a.1)) (nth_snoc (set vs id making_view) pass_view y i e)
+  made_case i y e = ⊎_elim (λ a. inr (nth_set vs id i making_view y a)) (λ a. inl (a.0 ∙ length-set vs id making_view, a.1)) (nth_snoc (set vs id making_view) pass_view y i e)
 
   server_at : (i : ℕ) (y : View) → nth views_then i ≡ Some y → y.pass.role ≡ Serving → (i ≡ id) × (making_view ≡ y)
   server_at i y e s = ⊎_elim (λ a. absurd (cc (ap (λ (z : View). z.pass.role) a.1, s))) (λ a. ⊎_elim (λ b. b) (λ b. absurd (b.0 (w.one i id y v b.1 at s role))) a) (made_case i y e)
@@ -197,4 +193,4 @@ module _ (l : Pool) (m0 : Map) (used : List ℕ) (m : Mem) (vs : List View) (st 
         where
           front : (i : ℕ) (y : View) → nth (set vs id making_view) i ≡ Some y → nth views_then i ≡ Some y
           front i y f = nth_front (set vs id making_view) pass_view i (λ z. let a = nth_within (set vs id making_view) i y f in absurd (omega arith)) ∙ f
-      longest_of j x q e (no d) = (j, x, nth_front (set vs id making_view) pass_view j (λ z. let a = nth_within vs j x q in let b = set_length vs id making_view in absurd (omega arith)) ∙ set_away vs id j making_view d ∙ q, e)
+      longest_of j x q e (no d) = (j, x, nth_front (set vs id making_view) pass_view j (λ z. let a = nth_within vs j x q in let b = length-set vs id making_view in absurd (omega arith)) ∙ set_away vs id j making_view d ∙ q, e)

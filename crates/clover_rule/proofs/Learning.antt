@@ -1,9 +1,8 @@
 -- What a client's loads teach, and that counting changes nothing.
-use Rattle.std.proofs.Common.{◌≡◌, ℕ, zero, suc, ◌≤◌, List, [], ◌∷◌, set, Bool, true, false, cond, eqb, refl, sym, ap, ◌∙◌, arith, subst, eqb-true}
+use Rattle.std.proofs.Common.{◌≡◌, ℕ, List, ◌∷◌, Bool, true, false, cond, eqb, refl, sym, ap, ◌∙◌, arith, subst, eqb-true}
 use Rattle.std.specs.Prelude.{Option, Some, None}
-use Rattle.std.proofs.lemmas.Bool.Decides.{nat_tests}
+use Rattle.std.proofs.lemmas.List.{set-set}
 use Rattle.clover_map.specs.declared.call.Entry.{Entry}
-use Rattle.clover_rule.specs.Changes.{greatest}
 use Rattle.clover_rule.specs.History.{Map, used_by}
 use Rattle.clover_rule.specs.Lists.{upd, Each, Within, nth}
 use Rattle.clover_rule.specs.Memory.{Next, word, home, age, Mem}
@@ -18,16 +17,9 @@ use Rattle.clover_rule.proofs.Standings.{tag_there, tag_within}
 use Rattle.clover_rule.proofs.Steps.{each_map, each_within, set_here}
 use Rattle.clover_rule.proofs.Derived.{current_past}
 use Rattle.clover_rule.proofs.Quiet.{loaded_link, loaded_body}
+use Rattle.clover_rule.proofs.Raising.{most_kept}
 use Rattle.clover_rule.proofs.ClientLaws.{quiet_whole, short_whole}
 use Rattle.clover_rule.proofs.ServerTools.{core_copy}
-
-pub set_set : {A : Type 0} (vs : List A) (i : ℕ) (a b : A) → set (set vs i a) i b ≡ set vs i b
-set_set [] i a b = refl
-set_set (x ∷ vs) zero a b = refl
-set_set (x ∷ vs) (suc i) a b = ap (λ (l : List _). x ∷ l) (set_set vs i a b)
-
-pub most_kept : (a b c : ℕ) → a ≤ c → b ≤ c → greatest a b ≤ c
-most_kept a b c h i = grind (arith, nat_tests)
 
 module _ (p : Pool) (m0 : Map) (used : List ℕ) (m : Mem) (vs : List View) (st : Story) (h : List Entry) (w : Whole p m0 used m vs st h) (id : ℕ) (v : View) (at : nth vs id ≡ Some v) (cl : IsClient v) where
   ok : ViewOk m st h id v
@@ -102,6 +94,6 @@ pub recount : (p : Pool) (m0 : Map) (used : List ℕ) (m : Mem) (vs : List View)
 recount p m0 used m vs st h id v at y cl first a n w =
     let here : nth (renewed vs id y) id ≡ Some y = set_here vs id y v at in
     let ok : ViewOk m st h id y = w.basis.views id y here in
-    subst (λ (l : List View). Whole p m0 used m l st h) (set_set vs id y (counted first a n y))
+    subst (λ (l : List View). Whole p m0 used m l st h) (set-set vs id y (counted first a n y))
     (quiet_whole p m0 used m (renewed vs id y) st h w id y here (client y) cl (counted first a n y) refl refl
     record { stocked = ok.stocked; apart = ok.apart; durable = ok.durable; links = ok.links; words = ok.words; written = ok.written; flushed = ok.flushed; copied = ok.copied; names = ok.names; added = ok.added; most = ok.most; history = ok.history; calls = ok.calls })

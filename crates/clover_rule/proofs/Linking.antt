@@ -9,7 +9,7 @@ use Rattle.clover_rule.specs.Lists.{nth}
 use Rattle.clover_rule.specs.Memory.{home, age, word, gen, link, Mem}
 use Rattle.clover_rule.specs.Story.{Chained, Stocked, Taken, Loose, Story, tag_at, only, safe_at, Standing, Core, Passed, Waits}
 use Rattle.clover_rule.proofs.Tools.{upd_same, upd_else, nth_front, nth_last, nth_none}
-use Rattle.clover_rule.proofs.Standings.{tag_within, tag_past, same_tag, only_same, only_none, word_of}
+use Rattle.clover_rule.proofs.Standings.{tag_within, tag_past, same_tag, only_same, only_none, word_is}
 
 -- where a tag stands in the longer story
 pub data Pushed (st : Story) (s : ℕ) (w : Version) (s' i' t' : ℕ) : Type 0 where
@@ -137,8 +137,8 @@ module _ (m : Mem) (st : Story) (s u i k : ℕ) (w : Version) (c : Core m st) (l
   stands_new = let o = c.loose (home w.tag) (subst Loose (sym l.stocked) tt) in
       record {
         placed = upd_same st.place (home w.tag) (Chained s);
-        now = upd_else m.next (home u) (home w.tag) (word (age u) (Some w.tag)) apart ∙ word_of (m.next (home w.tag)) (age w.tag) l.aged o.0 ∙ ap (word (age w.tag)) (sym (tag_beyond st s w));
-        safe = o.1 ∙ word_of (m.next (home w.tag)) (age w.tag) l.aged o.0 ∙ ap (word (age w.tag)) (sym (ap (only (ltb (suc (length (st.log s))) (st.sure s))) (tag_beyond st s w) ∙ only_none (ltb (suc (length (st.log s))) (st.sure s))));
+        now = upd_else m.next (home u) (home w.tag) (word (age u) (Some w.tag)) apart ∙ word_is (m.next (home w.tag)) (age w.tag) None l.aged o.0 ∙ ap (word (age w.tag)) (sym (tag_beyond st s w));
+        safe = o.1 ∙ word_is (m.next (home w.tag)) (age w.tag) None l.aged o.0 ∙ ap (word (age w.tag)) (sym (ap (only (ltb (suc (length (st.log s))) (st.sure s))) (tag_beyond st s w) ∙ only_none (ltb (suc (length (st.log s))) (st.sure s))));
       }
 
   standing' : (s' i' t' : ℕ) → tag_at (linked_story st s w) s' i' ≡ Some t' → st.gone s' ≤ i' → Standing (linked_mem m u w.tag) (linked_story st s w) s' i' t'

@@ -1,18 +1,12 @@
 -- The history is the longest that a view holds.
-use Rattle.std.proofs.Common.{◌≡◌, ℕ, ◌≤◌, List, [], ◌∷◌, length, length-append, Bool, true, false, cond, leb, refl, sym, ap, inl, inr, ⊎_elim, arith}
-use Rattle.std.proofs.lemmas.Bool.Decides.{nat_tests}
+use Rattle.std.proofs.Common.{◌≡◌, ◌≤◌, List, [], ◌∷◌, length, length-append, Bool, true, false, cond, leb, refl, sym, ap, inl, inr, ⊎_elim, arith}
+use Rattle.std.proofs.lemmas.Bool.{leb-true, leb-false}
 use Rattle.clover_map.specs.declared.call.Entry.{Entry}
 use Rattle.clover_rule.specs.Laws.{LongestLaw}
 use Rattle.clover_rule.specs.Lists.{Within, IsPrefix}
 use Rattle.clover_rule.specs.Rule.{longest, longer_of}
 use Rattle.clover_rule.specs.declared.view.View.{View}
 use Rattle.clover_rule.proofs.AbsentLaw.{whole_prefix}
-
-leb_yes : (a b : ℕ) → leb a b ≡ true → a ≤ b
-leb_yes a b e = grind (arith, nat_tests)
-
-leb_no : (a b : ℕ) → leb a b ≡ false → b ≤ a
-leb_no a b e = grind (arith, nat_tests)
 
 longer_begins : (a b h : List Entry) → IsPrefix a h → IsPrefix b h → IsPrefix (longer_of a b) h
 longer_begins a b h p q = elim (leb (length a) (length b)) as (λ (t : Bool). IsPrefix (cond t b a) h) [ true ↦ q | false ↦ p ]
@@ -21,8 +15,8 @@ longer_long : (a b : List Entry) → (length a ≤ length (longer_of a b)) × (l
 longer_long a b = go (leb (length a) (length b)) refl
   where
     go : (t : Bool) → leb (length a) (length b) ≡ t → (length a ≤ length (cond t b a)) × (length b ≤ length (cond t b a))
-    go true e = (leb_yes (length a) (length b) e, omega arith)
-    go false e = (omega arith, leb_no (length a) (length b) e)
+    go true e = (leb-true (length a) (length b) e, omega arith)
+    go false e = (omega arith, let y = leb-false (length a) (length b) e in omega arith)
 
 longest_begins : (vs : List View) (h : List Entry) → ((v : View) → Within v vs → IsPrefix v.pass.history h) → IsPrefix (longest vs) h
 longest_begins [] h f = (h, refl)

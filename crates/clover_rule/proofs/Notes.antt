@@ -2,7 +2,7 @@
 use Rattle.std.proofs.Common.{◌≡◌, ℕ, ◌≤◌, ◌≢◌, ◌⊎◌, List, [], length, length-append, set, Bool, true, false, cond, leb, refl, sym, ap, ◌∙◌, inl, inr, ⊎_elim, arith, subst}
 use native.Mathlib.Decide.{ℕ_discrete}
 use Rattle.std.specs.Prelude.{Some}
-use Rattle.std.proofs.lemmas.Bool.Decides.{nat_tests}
+use Rattle.std.proofs.lemmas.Bool.{leb-true, leb-false}
 use Rattle.clover_map.specs.declared.call.Entry.{Entry}
 use Rattle.clover_rule.specs.History.{Map}
 use Rattle.clover_rule.specs.Lists.{Each, nth, Within, IsPrefix}
@@ -25,17 +25,11 @@ longer a b = cond (leb (length a) (length b)) b a
 prefix_length : (a h : List Entry) → IsPrefix a h → length a ≤ length h
 prefix_length a h p = let q = ap length p.1 in omega (arith, length-append a p.0)
 
-test_yes : (a b : ℕ) → leb a b ≡ true → a ≤ b
-test_yes a b e = grind (arith, nat_tests)
-
-test_no : (a b : ℕ) → leb a b ≡ false → b ≤ a
-test_no a b e = grind (arith, nat_tests)
-
 long_left : (a b h : List Entry) → IsPrefix a h → IsPrefix b h → a ≡ h → longer a b ≡ h
 long_left a b h p q e = go (leb (length a) (length b)) refl
   where
     go : (x : Bool) → leb (length a) (length b) ≡ x → cond x b a ≡ h
-    go true f = let y = test_yes (length a) (length b) f in let z = prefix_length b h q in let z1 = ap length e in sym (whole_prefix b h q (omega arith))
+    go true f = let y = leb-true (length a) (length b) f in let z = prefix_length b h q in let z1 = ap length e in sym (whole_prefix b h q (omega arith))
     go false f = e
 
 long_right : (a b h : List Entry) → IsPrefix a h → IsPrefix b h → b ≡ h → longer a b ≡ h
@@ -43,7 +37,7 @@ long_right a b h p q e = go (leb (length a) (length b)) refl
   where
     go : (x : Bool) → leb (length a) (length b) ≡ x → cond x b a ≡ h
     go true f = e
-    go false f = let y = test_no (length a) (length b) f in let z = prefix_length a h p in let z1 = ap length e in sym (whole_prefix a h p (omega arith))
+    go false f = let y = leb-false (length a) (length b) f in let z = prefix_length a h p in let z1 = ap length e in sym (whole_prefix a h p (omega arith))
 
 -- the join of a note
 module _ (l : Pool) (m0 : Map) (used : List ℕ) (m : Mem) (vs : List View) (st : Story) (h : List Entry) (w : Whole l m0 used m vs st h) (id j : ℕ) (apart_seats : j ≢ id) (v y : View) (at : nth vs id ≡ Some v) (there_at : nth vs j ≡ Some y)

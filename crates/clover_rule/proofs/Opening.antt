@@ -1,6 +1,7 @@
 -- After a restart the rule holds of the new run.
 use Rattle.std.proofs.Common.{◌≡◌, ℕ, zero, suc, ◌<◌, ◌≤◌, ◌≢◌, ◌⊎◌, List, [], ◌∷◌, length, append-nil, Bool, true, false, ltb, refl, sym, ap, ◌∙◌, inl, inr, ⊎_elim, arith, subst, true≢false}
 use Rattle.std.specs.Prelude.{Option, Some, None}
+use Rattle.std.proofs.lemmas.Bool.{lt-ltb}
 use Rattle.std.proofs.lemmas.Bool.Decides.{nat_tests}
 use Rattle.clover_map.specs.declared.bytes.Value.{Value}
 use Rattle.clover_map.specs.declared.call.Entry.{Entry}
@@ -8,7 +9,7 @@ use Rattle.clover_rule.specs.Content.{content, InRange, Spells, inside, Fits}
 use Rattle.clover_rule.specs.History.{Version, Map}
 use Rattle.clover_rule.specs.Image.{Image, Chain}
 use Rattle.clover_rule.specs.Lists.{Within, Each, nth}
-use Rattle.clover_rule.specs.Memory.{home, age, Next, word, gen, link, Mem}
+use Rattle.clover_rule.specs.Memory.{home, age, word, gen, link, Mem}
 use Rattle.clover_rule.specs.Opening.{Owners, Starts, Opens}
 use Rattle.clover_rule.specs.Server.{Serves, Ready, Help, Whole}
 use Rattle.clover_rule.specs.Sound.{Sound, versions_of}
@@ -22,7 +23,7 @@ use Rattle.clover_rule.specs.declared.view.Task.TheVariants.{Idle}
 use Rattle.clover_rule.specs.declared.view.View.{View}
 use Rattle.clover_words.specs.declared.pool.Pool.{Pool}
 use Rattle.clover_rule.proofs.Tools.{nth_within}
-use Rattle.clover_rule.proofs.Standings.{tag_within}
+use Rattle.clover_rule.proofs.Standings.{tag_within, word_is}
 use Rattle.clover_rule.proofs.Steps.{each_map}
 use Rattle.std.specs.Prelude.{◌&&◌}
 
@@ -53,12 +54,6 @@ chain_head im [] None c = refl
 chain_head im [] (Some a) c = absurd c
 chain_head im (u ∷ us) None c = absurd c
 chain_head im (u ∷ us) (Some a) c = ap Some c.0
-
-word_is : (n : Next) (a : ℕ) (o : Option ℕ) → gen n ≡ a → link n ≡ o → n ≡ word a o
-word_is (word b p) a o g l = cc
-
-below_test : (a b : ℕ) → a < b → ltb a b ≡ true
-below_test a b q = grind (arith, nat_tests)
 
 abbrev pub rest_place : Option ℕ → Bool → Place
 rest_place (Some i) t = Stocked i
@@ -123,7 +118,7 @@ module _ (l : Pool) (im : Image) (sound : Sound l im) (m0 : Map) (used : List �
           none : (b : Bool) → ◌≡◌ {A = Option ℕ} (only b None) None
           none true = refl
           none false = refl
-      keep (Some u) q = let z = tag_within opened s (suc i) u q in sym (ap (λ (b : Bool). only b (tag_at opened s (suc i))) (below_test (suc i) (opened.sure s) z))
+      keep (Some u) q = let z = tag_within opened s (suc i) u q in sym (ap (λ (b : Bool). only b (tag_at opened s (suc i))) (lt-ltb (suc i) (opened.sure s) z))
 
   off_chain : (b : ℕ) → Loose (opened.place b) → o.spot b ≡ None
   off_chain b f = go (o.spot b) f

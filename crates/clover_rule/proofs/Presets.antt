@@ -4,7 +4,7 @@ use native.Mathlib.Decide.{ℕ_discrete, dec_le}
 use mathlib.Core.Logic.{dite}
 use Rattle.std.specs.Prelude.{Option, Some, None}
 use Rattle.clover_words.specs.declared.pool.Pool.{Pool}
-use Rattle.clover_rule.specs.Content.{Spells, InRange, inside, tombstone, content}
+use Rattle.clover_rule.specs.Content.{Spells, InRange, inside}
 use Rattle.clover_rule.specs.History.{shows, Map, same_key, ends}
 use Rattle.clover_rule.specs.Image.{Image, Chain}
 use Rattle.clover_rule.specs.Lists.{nth, Within}
@@ -18,16 +18,11 @@ use Rattle.clover_rule.specs.Story.{Chained, Stocked, Free, Worn}
 use Rattle.clover_rule.specs.Words.{mem_of}
 use Rattle.clover_rule.specs.declared.view.View.{View}
 use mathlib.Core.Path.{fun_ext}
-use Rattle.clover_rule.proofs.Tools.{nth_within, nth_none}
+use Rattle.clover_rule.proofs.Tools.{nth_some, nth_none}
 use Rattle.clover_rule.proofs.Keys.{key_discrete, eq_key, ne_key}
-use Rattle.clover_rule.proofs.Spelling.{one_key}
+use Rattle.clover_rule.proofs.Spelling.{dead_word, one_key}
 use Rattle.clover_rule.proofs.Opening.{opened, open_whole, placed, rest_place}
 use Rattle.clover_rule.proofs.TwelveParts.{rule_holds}
-
-nth_some : {A : Type 0} (l : List A) (i : ℕ) → i < length l → (x : A) × (nth l i ≡ Some x)
-nth_some [] i h = absurd (omega arith)
-nth_some (x ∷ l) zero h = (x, refl)
-nth_some (x ∷ l) (suc i) h = nth_some l i (omega arith)
 
 -- the first slot with a key
 position : List ℕ → ℕ → List (List ℕ) → ℕ
@@ -121,11 +116,6 @@ module _ (p : Pool) (keys : List (List ℕ)) (tomb : ℕ → ℕ) (m : Mem) (w :
   first_is (Some u) zero t e = (e, refl)
   first_is (Some u) (suc i) t e = absurd cc
 
-  dead : (j x : ℕ) → nth (content None) j ≡ Some x → (j ≡ 0) × (x ≡ tombstone)
-  unfolding content
-  dead zero x e = (refl, let z : Some tombstone ≡ Some x = e in cc)
-  dead (suc j) x e = absurd cc
-
   pub sound : Sound p im
   sound = record {
     own = λ b. omega arith;
@@ -139,15 +129,12 @@ module _ (p : Pool) (keys : List (List ℕ)) (tomb : ℕ → ℕ) (m : Mem) (w :
     once = λ s1 s2 i1 i2 t1 t2 e1 e2 q. let a = first_is (m.root s1) i1 t1 e1 in let b = first_is (m.root s2) i2 t2 e2 in let c = root_is s1 t1 a.0 in let d = root_is s2 t2 b.0 in
         (k.apart s2 s1 d.0 c.0 (ap home (sym d.1) ∙ q ∙ ap home c.1), b.1 ∙ sym a.1);
     value = λ (s i : ℕ). None;
-    contents = λ s i t e. let a = first_is (m.root s) i t e in let c = root_is s t a.0 in (tt, λ j y q. let d = dead j y q in ap (m.body (home t)) d.0 ∙ ap (λ (z : ℕ). m.body (home z) 0) c.1 ∙ w.body s c.0 ∙ sym d.1);
+    contents = λ s i t e. let a = first_is (m.root s) i t e in let c = root_is s t a.0 in (tt, λ j y q. let d = dead_word j y q in ap (m.body (home t)) d.0 ∙ ap (λ (z : ℕ). m.body (home z) 0) c.1 ∙ w.body s c.0 ∙ sym d.1);
     inside = λ s t e. let c = root_is s t e in let z = c.0 in let y = k.room in omega arith;
   }
 
   abbrev pub map_empty : Map
   map_empty = λ (j : List ℕ). None
-
-  below : (s : ℕ) (j : List ℕ) → nth keys s ≡ Some j → s < length keys
-  below s j e = nth_within keys s j e
 
   root_at : (s : ℕ) → s < length keys → m.root s ≡ Some (tomb s)
   root_at s h = (w.rooted s h).0

@@ -1,6 +1,6 @@
 -- Steps that change no word: a load teaches its own view, and nothing else changes.
-use Rattle.std.proofs.Common.{◌≡◌, ℕ, ◌≤◌, ◌≢◌, ◌⊎◌, List, refl, sym, ap, ◌∙◌, inl, inr, ⊎_elim, arith}
-use native.Mathlib.Decide.{ℕ_discrete, dec_le}
+use Rattle.std.proofs.Common.{◌≡◌, ℕ, ◌≤◌, ◌≢◌, ◌⊎◌, List, sym, ap, ◌∙◌, inl, inr, arith}
+use native.Mathlib.Decide.{dec_le}
 use mathlib.Core.Logic.{dite}
 use Rattle.std.specs.Prelude.{Some}
 use Rattle.clover_map.specs.declared.call.Entry.{Entry}
@@ -11,7 +11,7 @@ use Rattle.clover_rule.specs.Story.{Story, tag_in_version, tag_at, now_at, Core,
 use Rattle.clover_rule.specs.Views.{Holds, IsLink, IsCopied, ViewOk, Basis, renewed}
 use Rattle.clover_rule.specs.declared.view.View.{View}
 use Rattle.clover_rule.proofs.Standings.{tag_within}
-use Rattle.clover_rule.proofs.Steps.{nth_set, set_here, set_away}
+use Rattle.clover_rule.proofs.Steps.{nth_set, role_was, longest_was}
 
 -- one view is renewed by another of the same role, which knows true facts and has the same history or the longer one
 module _ (m0 : Map) (used : List ℕ) (m : Mem) (vs : List View) (st : Story) (h : List Entry) (r : Basis m0 used m vs st h)
@@ -23,16 +23,6 @@ module _ (m0 : Map) (used : List ℕ) (m : Mem) (vs : List View) (st : Story) (h
       go (inl a) = rw (a.0, ← a.1) ok
       go (inr a) = r.views i1 v1 a.1
 
-  was : (i1 : ℕ) (a : View) → nth (renewed vs id v') i1 ≡ Some a → (y : View) × (nth vs i1 ≡ Some y) × (y.pass.role ≡ a.pass.role)
-  was i1 a q = ⊎_elim {C = (y : View) × (nth vs i1 ≡ Some y) × (y.pass.role ≡ a.pass.role)} (λ d. (v, ap (nth vs) d.0 ∙ at, sym role ∙ ap (λ (z : View). z.pass.role) d.1)) (λ d. (a, d.1, refl)) (nth_set vs id i1 v' a q)
-
-  longest' : (j : ℕ) × (a : View) × (nth (renewed vs id v') j ≡ Some a) × (a.pass.history ≡ h)
-  longest' = let o = r.longest in go o.0 o.1 o.2 o.3 (ℕ_discrete o.0 id)
-    where
-      go : (j : ℕ) (a : View) → nth vs j ≡ Some a → a.pass.history ≡ h → Dec (j ≡ id) → (j : ℕ) × (a : View) × (nth (renewed vs id v') j ≡ Some a) × (a.pass.history ≡ h)
-      go j a q w (yes d) = (id, v', set_here vs id v' v at, let z : v ≡ a = let zz : Some v ≡ Some a = sym at ∙ ap (nth vs) (sym d) ∙ q in cc in past ∙ ap (λ (y : View). y.pass.history) z ∙ w)
-      go j a q w (no n) = (j, a, set_away vs id j v' n ∙ q, w)
-
   pub quiet : Basis m0 used m (renewed vs id v') st h
   quiet = record {
     core = r.core;
@@ -42,8 +32,8 @@ module _ (m0 : Map) (used : List ℕ) (m : Mem) (vs : List View) (st : Story) (h
     bound = r.bound;
     keyed = r.keyed;
     views = views';
-    numbered = λ i1 j1 c a b qa qb ra rb. let x1 = was i1 a qa in let y1 = was j1 b qb in r.numbered i1 j1 c x1.0 y1.0 x1.1 y1.1 (x1.2 ∙ ra) (y1.2 ∙ rb);
-    longest = longest';
+    numbered = λ i1 j1 c a b qa qb ra rb. let x1 = role_was vs id v v' at (sym role) i1 a qa in let y1 = role_was vs id v v' at (sym role) j1 b qb in r.numbered i1 j1 c x1.0 y1.0 x1.1 y1.1 (x1.2 ∙ ra) (y1.2 ∙ rb);
+    longest = longest_was vs id v v' at h past r.longest;
   }
 
 -- what a load of a durable tag's next word teaches

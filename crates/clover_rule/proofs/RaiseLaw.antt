@@ -1,8 +1,7 @@
 -- The law of the raise over a link.
-use Rattle.std.proofs.Common.{◌≡◌, ℕ, suc, ◌<◌, ◌≤◌, ◌≢◌, ◌⊎◌, List, true, leb, refl, sym, ap, ◌∙◌, inl, inr, ⊎_elim, arith}
+use Rattle.std.proofs.Common.{◌≡◌, ℕ, suc, ◌<◌, ◌≤◌, ◌≢◌, ◌⊎◌, List, true, refl, ◌∙◌, inl, inr, arith}
 use native.Mathlib.Decide.{ℕ_discrete}
 use Rattle.std.specs.Prelude.{Some}
-use Rattle.std.proofs.lemmas.Bool.Decides.{nat_tests}
 use Rattle.clover_map.specs.declared.call.Entry.{Entry}
 use Rattle.clover_rule.specs.Changes.{raised_mem, raised_story, greatest}
 use Rattle.clover_rule.specs.History.{Map}
@@ -13,9 +12,9 @@ use Rattle.clover_rule.specs.Views.{IsLink, ViewOk, Basis, renewed, raise_view, 
 use Rattle.clover_rule.specs.declared.view.Link.{Link}
 use Rattle.clover_rule.specs.declared.view.View.{View}
 use Rattle.clover_rule.proofs.Tools.{upd_same, upd_else}
-use Rattle.clover_rule.proofs.Steps.{each_within, prefix_self, Grows, Leaves, view_kept, nth_set, set_here, set_away}
-use Rattle.clover_rule.proofs.Raising.{raise_core}
-use Rattle.clover_rule.proofs.Cuts.{unread_less}
+use Rattle.clover_rule.proofs.Steps.{each_within, prefix_self, Grows, Leaves, view_kept, nth_set, role_was, longest_was}
+use Rattle.clover_rule.proofs.Raising.{raise_core, most_left, most_right}
+use Rattle.clover_rule.proofs.Cuts.{unread_less, unsure_less}
 
 module _ (m0 : Map) (used : List ℕ) (m : Mem) (vs : List View) (st : Story) (h : List Entry) (r : Basis m0 used m vs st h)
     (id : ℕ) (v : View) (at : nth vs id ≡ Some v) (l : Link) (p : Within l v.pass.links) where
@@ -43,24 +42,15 @@ module _ (m0 : Map) (used : List ℕ) (m : Mem) (vs : List View) (st : Story) (h
   sure_more : (s : ℕ) → st.sure s ≤ st'.sure s
   sure_more s = go (ℕ_discrete s l.slot)
     where
-      grown_most : (a b : ℕ) → a ≤ greatest a b
-      grown_most a b = grind (arith, nat_tests)
-
       go : Dec (s ≡ l.slot) → st.sure s ≤ st'.sure s
-      go (yes d) = rw d (rw (upd_same st.sure l.slot (greatest (st.sure l.slot) (suc (suc i)))) (grown_most (st.sure l.slot) (suc (suc i))))
+      go (yes d) = rw d (rw (upd_same st.sure l.slot (greatest (st.sure l.slot) (suc (suc i)))) (most_left (st.sure l.slot) (suc (suc i))))
       go (no n) = let q : st'.sure s ≡ st.sure s = upd_else st.sure l.slot s (greatest (st.sure l.slot) (suc (suc i))) n in omega arith
 
   now_sure : suc i < st'.sure l.slot
-  now_sure = rw (upd_same st.sure l.slot (greatest (st.sure l.slot) (suc (suc i)))) (grown_more (st.sure l.slot) (suc (suc i)))
-    where
-      grown_more : (a b : ℕ) → b ≤ greatest a b
-      grown_more a b = grind (arith, nat_tests)
+  now_sure = rw (upd_same st.sure l.slot (greatest (st.sure l.slot) (suc (suc i)))) (most_right (st.sure l.slot) (suc (suc i)))
 
   less_unsure : (t : ℕ) → unsure st' t ≡ true → unsure st t ≡ true
-  less_unsure t q = let a = sure_more (st.slot_of t) in test (st.sure (st.slot_of t)) (st'.sure (st.slot_of t)) (st.rank t) a q
-    where
-      test : (a b c : ℕ) → a ≤ b → leb b c ≡ true → leb a c ≡ true
-      test a b c h q = grind (arith, nat_tests)
+  less_unsure t q = let a = sure_more (st.slot_of t) in unsure_less (st.sure (st.slot_of t)) (st'.sure (st.slot_of t)) (st.rank t) a q
 
   tale' : Tale st' m0 used h
   tale' = record {
@@ -102,16 +92,6 @@ module _ (m0 : Map) (used : List ℕ) (m : Mem) (vs : List View) (st : Story) (h
       go (inl a) = rw (a.0, ← a.1) new_ok
       go (inr a) = view_kept m st h m' st' h grows i1 v1 (leaves i1) (λ c f. refl) (r.views i1 v1 a.1)
 
-  was : (i1 : ℕ) (a : View) → nth (renewed vs id v') i1 ≡ Some a → (y : View) × (nth vs i1 ≡ Some y) × (y.pass.role ≡ a.pass.role)
-  was i1 a q = ⊎_elim {C = (y : View) × (nth vs i1 ≡ Some y) × (y.pass.role ≡ a.pass.role)} (λ d. (v, ap (nth vs) d.0 ∙ at, ap (λ (z : View). z.pass.role) d.1)) (λ d. (a, d.1, refl)) (nth_set vs id i1 v' a q)
-
-  longest' : (j : ℕ) × (a : View) × (nth (renewed vs id v') j ≡ Some a) × (a.pass.history ≡ h)
-  longest' = let o = r.longest in go o.0 o.1 o.2 o.3 (ℕ_discrete o.0 id)
-    where
-      go : (j : ℕ) (a : View) → nth vs j ≡ Some a → a.pass.history ≡ h → Dec (j ≡ id) → (j : ℕ) × (a : View) × (nth (renewed vs id v') j ≡ Some a) × (a.pass.history ≡ h)
-      go j a q w (yes d) = (id, v', set_here vs id v' v at, let z : v ≡ a = let zz : Some v ≡ Some a = sym at ∙ ap (nth vs) (sym d) ∙ q in cc in ap (λ (y : View). y.pass.history) z ∙ w)
-      go j a q w (no n) = (j, a, set_away vs id j v' n ∙ q, w)
-
   pub rule' : Basis m0 used m' (renewed vs id v') st' h
   rule' = record {
     core = core';
@@ -121,8 +101,8 @@ module _ (m0 : Map) (used : List ℕ) (m : Mem) (vs : List View) (st : Story) (h
     bound = r.bound;
     keyed = r.keyed;
     views = views';
-    numbered = λ i1 j1 c a b qa qb ra rb. let x1 = was i1 a qa in let y1 = was j1 b qb in r.numbered i1 j1 c x1.0 y1.0 x1.1 y1.1 (x1.2 ∙ ra) (y1.2 ∙ rb);
-    longest = longest';
+    numbered = λ i1 j1 c a b qa qb ra rb. let x1 = role_was vs id v v' at refl i1 a qa in let y1 = role_was vs id v v' at refl j1 b qb in r.numbered i1 j1 c x1.0 y1.0 x1.1 y1.1 (x1.2 ∙ ra) (y1.2 ∙ rb);
+    longest = longest_was vs id v v' at h refl r.longest;
   }
 
 pub raise_law : RaiseLaw

@@ -20,13 +20,22 @@ upd_again f i a e = fun_ext (λ j. go j (ℕ_discrete j i))
     go j (yes d) = rw d (upd_same f i a ∙ sym e)
     go j (no n) = upd_else f i j a n
 
-order_below : (n o : Next) → gen n < gen o → ltb (order o) (order n) ≡ false
+pub most_left : (a b : ℕ) → a ≤ greatest a b
+most_left a b = grind (arith, nat_tests)
+
+pub most_right : (a b : ℕ) → b ≤ greatest a b
+most_right a b = grind (arith, nat_tests)
+
+pub most_kept : (a b c : ℕ) → a ≤ c → b ≤ c → greatest a b ≤ c
+most_kept a b c h i = grind (arith, nat_tests)
+
+pub order_below : (n o : Next) → gen n < gen o → ltb (order o) (order n) ≡ false
 order_below (word a None) (word b None) h = grind (arith, nat_tests)
 order_below (word a None) (word b (Some t)) h = grind (arith, nat_tests)
 order_below (word a (Some u)) (word b None) h = grind (arith, nat_tests)
 order_below (word a (Some u)) (word b (Some t)) h = grind (arith, nat_tests)
 
-order_self : (n : Next) → ltb (order n) (order n) ≡ false
+pub order_self : (n : Next) → ltb (order n) (order n) ≡ false
 order_self n = grind (arith, nat_tests)
 
 order_link : (a t : ℕ) → ltb (order (word a None)) (order (word a (Some t))) ≡ true

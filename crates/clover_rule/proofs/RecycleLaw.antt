@@ -12,7 +12,7 @@ use Rattle.clover_rule.specs.Story.{Chained, Stocked, Taken, Story, Tale}
 use Rattle.clover_rule.specs.Views.{ViewOk, Spent, Basis, renewed}
 use Rattle.clover_rule.specs.declared.view.View.{View}
 use Rattle.clover_rule.proofs.Tools.{upd_else}
-use Rattle.clover_rule.proofs.Steps.{each_map, prefix_self, Grows, Leaves, view_kept, nth_set, set_here, set_away}
+use Rattle.clover_rule.proofs.Steps.{each_map, prefix_self, Grows, Leaves, view_kept, nth_set, role_was, longest_was}
 use Rattle.clover_rule.proofs.Recycling.{CanRecycle, recycle_core, stands, is, else_same, gone_cases, behind}
 
 module _ (m0 : Map) (used : List ℕ) (m : Mem) (vs : List View) (st : Story) (h : List Entry) (r : Basis m0 used m vs st h)
@@ -67,16 +67,6 @@ module _ (m0 : Map) (used : List ℕ) (m : Mem) (vs : List View) (st : Story) (h
         go (inl a) = rw (a.0, ← a.1) ok
         go (inr a) = kept j w (r.views j w a.1)
 
-    was : (j : ℕ) (a : View) → nth (renewed vs id v') j ≡ Some a → (y : View) × (nth vs j ≡ Some y) × (y.pass.role ≡ a.pass.role)
-    was j a q = ⊎_elim {C = (y : View) × (nth vs j ≡ Some y) × (y.pass.role ≡ a.pass.role)} (λ d. (v, ap (nth vs) d.0 ∙ at, sym role ∙ ap (λ (z : View). z.pass.role) d.1)) (λ d. (a, d.1, refl)) (nth_set vs id j v' a q)
-
-    longest' : (j : ℕ) × (a : View) × (nth (renewed vs id v') j ≡ Some a) × (a.pass.history ≡ h)
-    longest' = let o = r.longest in go o.0 o.1 o.2 o.3 (ℕ_discrete o.0 id)
-      where
-        go : (j : ℕ) (a : View) → nth vs j ≡ Some a → a.pass.history ≡ h → Dec (j ≡ id) → (j : ℕ) × (a : View) × (nth (renewed vs id v') j ≡ Some a) × (a.pass.history ≡ h)
-        go j a q w (yes d) = (id, v', set_here vs id v' v at, let z : v ≡ a = let zz : Some v ≡ Some a = sym at ∙ ap (nth vs) (sym d) ∙ q in cc in past ∙ ap (λ (y : View). y.pass.history) z ∙ w)
-        go j a q w (no n) = (j, a, set_away vs id j v' n ∙ q, w)
-
     pub recycle_rule : Basis m0 used m' (renewed vs id v') st' h
     recycle_rule = record {
       core = recycle_core m st s x r.core l;
@@ -86,6 +76,6 @@ module _ (m0 : Map) (used : List ℕ) (m : Mem) (vs : List View) (st : Story) (h
       bound = r.bound;
       keyed = r.keyed;
       views = views';
-      numbered = λ i1 j1 c a b qa qb ra rb. let x1 = was i1 a qa in let y1 = was j1 b qb in r.numbered i1 j1 c x1.0 y1.0 x1.1 y1.1 (x1.2 ∙ ra) (y1.2 ∙ rb);
-      longest = longest';
+      numbered = λ i1 j1 c a b qa qb ra rb. let x1 = role_was vs id v v' at (sym role) i1 a qa in let y1 = role_was vs id v v' at (sym role) j1 b qb in r.numbered i1 j1 c x1.0 y1.0 x1.1 y1.1 (x1.2 ∙ ra) (y1.2 ∙ rb);
+      longest = longest_was vs id v v' at h past r.longest;
     }

@@ -3,6 +3,7 @@ use Rattle.std.proofs.Common.{◌≡◌, ℕ, ◌≢◌, ◌⊎◌, List, [], �
 use native.Mathlib.Decide.{ℕ_discrete}
 use mathlib.Core.Logic.{dite}
 use Rattle.std.specs.Prelude.{Option, Some}
+use Rattle.std.proofs.lemmas.List.{length-set}
 use Rattle.clover_map.specs.declared.call.Entry.{Entry}
 use Rattle.clover_rule.specs.Content.{inside}
 use Rattle.clover_rule.specs.History.{Map}
@@ -23,7 +24,7 @@ use Rattle.clover_words.specs.declared.pool.Pool.{Pool}
 use Rattle.clover_rule.proofs.Tools.{upd_same, upd_else, nth_within, nth_snoc, nth_front}
 use Rattle.clover_rule.proofs.Steps.{each_map, nth_set, set_here, set_away}
 use Rattle.clover_rule.proofs.ServerTools.{book_same, free_place}
-use Rattle.clover_rule.proofs.Hands.{set_length, hand_whole, hand_view, hand_owned}
+use Rattle.clover_rule.proofs.Hands.{hand_whole, hand_view, hand_owned}
 
 module _ (l : Pool) (m0 : Map) (used : List ℕ) (m : Mem) (vs : List View) (st : Story) (h : List Entry) (w : Whole l m0 used m vs st h) (id : ℕ) (v v' x : View) (at : nth vs id ≡ Some v)
     (batch : List ℕ) (was : Each (λ (t : ℕ). st.place (home t) ≡ Free) batch) (same : v'.pass.role ≡ v.pass.role) (past : v'.pass.history ≡ v.pass.history) (clients : v'.server.clients ≡ v.server.clients) (unserving : x.pass.role ≢ Serving) (noclient : (c : ℕ) → x.pass.role ≢ Client c)
@@ -34,7 +35,7 @@ module _ (l : Pool) (m0 : Map) (used : List ℕ) (m : Mem) (vs : List View) (st 
   split_list = set vs id v' ++ x ∷ []
 
   cases : (i : ℕ) (y : View) → nth split_list i ≡ Some y → ((i ≡ length vs) × (x ≡ y)) ⊎ (((i ≡ id) × (v' ≡ y)) ⊎ ((i ≢ id) × (nth vs i ≡ Some y)))
-  cases i y e = ⊎_elim (λ a. inr (nth_set vs id i v' y a)) (λ a. inl (a.0 ∙ set_length vs id v', a.1)) (nth_snoc (set vs id v') x y i e)
+  cases i y e = ⊎_elim (λ a. inr (nth_set vs id i v' y a)) (λ a. inl (a.0 ∙ length-set vs id v', a.1)) (nth_snoc (set vs id v') x y i e)
 
   -- a view with a role that the new one has not was there before
   old : (i : ℕ) (y : View) → nth split_list i ≡ Some y → (x.pass.role ≢ y.pass.role) → (z : View) × (nth vs i ≡ Some z) × (z.pass.role ≡ y.pass.role) × (z.server.clients ≡ y.server.clients) × (((i ≢ id) × (z ≡ y)) ⊎ ((z ≡ v) × (v' ≡ y)))
@@ -73,7 +74,7 @@ module _ (l : Pool) (m0 : Map) (used : List ℕ) (m : Mem) (vs : List View) (st 
         where
           front : (i : ℕ) (y : View) → nth (set vs id v') i ≡ Some y → nth split_list i ≡ Some y
           front i y f = nth_front (set vs id v') x i (λ z. let b = nth_within (set vs id v') i y f in absurd (omega arith)) ∙ f
-      longest_of j a q e (no d) = (j, a, nth_front (set vs id v') x j (λ z. let b = nth_within vs j a q in let b2 = set_length vs id v' in absurd (omega arith)) ∙ set_away vs id j v' d ∙ q, e)
+      longest_of j a q e (no d) = (j, a, nth_front (set vs id v') x j (λ z. let b = nth_within vs j a q in let b2 = length-set vs id v' in absurd (omega arith)) ∙ set_away vs id j v' d ∙ q, e)
 
 -- the server splits off a grant of tags that are free in its view, with the names from a position on
 module _ (l : Pool) (m0 : Map) (used : List ℕ) (m : Mem) (vs : List View) (st : Story) (h : List Entry) (w : Whole l m0 used m vs st h) (id : ℕ) (v : View) (at : nth vs id ≡ Some v) (role : v.pass.role ≡ Serving)

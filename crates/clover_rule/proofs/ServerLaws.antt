@@ -7,7 +7,7 @@ use Rattle.clover_map.specs.declared.call.Entry.{Entry}
 use Rattle.clover_rule.specs.Content.{spelling, tombstone}
 use Rattle.clover_rule.specs.History.{Map}
 use Rattle.clover_rule.specs.Lists.{nth, upd, Within}
-use Rattle.clover_rule.specs.Memory.{home, age, Next, word, gen, link, Mem}
+use Rattle.clover_rule.specs.Memory.{home, age, word, gen, link, Mem}
 use Rattle.clover_rule.specs.Server.{Ready, IsStoring, Stage, Help, book_of, Serves, Whole, IsWhole}
 use Rattle.clover_rule.specs.ServerSteps.{ServerStep, Begin, FlushMeta, StoreKey, FlushKey, server_after, served_view, ServerLaw}
 use Rattle.clover_rule.specs.Story.{Place, Taken, Loose, Story}
@@ -19,13 +19,10 @@ use Rattle.clover_rule.specs.declared.view.Task.{Task}
 use Rattle.clover_rule.specs.declared.view.Task.TheVariants.{Idle, Storing}
 use Rattle.clover_rule.specs.declared.view.View.{View}
 use Rattle.clover_words.specs.declared.pool.Pool.{Pool}
+use Rattle.clover_rule.proofs.Standings.{word_is}
 use Rattle.clover_rule.proofs.Tools.{upd_same, upd_else, nth_within}
 use Rattle.clover_rule.proofs.ServerTools.{whole, free_place}
 use Rattle.clover_rule.proofs.Contents.{content_moves, storing_stage, storing_serves}
-
--- the next word of a held or free buffer at its generation
-at_rest : (n : Next) (a : ℕ) → gen n ≡ a → link n ≡ None → n ≡ word a None
-at_rest (word b x) a g e = cc
 
 module _ (l : Pool) (m0 : Map) (used : List ℕ) (m : Mem) (vs : List View) (id : ℕ) (v : View) (st : Story) (h : List Entry) (w : Whole l m0 used m vs st h) (at : nth vs id ≡ Some v) (role : v.pass.role ≡ Serving) where
   served : Serves l m st st.task v.server
@@ -118,7 +115,7 @@ begin_law l s k t m0 used m vs id v (st, h, w) at role (e, f, i, j, ik, ns, nk) 
     let sv : Serves l m st Idle v.server = serves_at l m0 used m vs id v st h w at role Idle e in
     let fr = free_place Idle st (st.place (home t)) (gen (m.next (home t))) (home t) (age t) (sym (sv.books (home t) i) ∙ f) in
     let lo = w.basis.core.loose (home t) (subst Loose (sym fr.0) tt) in
-    let nw : m.next (home t) ≡ word (age t) None = at_rest (m.next (home t)) (age t) fr.1 lo.0 in
+    let nw : m.next (home t) ≡ word (age t) None = word_is (m.next (home t)) (age t) None fr.1 lo.0 in
     let rg = w.help.ranged.ready (home t) (subst Ready (sym fr.0) tt) in
     let dir : v.server.directory ≡ st.bindings = sv.directory ∙ append-nil st.bindings in
     let bare : st.keys s ≡ None = not_bound l m st v.server s w.help sv g (λ s1 k1 q. ns k1 (subst (Within (s, k1)) (sym dir) q)) (st.keys s) refl in

@@ -19,7 +19,7 @@ use Rattle.clover_rule.specs.declared.view.Task.TheVariants.{Idle, Storing, Root
 use Rattle.clover_rule.specs.declared.view.View.{View}
 use Rattle.clover_words.specs.declared.pool.Pool.{Pool}
 use Rattle.clover_rule.proofs.Tools.{upd_same, upd_else}
-use Rattle.clover_rule.proofs.Steps.{each_map, Grows, Leaves, view_kept, nth_set, set_here, set_away}
+use Rattle.clover_rule.proofs.Steps.{each_map, Grows, Leaves, view_kept, nth_set, longest_was}
 
 -- the core facts read neither contents, keys, shortcuts nor the count, nor names and tasks
 pub core_copy : (m : Mem) (st : Story) → Core m st → (b fb k fk : ℕ → ℕ → ℕ) (sh : ℕ → Option ℕ) (ct : ℕ) (keys : ℕ → Option (List ℕ)) (first : ℕ → List Version) (bindings : List (ℕ × List ℕ)) (task : Task) (sn : List ℕ → ℕ)
@@ -99,13 +99,6 @@ module _ (l : Pool) (m0 : Map) (used : List ℕ) (m : Mem) (vs : List View) (st 
   was i1 x q = ⊎_elim {C = (y : View) × (nth vs i1 ≡ Some y) × (y.pass.role ≡ x.pass.role) × (y.server.clients ≡ x.server.clients)}
       (λ d. (v, ap (nth vs) d.0 ∙ at, ap (λ (z : View). z.pass.role) d.1, sym (clients_same l a v.server) ∙ ap (λ (z : View). z.server.clients) d.1)) (λ d. (x, d.1, refl, refl)) (nth_set vs id i1 v' x q)
 
-  longest' : (j : ℕ) × (x : View) × (nth (renewed vs id v') j ≡ Some x) × (x.pass.history ≡ h)
-  longest' = let o = r.longest in go o.0 o.1 o.2 o.3 (ℕ_discrete o.0 id)
-    where
-      go : (j : ℕ) (x : View) → nth vs j ≡ Some x → x.pass.history ≡ h → Dec (j ≡ id) → (j : ℕ) × (x : View) × (nth (renewed vs id v') j ≡ Some x) × (x.pass.history ≡ h)
-      go j x q e (yes d) = (id, v', set_here vs id v' v at, let z : v ≡ x = let zz : Some v ≡ Some x = sym at ∙ ap (nth vs) (sym d) ∙ q in cc in ap (λ (y : View). y.pass.history) z ∙ e)
-      go j x q e (no n) = (j, x, set_away vs id j v' n ∙ q, e)
-
   rule' : Basis m0 used m' (renewed vs id v') st' h
   rule' = record {
     core = mv.core;
@@ -116,7 +109,7 @@ module _ (l : Pool) (m0 : Map) (used : List ℕ) (m : Mem) (vs : List View) (st 
     keyed = mv.keyed;
     views = λ i1 x q. ⊎_elim (λ d. rw (d.0, ← d.1) ok) (λ d. kept i1 x (r.views i1 x d.1)) (nth_set vs id i1 v' x q);
     numbered = λ i1 j1 c x y qx qy rx ry. let x1 = was i1 x qx in let y1 = was j1 y qy in r.numbered i1 j1 c x1.0 y1.0 x1.1 y1.1 (x1.2 ∙ rx) (y1.2 ∙ ry);
-    longest = longest';
+    longest = longest_was vs id v v' at h refl r.longest;
   }
 
   pub whole : Whole l m0 used m' (renewed vs id v') st' h

@@ -1,6 +1,7 @@
 -- A content is spelled by its words alone, and so is a key.
 use Rattle.std.proofs.Common.{◌≡◌, ℕ, zero, suc, ◌+◌, ◌*◌, ◌/◌, ◌%◌, ◌^◌, ◌<◌, ◌≤◌, ◌≢◌, List, ◌∷◌, length, refl, sym, ap, ◌∙◌, arith, subst}
 use Rattle.std.specs.Prelude.{Option, Some, None, slice_index}
+use Rattle.std.proofs.lemmas.Option.{same_Some}
 use Rattle.std.proofs.lemmas.List.{ext_get_or}
 use Rattle.clover_words.specs.Pack.{AreBytes, words_of, packed, eight_at}
 use Rattle.std.specs.Int.{w64, to_be_bytes}
@@ -11,6 +12,10 @@ use Rattle.clover_words.specs.declared.meta.Kind.TheVariants.{Value as IsValue}
 use Rattle.clover_map.specs.declared.bytes.Value.{Value}
 use Rattle.clover_rule.specs.Content.{content, tombstone, value_meta, all_words, words_from, Fits, spelling, IsKey, Spells, Unpacks}
 use Rattle.clover_rule.specs.Lists.{nth}
+
+pub length_words : (bytes : List ℕ) (k n : ℕ) → length (words_from bytes k n) ≡ n
+length_words bytes k zero = refl
+length_words bytes k (suc n) = ap suc (length_words bytes (suc k) n)
 
 pub nth_words : (bytes : List ℕ) (k n i : ℕ) → i < n → nth (words_from bytes k n) i ≡ Some (packed bytes (k + i))
 nth_words bytes k zero i h = absurd (omega arith)
@@ -23,9 +28,6 @@ nth_all bytes i h = nth_words bytes 0 (words_of (length bytes)) i h ∙ ap (λ (
 -- two lists of bytes of one length with the same words
 pub same_bytes : (a b : List ℕ) → AreBytes a → AreBytes b → length a ≡ length b → ((k : ℕ) → k < words_of (length a) → packed a k ≡ packed b k) → a ≡ b
 same_bytes a b ha hb e same = ext_get_or 0 a b e (λ i h. one_byte a b i ha hb (same (i / 8) (omega arith)))
-
-some_is : (a b : ℕ) → ◌≡◌ {A = Option ℕ} (Some a) (Some b) → a ≡ b
-some_is a b e = cc
 
 pub meta_apart : (flags size : ℕ) → flags < 2 ^ 32 → size ≤ 1024 → meta_word (record { kind = IsValue; flags = flags; length = size }) ≢ tombstone
 meta_apart flags size f n e = omega arith
@@ -42,16 +44,22 @@ unfolding content
 first_word None = (tombstone, refl)
 first_word (Some x) = (value_meta x, refl)
 
+-- a tombstone's one word
+pub dead_word : (j x : ℕ) → nth (content None) j ≡ Some x → (j ≡ 0) × (x ≡ tombstone)
+unfolding content
+dead_word zero x e = (refl, cc)
+dead_word (suc j) x e = absurd cc
+
 -- the meta word of a tombstone is no value's
 pub meta_dead : (p : Pool) (o : Option Value) → Fits p o → nth (content o) 0 ≡ Some tombstone → o ≡ None
 unfolding content
 meta_dead p None f e = refl
-meta_dead p (Some x) f e = absurd (meta_apart x.flags (length x.bytes) f.0 (short_enough p (length x.bytes) f.1) (some_is (value_meta x) tombstone e))
+meta_dead p (Some x) f e = absurd (meta_apart x.flags (length x.bytes) f.0 (short_enough p (length x.bytes) f.1) (same_Some (value_meta x) tombstone e))
 
 -- a meta word of kind value is no tombstone's
 pub meta_live : (o : Option Value) (flags size : ℕ) → flags < 2 ^ 32 → size ≤ 1024 → nth (content o) 0 ≡ Some (meta_word (record { kind = IsValue; flags = flags; length = size })) → (x : Value) × (o ≡ Some x)
 unfolding content
-meta_live None flags size f n e = absurd (meta_apart flags size f n (sym (some_is tombstone (meta_word (record { kind = IsValue; flags = flags; length = size })) e)))
+meta_live None flags size f n e = absurd (meta_apart flags size f n (sym (same_Some tombstone (meta_word (record { kind = IsValue; flags = flags; length = size })) e)))
 meta_live (Some x) flags size f n e = (x, refl)
 
 value_same : (x y : Value) → x.flags ≡ y.flags → x.bytes ≡ y.bytes → x ≡ y
@@ -60,10 +68,10 @@ value_same x y f b = λ i. record { flags = f i; bytes = b i }
 -- what has all words of a value's content is that value
 pub one_content : (p : Pool) (o : Option Value) (x : Value) → Fits p o → Fits p (Some x) → ((j y : ℕ) → nth (content (Some x)) j ≡ Some y → nth (content o) j ≡ Some y) → o ≡ Some x
 unfolding content
-one_content p None x f g h = absurd (meta_apart x.flags (length x.bytes) g.0 (short_enough p (length x.bytes) g.1) (sym (some_is tombstone (value_meta x) (h 0 (value_meta x) refl))))
+one_content p None x f g h = absurd (meta_apart x.flags (length x.bytes) g.0 (short_enough p (length x.bytes) g.1) (sym (same_Some tombstone (value_meta x) (h 0 (value_meta x) refl))))
 one_content p (Some z) x f g h =
-    let e : (z.flags ≡ x.flags) × (length z.bytes ≡ length x.bytes) = meta_parts z.flags (length z.bytes) x.flags (length x.bytes) f.0 (short_enough p (length z.bytes) f.1) g.0 (short_enough p (length x.bytes) g.1) (some_is (value_meta z) (value_meta x) (h 0 (value_meta x) refl)) in
-    let same : (k : ℕ) → k < words_of (length z.bytes) → packed z.bytes k ≡ packed x.bytes k = λ k b. some_is (packed z.bytes k) (packed x.bytes k) (sym (nth_all z.bytes k b) ∙ h (suc k) (packed x.bytes k) (nth_all x.bytes k (subst (λ (n : ℕ). k < words_of n) e.1 b))) in
+    let e : (z.flags ≡ x.flags) × (length z.bytes ≡ length x.bytes) = meta_parts z.flags (length z.bytes) x.flags (length x.bytes) f.0 (short_enough p (length z.bytes) f.1) g.0 (short_enough p (length x.bytes) g.1) (same_Some (value_meta z) (value_meta x) (h 0 (value_meta x) refl)) in
+    let same : (k : ℕ) → k < words_of (length z.bytes) → packed z.bytes k ≡ packed x.bytes k = λ k b. same_Some (packed z.bytes k) (packed x.bytes k) (sym (nth_all z.bytes k b) ∙ h (suc k) (packed x.bytes k) (nth_all x.bytes k (subst (λ (n : ℕ). k < words_of n) e.1 b))) in
     ap Some (value_same z x e.0 (same_bytes z.bytes x.bytes f.2 g.2 e.1 same))
 
 key_bytes : (k : List ℕ) → IsKey k → AreBytes (length k ∷ k)
@@ -83,7 +91,7 @@ one_key f j k hj hk sj sk =
     tail_same (length j) (length k) j k (same_bytes (length j ∷ j) (length k ∷ k) (key_bytes j hj) (key_bytes k hk) (ap suc lens)
     (λ i b. sym (word_j i b) ∙ word_k i (subst (λ (n : ℕ). i < words_of (suc n)) lens b)))
 
-eight_byte : (bytes : List ℕ) (k i : ℕ) → i < 8 → slice_index (eight_at bytes k) i ≡ slice_index bytes (8 * k + i)
+pub eight_byte : (bytes : List ℕ) (k i : ℕ) → i < 8 → slice_index (eight_at bytes k) i ≡ slice_index bytes (8 * k + i)
 eight_byte bytes k zero lt = ap (slice_index bytes) (omega arith)
 eight_byte bytes k (suc zero) lt = refl
 eight_byte bytes k (suc (suc zero)) lt = refl

@@ -3,6 +3,7 @@ use Rattle.std.proofs.Common.{◌≡◌, ℕ, zero, suc, ◌<◌, List, [], ◌�
 use native.Mathlib.Decide.{ℕ_discrete}
 use mathlib.Core.Logic.{dite}
 use Rattle.std.specs.Prelude.{Option, Some, None}
+use Rattle.std.proofs.lemmas.Option.{same_Some}
 use Rattle.clover_rule.specs.Image.{Image, Chain}
 use Rattle.clover_rule.specs.Lists.{nth}
 use Rattle.clover_rule.specs.Memory.{home}
@@ -53,12 +54,9 @@ unfolding spot_below here_or
 spot_at f zero b s i e = absurd cc
 spot_at f (suc n) b s i e = go (spot_at f n b s i) (find (f n) b) refl e
   where
-    parts : (p q : ℕ × ℕ) → Some p ≡ Some q → p ≡ q
-    parts p q e = cc
-
     go : (spot_below f n b ≡ Some (s, i) → (t : ℕ) × (nth (f s) i ≡ Some t) × (home t ≡ b)) → (x : Option ℕ) → find (f n) b ≡ x → here_or n x (spot_below f n b) ≡ Some (s, i) → (t : ℕ) × (nth (f s) i ≡ Some t) × (home t ≡ b)
     go rec None q g = rec g
-    go rec (Some j) q g = let a = found_at (f n) b j q in let z = parts (n, j) (s, i) g in (a.0, subst (λ (p : ℕ × ℕ). nth (f p.0) p.1 ≡ Some a.0) z a.1, a.2)
+    go rec (Some j) q g = let a = found_at (f n) b j q in let z = same_Some (n, j) (s, i) g in (a.0, subst (λ (p : ℕ × ℕ). nth (f p.0) p.1 ≡ Some a.0) z a.1, a.2)
 
 spots : (f : ℕ → List ℕ) (n b s i t : ℕ) → s < n → nth (f s) i ≡ Some t → home t ≡ b → (p : ℕ × ℕ) × (spot_below f n b ≡ Some p)
 unfolding spot_below here_or

@@ -1,5 +1,5 @@
 -- The laws of a recycling's steps, of a binding's flushed root and of the count.
-use Rattle.std.proofs.Common.{◌≡◌, ℕ, suc, ◌<◌, ◌≤◌, ◌≢◌, ◌⊎◌, List, [], ◌∷◌, ◌++◌, length, length-append, append-nil, Bool, true, false, cond, ltb, leb, refl, sym, ap, ◌∙◌, inl, inr, ⊎_elim, arith, true≢false}
+use Rattle.std.proofs.Common.{◌≡◌, ℕ, suc, ◌<◌, ◌≤◌, ◌≢◌, ◌⊎◌, List, [], ◌∷◌, ◌++◌, length, length-append, append-nil, Bool, true, false, cond, ltb, refl, sym, ap, ◌∙◌, inl, inr, ⊎_elim, arith, true≢false}
 use native.Mathlib.Decide.{ℕ_discrete}
 use mathlib.Core.Logic.{dite}
 use Rattle.std.specs.Prelude.{Option, Some, None}
@@ -21,12 +21,12 @@ use Rattle.clover_rule.specs.declared.view.Task.TheVariants.{Idle, Rooted, Waiti
 use Rattle.clover_rule.specs.declared.view.View.{View}
 use Rattle.clover_words.specs.declared.pool.Pool.{Pool}
 use Rattle.clover_rule.proofs.Tools.{upd_same, upd_else}
-use Rattle.clover_rule.proofs.Steps.{prefix_self, within_prefix, Grows, durable_kept}
+use Rattle.clover_rule.proofs.Steps.{prefix_self, within_prefix, within_last, Grows, durable_kept}
 use Rattle.clover_rule.proofs.ServerTools.{core_copy, whole, book_same, tale_copy}
 use Rattle.clover_rule.proofs.ServerLaws.{stage_at, serves_at}
 use Rattle.clover_rule.proofs.Roots.{root_core, flush_core, flead_cases}
-use Rattle.clover_rule.proofs.Raising.{raise_core}
-use Rattle.clover_rule.proofs.Cuts.{unread_less}
+use Rattle.clover_rule.proofs.Raising.{raise_core, most_left, most_right}
+use Rattle.clover_rule.proofs.Cuts.{unread_less, unsure_less}
 
 pub grow_refl : (m m' : Mem) (st st' : Story) (h : List Entry) → ((s : ℕ) → st'.log s ≡ st.log s) → ((s : ℕ) → st'.sure s ≡ st.sure s) → ((s : ℕ) → st'.gone s ≡ st.gone s) → ((b : ℕ) → m'.next b ≡ m.next b) → IsPrefix st.bindings st'.bindings → m.count ≤ m'.count → Grows m st h m' st' h
 grow_refl m m' st st' h a b c d e f = record { versions = λ s i w q. ap (λ (ws : List Version). nth ws i) (a s) ∙ q; sure = λ s. let x = b s in omega arith; gone = λ s. let x = c s in omega arith; gens = λ y. let x = ap gen (d y) in omega arith; names = e; count = f; history = prefix_self h }
@@ -57,10 +57,6 @@ gen_least o n = go (ltb (order o) (order n)) refl
 pub within_two : {A : Type 0} (x y : A) (xs : List A) → Within x (xs ++ y ∷ []) → Within x xs ⊎ (y ≡ x)
 within_two x y [] w = ⊎_elim inr (λ q. absurd q) w
 within_two x y (z ∷ xs) w = ⊎_elim (λ q. inl (inl q)) (λ q. ⊎_elim (λ a. inl (inr a)) inr (within_two x y xs q)) w
-
-pub within_end : {A : Type 0} (y : A) (xs : List A) → Within y (xs ++ y ∷ [])
-within_end y [] = inl refl
-within_end y (z ∷ xs) = inr (within_end y xs)
 
 module _ (l : Pool) (m0 : Map) (used : List ℕ) (m : Mem) (vs : List View) (id : ℕ) (v : View) (st : Story) (h : List Entry) (w : Whole l m0 used m vs st h) (at : nth vs id ≡ Some v) (role : v.pass.role ≡ Serving) where
   abbrev ru : Basis m0 used m vs st h
@@ -117,20 +113,11 @@ module _ (l : Pool) (m0 : Map) (used : List ℕ) (m : Mem) (vs : List View) (id 
     abbrev ss : Story
     ss = record (raised_story st s (st.gone s)) { task = Raised s r t }
 
-    most_left : (a b : ℕ) → a ≤ greatest a b
-    most_left a b = grind (arith, nat_tests)
-
-    most_right : (a b : ℕ) → b ≤ greatest a b
-    most_right a b = grind (arith, nat_tests)
-
     sure_more : (s1 : ℕ) → st.sure s1 ≤ ss.sure s1
     sure_more s1 = dite (ℕ_discrete s1 s) (λ d. rw d (rw (upd_same st.sure s (greatest (st.sure s) (suc (suc (st.gone s))))) (most_left (st.sure s) (suc (suc (st.gone s)))))) (λ n. let q : ss.sure s1 ≡ st.sure s1 = upd_else st.sure s s1 (greatest (st.sure s) (suc (suc (st.gone s)))) n in omega arith)
 
     now_sure : suc (st.gone s) < ss.sure s
     now_sure = rw (upd_same st.sure s (greatest (st.sure s) (suc (suc (st.gone s))))) (most_right (st.sure s) (suc (suc (st.gone s))))
-
-    test : (a b c : ℕ) → a ≤ b → leb b c ≡ true → leb a c ≡ true
-    test a b c i q = grind (arith, nat_tests)
 
     grow : Grows m st h ms ss h
     grow = record { versions = λ s1 i1 w1 q. q; sure = sure_more; gone = λ j. omega arith; gens = λ b. omega arith; names = prefix_self st.bindings; count = omega arith; history = prefix_self h }
@@ -152,7 +139,7 @@ module _ (l : Pool) (m0 : Map) (used : List ℕ) (m : Mem) (vs : List View) (id 
               legal = ru.tale.legal;
               told = ru.tale.told;
               began = ru.tale.began;
-              unread = unread_less (unsure st) (unsure ss) (λ y q. test (st.sure (st.slot_of y)) (ss.sure (st.slot_of y)) (st.rank y) (sure_more (st.slot_of y)) q) h ru.tale.unread;
+              unread = unread_less (unsure st) (unsure ss) (λ y q. unsure_less (st.sure (st.slot_of y)) (ss.sure (st.slot_of y)) (st.rank y) (sure_more (st.slot_of y)) q) h ru.tale.unread;
               settled = λ s1 j y q. let a = ru.tale.settled s1 j y q in let b = sure_more s1 in omega arith;
               unbound = ru.tale.unbound;
             };
@@ -369,7 +356,7 @@ module _ (l : Pool) (m0 : Map) (used : List ℕ) (m : Mem) (vs : List View) (id 
               naming = let a = p.naming in record {
                 counted = ap suc a.counted ∙ sym (let z : length (st.bindings ++ (s, k) ∷ []) ≡ suc (length st.bindings) = omega (arith, length-append st.bindings ((s, k) ∷ [])) in z);
                 found = a.found;
-                listed = λ s1 k1 q f. dite (ℕ_discrete s1 s) (λ d. let z : k1 ≡ k = cc (ap st.keys d, q, a0.key) in rw (d, z) (within_end (s, k) st.bindings)) (λ d. within_prefix (s1, k1) st.bindings ((s, k) ∷ []) (a.listed s1 k1 q (sym (named_else s1 d) ∙ f)));
+                listed = λ s1 k1 q f. dite (ℕ_discrete s1 s) (λ d. let z : k1 ≡ k = cc (ap st.keys d, q, a0.key) in rw (d, z) (within_last (s, k) st.bindings)) (λ d. within_prefix (s1, k1) st.bindings ((s, k) ∷ []) (a.listed s1 k1 q (sym (named_else s1 d) ∙ f)));
                 waiting = λ s1 k1 q f. a.waiting s1 k1 q (sym (named_else s1 (unnamed_else s1 f)) ∙ f);
               };
               stage = record {

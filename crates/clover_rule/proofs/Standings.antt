@@ -3,7 +3,7 @@ use Rattle.std.proofs.Common.{◌≡◌, ℕ, suc, ◌<◌, ◌≤◌, length, B
 use native.Mathlib.Decide.{dec_le}
 use mathlib.Core.Logic.{dite}
 use Rattle.std.specs.Prelude.{Option, Some, None}
-use Rattle.std.proofs.lemmas.Bool.Decides.{nat_tests}
+use Rattle.std.proofs.lemmas.Bool.{le-ltb}
 use Rattle.clover_rule.specs.History.{Version}
 use Rattle.clover_rule.specs.Lists.{nth}
 use Rattle.clover_rule.specs.Memory.{home, age, Next, word, gen, link, Mem}
@@ -33,17 +33,14 @@ unfolding home age
 same_tag t u h a = omega arith
 
 pub only_same : (a b : ℕ) (x y : Option ℕ) → (a < b → x ≡ y) → only (ltb a b) x ≡ only (ltb a b) y
-only_same a b x y h = dite (dec_le (suc a) b) (λ d. ap (only (ltb a b)) (h d)) (λ d. rw (nltb a b d) refl)
-  where
-    nltb : (a b : ℕ) → ¬ (suc a ≤ b) → ltb a b ≡ false
-    nltb a b n = grind (arith, nat_tests)
+only_same a b x y h = dite (dec_le (suc a) b) (λ d. ap (only (ltb a b)) (h d)) (λ d. rw (le-ltb a b (omega arith)) refl)
 
 pub only_none : (a : Bool) → only a None ≡ None
 only_none true = refl
 only_none false = refl
 
-pub word_of : (n : Next) (a : ℕ) → gen n ≡ a → link n ≡ None → n ≡ word a None
-word_of (word b l) a g h = cc
+pub word_is : (n : Next) (a : ℕ) (o : Option ℕ) → gen n ≡ a → link n ≡ o → n ≡ word a o
+word_is (word b l) a o g h = cc
 
 -- two standing versions in one buffer are one
 pub one_buffer : (m : Mem) (st : Story) → Core m st → (s i t s' i' t' : ℕ) → tag_at st s i ≡ Some t → st.gone s ≤ i → tag_at st s' i' ≡ Some t' → st.gone s' ≤ i' → home t' ≡ home t → (s' ≡ s) × (i' ≡ i) × (t' ≡ t)

@@ -1,12 +1,14 @@
 -- What each step keeps: what is known stays known, and what another seat owns is left alone.
 use Rattle.std.proofs.Common.{◌≡◌, ℕ, zero, suc, ◌≤◌, ◌≢◌, ◌⊎◌, List, [], ◌∷◌, ◌++◌, set, append_assoc, append-nil, refl, sym, ap, ◌∙◌, inl, inr, ⊎_elim, arith, subst}
+use native.Mathlib.Decide.{ℕ_discrete}
 use Rattle.std.specs.Prelude.{Some}
+use Rattle.std.proofs.lemmas.Option.{same_Some}
 use Rattle.clover_map.specs.declared.call.Entry.{Entry}
 use Rattle.clover_rule.specs.History.{Version, own}
 use Rattle.clover_rule.specs.Lists.{Each, nth, IsPart, Within, IsPrefix}
 use Rattle.clover_rule.specs.Memory.{home, Next, word, gen, Mem}
 use Rattle.clover_rule.specs.Story.{Stocked, Story, tag_in_version, tag_at, Durable}
-use Rattle.clover_rule.specs.Views.{IsLink, Past, IsCopied, Owned, OwnCalls, ViewOk}
+use Rattle.clover_rule.specs.Views.{IsLink, Past, IsCopied, Owned, OwnCalls, ViewOk, renewed}
 use Rattle.clover_rule.specs.declared.view.Content.{Content}
 use Rattle.clover_rule.specs.declared.view.Link.{Link}
 use Rattle.clover_rule.specs.declared.view.Role.{Role}
@@ -22,6 +24,10 @@ pub each_within : {A : Type 0} (P : A → Type 0) (x : A) (xs : List A) → Each
 each_within P x [] e w = absurd w
 each_within P x (y ∷ ys) e w = ⊎_elim (λ p. subst P p e.0) (λ q. each_within P x ys e.1 q) w
 
+pub each_of : {A : Type 0} (P : A → Type 0) (xs : List A) → ((x : A) → Within x xs → P x) → Each P xs
+each_of P [] f = tt
+each_of P (x ∷ xs) f = (f x (inl refl), each_of P xs (λ y w. f y (inr w)))
+
 pub prefix_trans : {A : Type 0} (xs ys zs : List A) → IsPrefix xs ys → IsPrefix ys zs → IsPrefix xs zs
 prefix_trans xs ys zs p q = (p.0 ++ q.0, q.1 ∙ ap (λ (l : List _). l ++ q.0) p.1 ∙ append_assoc xs p.0 q.0)
 
@@ -31,6 +37,10 @@ prefix_self xs = ([], sym (append-nil xs))
 pub within_prefix : {A : Type 0} (x : A) (xs ys : List A) → Within x xs → Within x (xs ++ ys)
 within_prefix x [] ys w = absurd w
 within_prefix x (y ∷ xs) ys w = ⊎_elim inl (λ q. inr (within_prefix x xs ys q)) w
+
+pub within_last : {A : Type 0} (x : A) (xs : List A) → Within x (xs ++ x ∷ [])
+within_last x [] = inl refl
+within_last x (y ∷ xs) = inr (within_last x xs)
 
 pub part_kept : {A : Type 0} (n : ℕ) (xs ys zs : List A) → IsPart n xs ys → IsPrefix ys zs → IsPart n xs zs
 part_kept n xs ys zs (front, back, e, l) (more, f) = (front, back ++ more, f ∙ ap (λ (q : List _). q ++ more) e ∙ append_assoc front (xs ++ back) more ∙ ap (λ (q : List _). front ++ q) (append_assoc xs back more), l)
@@ -113,3 +123,15 @@ set_away (x ∷ vs) zero zero v n = absurd (n refl)
 set_away (x ∷ vs) zero (suc j) v n = refl
 set_away (x ∷ vs) (suc i) zero v n = refl
 set_away (x ∷ vs) (suc i) (suc j) v n = set_away vs i j v (λ e. n (ap suc e))
+
+-- of the views after one was renewed: each had its role before, and the longest history stands where it stood
+module _ (vs : List View) (id : ℕ) (v v' : View) (at : nth vs id ≡ Some v) where
+  pub role_was : v.pass.role ≡ v'.pass.role → (i : ℕ) (a : View) → nth (renewed vs id v') i ≡ Some a → (y : View) × (nth vs i ≡ Some y) × (y.pass.role ≡ a.pass.role)
+  role_was e i a q = ⊎_elim {C = (y : View) × (nth vs i ≡ Some y) × (y.pass.role ≡ a.pass.role)} (λ d. (v, ap (nth vs) d.0 ∙ at, e ∙ ap (λ (z : View). z.pass.role) d.1)) (λ d. (a, d.1, refl)) (nth_set vs id i v' a q)
+
+  pub longest_was : (h : List Entry) → v'.pass.history ≡ v.pass.history → ((j : ℕ) × (a : View) × (nth vs j ≡ Some a) × (a.pass.history ≡ h)) → (j : ℕ) × (a : View) × (nth (renewed vs id v') j ≡ Some a) × (a.pass.history ≡ h)
+  longest_was h past (j, a, q, w) = go (ℕ_discrete j id)
+    where
+      go : Dec (j ≡ id) → (j : ℕ) × (a : View) × (nth (renewed vs id v') j ≡ Some a) × (a.pass.history ≡ h)
+      go (yes d) = (id, v', set_here vs id v' v at, past ∙ ap (λ (y : View). y.pass.history) (same_Some v a (sym at ∙ ap (nth vs) (sym d) ∙ q)) ∙ w)
+      go (no n) = (j, a, set_away vs id j v' n ∙ q, w)

@@ -1,5 +1,5 @@
 -- A client's store of a content word of its own stock.
-use Rattle.std.proofs.Common.{◌≡◌, ℕ, ◌≢◌, List, [], ◌∷◌, Bool, true, false, cond, eqb, refl, sym, ap, ◌∙◌, ⊎_elim, arith, eq-eqb, true≢false}
+use Rattle.std.proofs.Common.{◌≡◌, ℕ, ◌≢◌, List, [], ◌∷◌, Bool, true, false, cond, eqb, refl, sym, ap, ◌∙◌, ⊎_elim, arith}
 use native.Mathlib.Decide.{ℕ_discrete}
 use mathlib.Core.Logic.{dite}
 use Rattle.std.specs.Prelude.{Some}
@@ -17,16 +17,13 @@ use Rattle.clover_rule.specs.declared.view.Task.{Task}
 use Rattle.clover_rule.specs.declared.view.Task.TheVariants.{Idle, Storing, Rooted, Waiting, Loaded, Raised, Led, Both, Exchanged}
 use Rattle.clover_rule.specs.declared.view.View.{View}
 use Rattle.clover_words.specs.declared.pool.Pool.{Pool}
-use Rattle.clover_rule.proofs.Tools.{upd_same, upd_else}
+use Rattle.clover_rule.proofs.Tools.{upd_same, upd_else, other_place}
 use Rattle.clover_rule.proofs.Standings.{same_tag}
-use Rattle.clover_rule.proofs.Steps.{each_map, each_within, prefix_self, Grows, view_kept, nth_set, set_here, set_away}
+use Rattle.clover_rule.proofs.Steps.{each_map, each_within, prefix_self, Grows, view_kept, nth_set, role_was, longest_was}
 use Rattle.std.specs.Prelude.{◌&&◌}
 use Rattle.clover_rule.proofs.ServerTools.{core_copy}
 use Rattle.clover_rule.proofs.ClientSteps.{client_whole}
 use Rattle.clover_rule.proofs.Stages.{grow_refl}
-
-other_place : (c t j k : ℕ) → c ≡ t → eqb c t && eqb k j ≡ false → k ≢ j
-other_place c t j k e f = λ q. true≢false (sym (let a : eqb c t && eqb k j ≡ true = rw (eq-eqb c t e, eq-eqb k j q) refl in a) ∙ f)
 
 module _ (l : Pool) (m0 : Map) (used : List ℕ) (m : Mem) (vs : List View) (st : Story) (h : List Entry) (w : Whole l m0 used m vs st h) (id : ℕ) (v : View) (at : nth vs id ≡ Some v) (n : ℕ) (role : v.pass.role ≡ Client n)
     (t j x : ℕ) (own : Within t v.pass.stock) where
@@ -99,16 +96,6 @@ module _ (l : Pool) (m0 : Map) (used : List ℕ) (m : Mem) (vs : List View) (st 
     body = λ z. ap (λ (f : ℕ → ℕ). f z) (body_else b (λ d. a.0 (let s1 : Stocked i ≡ Stocked id = sym o ∙ ap st.place d ∙ owned.0 in cc)));
   }) (λ c f. refl) (r.views i y a.1)) (nth_set vs id i v' y q)
 
-  was : (i : ℕ) (a : View) → nth (renewed vs id v') i ≡ Some a → (y : View) × (nth vs i ≡ Some y) × (y.pass.role ≡ a.pass.role)
-  was i a q = ⊎_elim {C = (y : View) × (nth vs i ≡ Some y) × (y.pass.role ≡ a.pass.role)} (λ d. (v, ap (nth vs) d.0 ∙ at, ap (λ (z : View). z.pass.role) d.1)) (λ d. (a, d.1, refl)) (nth_set vs id i v' a q)
-
-  longest' : (k : ℕ) × (a : View) × (nth (renewed vs id v') k ≡ Some a) × (a.pass.history ≡ h)
-  longest' = let o = r.longest in go o.0 o.1 o.2 o.3 (ℕ_discrete o.0 id)
-    where
-      go : (k : ℕ) (a : View) → nth vs k ≡ Some a → a.pass.history ≡ h → Dec (k ≡ id) → (k : ℕ) × (a : View) × (nth (renewed vs id v') k ≡ Some a) × (a.pass.history ≡ h)
-      go k a q e (yes d) = (id, v', set_here vs id v' v at, let z : v ≡ a = let zz : Some v ≡ Some a = sym at ∙ ap (nth vs) (sym d) ∙ q in cc in ap (λ (y : View). y.pass.history) z ∙ e)
-      go k a q e (no d) = (k, a, set_away vs id k v' d ∙ q, e)
-
   rule' : Basis m0 used m1 (renewed vs id v') st h
   rule' = record {
     core = core_copy m st r.core m1.body m.fbody m.key m.fkey m.short m.count st.keys st.first st.bindings st.task st.slot_named;
@@ -118,8 +105,8 @@ module _ (l : Pool) (m0 : Map) (used : List ℕ) (m : Mem) (vs : List View) (st 
     bound = r.bound;
     keyed = r.keyed;
     views = views';
-    numbered = λ i1 j1 c a b qa qb ra rb. let x1 = was i1 a qa in let y1 = was j1 b qb in r.numbered i1 j1 c x1.0 y1.0 x1.1 y1.1 (x1.2 ∙ ra) (y1.2 ∙ rb);
-    longest = longest';
+    numbered = λ i1 j1 c a b qa qb ra rb. let x1 = role_was vs id v v' at refl i1 a qa in let y1 = role_was vs id v v' at refl j1 b qb in r.numbered i1 j1 c x1.0 y1.0 x1.1 y1.1 (x1.2 ∙ ra) (y1.2 ∙ rb);
+    longest = longest_was vs id v v' at h refl r.longest;
   }
 
   here : (T : Task) → AtStage l m st T → AtStage l m1 st T

@@ -1,11 +1,9 @@
 -- The map of the rule, a function of keys, and the tagged map.
-use Rattle.std.proofs.Common.{◌≡◌, ◌≢◌, ℕ, zero, suc, ◌<◌, ◌⊎◌, inl, inr, List, [], ◌∷◌, ◌++◌, length, Bool, true, false, cond, refl, sym, ap, ◌∙◌, arith, subst, true≢false}
+use Rattle.std.proofs.Common.{◌≡◌, ◌≢◌, ℕ, zero, suc, ◌<◌, ◌⊎◌, inl, inr, List, [], ◌∷◌, ◌++◌, length, Bool, true, false, cond, refl, sym, ap, ◌∙◌, arith, subst}
 use mathlib.Core.Path.{fun_ext}
 use Rattle.std.specs.Prelude.{Option, Some, None, Contains, slice_index_or}
-use Rattle.std.specs.Ordering.{nat_cmp, is_eq, eq_by_cmp}
-use Rattle.std.specs.declared.cmp.Ordering.{Ordering}
-use Rattle.std.specs.declared.cmp.Ordering.TheVariants.{Less, Equal, Greater}
-use Rattle.std.specs.Cmp.{eq_by_cmp_equiv}
+use Rattle.std.specs.Ordering.{nat_cmp, eq_by_cmp}
+use Rattle.std.specs.Cmp.{Equal-is, eq_by_cmp_equiv}
 use Rattle.std.specs.Cmp.Lexicographic.{slice_cmp, nat_list_cmp_total}
 use Rattle.std.specs.FinMap.{get, insert, remove, get-insert, get-remove}
 use Rattle.std.proofs.lemmas.List.Elements.{Contains-append_cases}
@@ -24,17 +22,12 @@ use Rattle.clover_map.specs.Legal as Runs
 use Rattle.clover_rule.specs.History.{Map, Version, same_key, at_key, Fresh, Does, Legal, leads, grown, commit_of, changed, named, committed, tag_in, shows}
 use Rattle.clover_rule.proofs.Keys.{eq_key, ne_key, key_discrete}
 
-equal : (r : Ordering) → is_eq r ≡ true → r ≡ Equal
-equal Less e = absurd (true≢false (sym e))
-equal Equal e = refl
-equal Greater e = absurd (true≢false (sym e))
-
 same_test : (k q : List ℕ) → eq_by_cmp (slice_cmp nat_cmp) q k ≡ same_key k q
 same_test k q = go (key_discrete k q)
   where
     ties : (b : Bool) → eq_by_cmp (slice_cmp nat_cmp) q k ≡ b → k ≢ q → b ≡ false
     ties false e n = refl
-    ties true e n = absurd (n (sym (exact_keys q k (equal (slice_cmp nat_cmp q k) e))))
+    ties true e n = absurd (n (sym (exact_keys q k ((Equal-is (slice_cmp nat_cmp q k)).0 e))))
 
     go : Dec (k ≡ q) → eq_by_cmp (slice_cmp nat_cmp) q k ≡ same_key k q
     go (yes e) = ap (λ (z : List ℕ). eq_by_cmp (slice_cmp nat_cmp) q z) e ∙ (eq_by_cmp_equiv nat_list_cmp_total).refl q ∙ sym (eq_key k q e)

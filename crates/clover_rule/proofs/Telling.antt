@@ -1,5 +1,5 @@
 -- What the rule says of an actor, what a step tells it, and the law over a table.
-use Rattle.std.proofs.Common.{◌≡◌, ℕ, zero, suc, ◌<◌, ◌≤◌, List, [], ◌∷◌, Bool, refl, sym, ap, ◌∙◌, inl, inr, ⊎_elim, arith, subst}
+use Rattle.std.proofs.Common.{◌≡◌, ℕ, zero, suc, ◌<◌, ◌≤◌, List, [], ◌∷◌, Bool, refl, sym, ap, ◌∙◌, ⊎_elim, arith, subst}
 use Rattle.std.specs.Prelude.{Option, Some, None, slice_set}
 use mathlib.Core.Option.{some, some-injective, some-ne-none}
 use lib.ListN.{get_elem?}
@@ -13,7 +13,7 @@ use Rattle.clover_map.specs.declared.call.Entry.{Entry}
 use Rattle.clover_map.specs.Tagged.{Tagged}
 use Rattle.clover_rule.specs.Content.{InRange, IsKey}
 use Rattle.clover_rule.specs.History.{shows}
-use Rattle.clover_rule.specs.Lists.{Each, Within, nth}
+use Rattle.clover_rule.specs.Lists.{Within, nth}
 use Rattle.clover_rule.specs.Meets.{Meets, IsMet}
 use Rattle.clover_rule.specs.Memory.{Next, Mem, gen, link, home}
 use Rattle.clover_rule.specs.Server.{Ready}
@@ -22,7 +22,7 @@ use Rattle.clover_rule.specs.Story.{Story, Durable, tag_at}
 use Rattle.clover_rule.specs.Told.{Facts, IsShown, ToldAt, Told, TableLaw}
 use Rattle.clover_rule.specs.Words.{buffer_at, content_at, mem_of}
 use Rattle.clover_rule.specs.declared.view.View.{View}
-use Rattle.clover_rule.proofs.Steps.{each_map, within_prefix, set_here}
+use Rattle.clover_rule.proofs.Steps.{each_map, each_of, within_prefix, set_here}
 use Rattle.clover_rule.proofs.Standings.{tag_within}
 use Rattle.clover_rule.proofs.TaggedMaps.{legal_history}
 use Rattle.clover_rule.proofs.Derived.{current_past}
@@ -52,10 +52,6 @@ pub nth_elem : {A : Type 0} (l : List A) (i : ℕ) (a : A) → get_elem? l i ≡
 nth_elem [] i a e = absurd (some-ne-none a (sym e))
 nth_elem (x ∷ l) zero a e = ap Some (some-injective x a e)
 nth_elem (x ∷ l) (suc i) a e = nth_elem l i a e
-
-each_list : {A : Type 0} (P : A → Type 0) (xs : List A) → ((x : A) → Within x xs → P x) → Each P xs
-each_list P [] f = tt
-each_list P (x ∷ xs) f = (f x (inl refl), each_list P xs (λ y w. f y (inr w)))
 
 module _ (p : Pool) (first : Tagged) (used : List ℕ) (ws : List ℕ) (vs : List View) (st : Story) (h : List Entry) (r : Meets p first used ws vs st h) where
   abbrev m : Mem
@@ -90,7 +86,7 @@ module _ (p : Pool) (first : Tagged) (used : List ℕ) (ws : List ℕ) (vs : Lis
           apart = ok.apart;
           durable = each_map (λ q d. (slot_in q.0 d.0 q.1 d.1, root_in_range q.0 q.1 d)) v.pass.durable ok.durable;
           links = each_map (λ l d. (slot_in l.slot d.0 l.from d.1, r.whole.help.ranged.tags l.slot d.0 l.from d.1, r.whole.help.ranged.tags l.slot (suc d.0) l.to d.2)) v.pass.links ok.links;
-          names = each_list (λ (q : ℕ × List ℕ). (q.0 < p.slots) × IsKey q.1) v.pass.names (λ q w.
+          names = each_of (λ (q : ℕ × List ℕ). (q.0 < p.slots) × IsKey q.1) v.pass.names (λ q w.
               let b = r.whole.basis.bound q.0 q.1 (subst (Within q) (sym ok.names.1) (within_prefix q v.pass.names ok.names.0 w)) in
               (r.whole.help.keyed.slots q.0 q.1 b.0, r.whole.help.keyed.valid q.0 q.1 b.0));
         }

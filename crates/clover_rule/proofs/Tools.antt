@@ -1,5 +1,5 @@
 -- Lists read by place, and functions changed at one place.
-use Rattle.std.proofs.Common.{◌≡◌, ℕ, zero, suc, ◌<◌, ◌≤◌, ◌≢◌, ◌⊎◌, List, [], ◌∷◌, ◌++◌, length, refl, sym, ap, inl, inr, ⊎_elim, arith, eq-eqb, ne_eqb}
+use Rattle.std.proofs.Common.{◌≡◌, ℕ, zero, suc, ◌<◌, ◌≤◌, ◌≢◌, ◌⊎◌, List, [], ◌∷◌, ◌++◌, length, true, false, eqb, ◌&&◌, refl, sym, ap, ◌∙◌, inl, inr, ⊎_elim, arith, eq-eqb, ne_eqb, true≢false}
 use Rattle.std.specs.Prelude.{Some, None}
 use Rattle.clover_rule.specs.Lists.{nth, upd}
 
@@ -31,6 +31,11 @@ module _ {A : Type 0} where
   nth_within (x ∷ l) zero b e = omega arith
   nth_within (x ∷ l) (suc i) b e = let h = nth_within l i b e in omega arith
 
+  pub nth_some : (l : List A) (i : ℕ) → i < length l → (x : A) × (nth l i ≡ Some x)
+  nth_some [] i h = absurd (omega arith)
+  nth_some (x ∷ l) zero h = (x, refl)
+  nth_some (x ∷ l) (suc i) h = nth_some l i (omega arith)
+
   pub nth_past : (l : List A) (i : ℕ) → nth l i ≡ None → length l ≤ i
   nth_past [] i e = omega arith
   nth_past (x ∷ l) zero e = absurd cc
@@ -40,3 +45,11 @@ module _ {A : Type 0} where
   nth_none [] i h = refl
   nth_none (x ∷ l) zero h = absurd (omega arith)
   nth_none (x ∷ l) (suc i) h = nth_none l i (omega arith)
+
+  pub length_snoc : (a : A) (l : List A) → length (l ++ a ∷ []) ≡ suc (length l)
+  length_snoc a [] = refl
+  length_snoc a (x ∷ l) = ap suc (length_snoc a l)
+
+-- a place that differs from a word's differs by the second number where the first is the same
+pub other_place : (c t j k : ℕ) → c ≡ t → eqb c t && eqb k j ≡ false → k ≢ j
+other_place c t j k e f = λ q. true≢false (sym (let a : eqb c t && eqb k j ≡ true = rw (eq-eqb c t e, eq-eqb k j q) refl in a) ∙ f)

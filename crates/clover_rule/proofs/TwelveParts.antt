@@ -3,7 +3,8 @@ use Rattle.std.proofs.Common.{◌≡◌, ℕ, zero, suc, ◌+◌, ◌<◌, ◌�
 use native.Mathlib.Decide.{ℕ_discrete, dec_le}
 use mathlib.Core.Logic.{dite}
 use Rattle.std.specs.Prelude.{Option, Some, None}
-use Rattle.std.proofs.lemmas.Bool.Decides.{nat_tests}
+use Rattle.std.proofs.lemmas.Option.{same_Some}
+use Rattle.std.proofs.lemmas.Bool.{lt-ltb}
 use Rattle.clover_map.specs.declared.bytes.Value.{Value}
 use Rattle.clover_map.specs.declared.bytes.Held.{Held}
 use Rattle.clover_map.specs.declared.call.Entry.{Entry}
@@ -29,7 +30,7 @@ use Rattle.clover_rule.specs.declared.view.Task.{Task}
 use Rattle.clover_rule.specs.declared.view.Task.TheVariants.{Idle, Storing, Rooted, Waiting, Loaded, Raised, Led, Both, Exchanged}
 use Rattle.clover_rule.specs.declared.view.View.{View}
 use Rattle.clover_rule.proofs.Tools.{nth_past}
-use Rattle.clover_rule.proofs.Standings.{tag_there, tag_within, tag_past, one_buffer, word_of}
+use Rattle.clover_rule.proofs.Standings.{tag_there, tag_within, tag_past, one_buffer, word_is}
 use Rattle.clover_rule.proofs.Steps.{each_map, each_within}
 use Rattle.clover_rule.proofs.Histories.{leads_commits, ends_more}
 use Rattle.clover_rule.proofs.Snocs.{within_nth, within_commits, within_back}
@@ -164,9 +165,6 @@ module _ (p : Pool) (first : Tagged) (used : List ℕ) (ws : List ℕ) (vs : Lis
   worn_place (Led s k t) Taken g b a e = absurd cc
   worn_place (Both s k t) Taken g b a e = absurd cc
 
-  some_nat : (a b : ℕ) → ◌≡◌ {A = Option ℕ} (Some a) (Some b) → a ≡ b
-  some_nat a b e = cc
-
   led_place : (s y t b : ℕ) → tag_at st s (st.gone s) ≡ Some y → st.lead s ≡ suc (st.gone s) → home y ≡ b → place_at b ≡ Taken
   unfolding moved
   led_place s y t b f g q =
@@ -175,10 +173,10 @@ module _ (p : Pool) (first : Tagged) (used : List ℕ) (ws : List ℕ) (vs : Lis
 
   taken_here : (T : Task) → AtStage p m st T → (b : ℕ) → held_by T ≡ Some b → place_at b ≡ Taken
   unfolding moved
-  taken_here (Storing s k t n) a b e = let q = some_nat (home t) b e in ap (λ (z : Place). moved z b) (ap st.place (sym q) ∙ a.place)
-  taken_here (Led s y t) a b e = led_place s y t b a.0.root a.2 (some_nat (home y) b e)
-  taken_here (Both s y t) a b e = led_place s y t b a.0.root a.2 (some_nat (home y) b e)
-  taken_here (Exchanged s y t) a b e = let q = some_nat (home y) b e in ap (λ (z : Place). moved z b) (ap st.place (sym q) ∙ a.place)
+  taken_here (Storing s k t n) a b e = let q = same_Some (home t) b e in ap (λ (z : Place). moved z b) (ap st.place (sym q) ∙ a.place)
+  taken_here (Led s y t) a b e = led_place s y t b a.0.root a.2 (same_Some (home y) b e)
+  taken_here (Both s y t) a b e = led_place s y t b a.0.root a.2 (same_Some (home y) b e)
+  taken_here (Exchanged s y t) a b e = let q = same_Some (home y) b e in ap (λ (z : Place). moved z b) (ap st.place (sym q) ∙ a.place)
   taken_here Idle a b e = absurd cc
   taken_here (Rooted s k t) a b e = absurd cc
   taken_here (Waiting s k t) a b e = absurd cc
@@ -351,8 +349,8 @@ module _ (p : Pool) (first : Tagged) (used : List ℕ) (ws : List ℕ) (vs : Lis
       bare e f = ap link e ∙ f
 
       held_here : (T : Task) → AtStage p m st T → holding T ≡ Some b → (link (m.fnext b) ≡ None) ⊎ ((l : Link) × IsLink st l × (home l.from ≡ b) × (age l.from ≡ gen (m.fnext b)) × (link (m.fnext b) ≡ Some l.to))
-      held_here (Storing s k t n) a e = let q = some_nat (home t) b e in inl (ap (λ (z : ℕ). link (m.fnext z)) (sym q) ∙ ap link a.safe)
-      held_here (Exchanged s y t) a e = exchanged_link s y t a (some_nat (home y) b e)
+      held_here (Storing s k t n) a e = let q = same_Some (home t) b e in inl (ap (λ (z : ℕ). link (m.fnext z)) (sym q) ∙ ap link a.safe)
+      held_here (Exchanged s y t) a e = exchanged_link s y t a (same_Some (home y) b e)
         where
           exchanged_link : (s y t : ℕ) → AtStage p m st (Exchanged s y t) → home y ≡ b → (link (m.fnext b) ≡ None) ⊎ ((l : Link) × IsLink st l × (home l.from ≡ b) × (age l.from ≡ gen (m.fnext b)) × (link (m.fnext b) ≡ Some l.to))
           exchanged_link s y t a q = inr (record { slot = s; from = y; to = t }, (a.old.0, a.old.2, ap (tag_at st s) a.old.1 ∙ a.root), q, sym (ap (λ (z : ℕ). gen (m.fnext z)) (sym q) ∙ ap gen a.safe), ap (λ (z : ℕ). link (m.fnext z)) (sym q) ∙ ap link a.safe)
@@ -404,11 +402,8 @@ module _ (p : Pool) (first : Tagged) (used : List ℕ) (ws : List ℕ) (vs : Lis
             is_held m st c s (st.flead s) y f (omega arith) (omega arith),
             e ∙ f,
             c.root s ∙ k,
-            x ∙ ap (λ (b : Bool). word (age y) (only b (tag_at st s (suc (st.flead s))))) (test (suc (st.flead s)) (st.sure s) sure) ∙ ap (word (age y)) (ap (tag_at st s) (sym le) ∙ k),
+            x ∙ ap (λ (b : Bool). word (age y) (only b (tag_at st s (suc (st.flead s))))) (lt-ltb (suc (st.flead s)) (st.sure s) sure) ∙ ap (word (age y)) (ap (tag_at st s) (sym le) ∙ k),
           ))
-        where
-          test : (i n : ℕ) → i < n → ltb i n ≡ true
-          test i n h = grind (arith, nat_tests)
 
       go : (s : ℕ) → (m.froot s ≡ tag_at st s (st.flead s)) ⊎ Waits m st s → (m.froot s ≡ m.root s) ⊎ ((m.froot s ≡ None) × (t : ℕ) × (chain_of st s ≡ t ∷ []) × (value_by st t ≡ None)) ⊎ ((y t : ℕ) × (recycled_of st s ≡ Some y) × (m.froot s ≡ Some y) × (m.root s ≡ Some t) × (m.fnext (home y) ≡ word (age y) (Some t)))
       go s (inl e) = dite (ℕ_discrete (st.flead s) (st.lead s)) (λ d. inl (e ∙ ap (tag_at st s) d ∙ sym (c.root s))) (λ n. let d = c.led s in moving_root s e (omega arith) (tag_at st s (st.flead s)) refl (tag_at st s (st.lead s)) refl)
@@ -419,7 +414,7 @@ module _ (p : Pool) (first : Tagged) (used : List ℕ) (ws : List ℕ) (vs : Lis
           waits s w (Some x) e = (w.empty, x.tag, ap (λ (n : ℕ). tags (drop n (st.log s))) (let a = c.rooted s (let b = w.alone in omega arith) in let b = c.sure_most s in let d = w.alone in let z : st.lead s ≡ 0 = omega arith in z) ∙ single (st.log s) x.tag w.alone (ap tag_in_version e), value_at s 0 x e ∙ w.dead 0 x e)
 
   rest_word : (b g : ℕ) → Loose (st.place b) → gen (m.next b) ≡ g → AtRest m b g
-  rest_word b g l e = let o = c.loose b l in let n : m.next b ≡ word g None = word_of (m.next b) g e o.0 in (n, o.1 ∙ n)
+  rest_word b g l e = let o = c.loose b l in let n : m.next b ≡ word g None = word_is (m.next b) g None e o.0 in (n, o.1 ∙ n)
 
   part_5 : StocksAtRest p m vs
   part_5 = record {

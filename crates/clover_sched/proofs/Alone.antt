@@ -1,17 +1,21 @@
 -- One record more behind a stretch in which a call runs alone.
 use Prim.Native.Nat.{zero, suc}
 use Rattle.std.proofs.Common.{◌≡◌, ◌≢◌, ℕ, ◌+◌, ◌<◌, List, [], ◌∷◌, ◌++◌, length, refl, sym, ap, ◌∙◌, subst, arith, inl, inr, ◌⊎◌, append_assoc, append-nil, length-append}
-use Rattle.std.specs.Prelude.{Option, Some, None}
+use Rattle.std.specs.Prelude.{Some, None}
 use Rattle.clover_map.specs.History.{key_of}
-use Rattle.clover_map.specs.declared.bytes.Value.{Value}
 use Rattle.clover_map.specs.declared.call.Call.{Call}
-use Rattle.clover_rule.specs.Lists.{Each, nth, Within}
+use Rattle.clover_rule.specs.Lists.{Each, nth}
+use Rattle.clover_rule.specs.Words.{mem_of}
+use Rattle.clover_rule.proofs.Tools.{nth_snoc, nth_within}
+use Rattle.clover_walk.specs.Alone.{way_from, LeadsOver, HasVersion}
 use Rattle.clover_sched.specs.declared.client.ClientState.{ClientState}
 use Rattle.clover_sched.specs.declared.event.Note.TheVariants.{Quiet}
-use Rattle.clover_sched.specs.Alone.{OpensCall, IsOwnStep, Finds, RunsAlone, cost, cost_of, IsAnswered, IsAnsweredAt, AllFound, AllAlone, EndsIn, NotesWith, AllUnderway}
+use Rattle.clover_sched.specs.Alone.{OpensCall, IsOwnStep, Finds, RunsAlone, cost_of, IsAnswered, IsAnsweredAt, AllAlone, EndsIn, NotesWith, AloneSoFar}
+use Rattle.clover_sched.specs.Ends.{ended, MayBegin}
 use Rattle.clover_sched.specs.Folds.{words_after}
 use Rattle.clover_sched.specs.Record.{Record}
 use Rattle.clover_sched.specs.Run.{Opening}
+use Rattle.clover_sched.proofs.Places.{same_snoc}
 
 -- a list is empty or has a last element
 ending : {A : Type 0} (xs : List A) → (xs ≡ []) ⊎ ((ys : List A) × (y : A) × (xs ≡ ys ++ y ∷ []))
@@ -25,16 +29,6 @@ ending {A = A} (x ∷ xs) = inr (go (ending xs))
 no_snoc : {A : Type 0} (xs : List A) (a : A) → [] ≡ xs ++ a ∷ [] → ⊥
 no_snoc xs a e = let l : 0 ≡ length (xs ++ a ∷ []) = ap length e in let k = length-append xs (a ∷ []) in absurd (omega arith)
 
-same_snoc : {A : Type 0} (xs ys : List A) (a b : A) → xs ++ a ∷ [] ≡ ys ++ b ∷ [] → (xs ≡ ys) × (a ≡ b)
-same_snoc [] [] a b e = (refl, let q : a ∷ [] ≡ b ∷ [] = e in cc)
-same_snoc [] (y ∷ ys) a b e = absurd (let q : a ∷ [] ≡ y ∷ (ys ++ b ∷ []) = e in no_snoc ys b (cc))
-same_snoc (x ∷ xs) [] a b e = absurd (let q : x ∷ (xs ++ a ∷ []) ≡ b ∷ [] = e in no_snoc xs a (cc))
-same_snoc (x ∷ xs) (y ∷ ys) a b e =
-    let q : x ∷ (xs ++ a ∷ []) ≡ y ∷ (ys ++ b ∷ []) = e in
-    let r : xs ++ a ∷ [] ≡ ys ++ b ∷ [] = cc in
-    let h : x ≡ y = cc in
-    let s = same_snoc xs ys a b r in (λ i. h i ∷ s.0 i, s.1)
-
 -- what stands behind the begin grows at its end
 seam : {A : Type 0} (before : List A) (b : A) (xs : List A) (z : A) → before ++ b ∷ (xs ++ z ∷ []) ≡ (before ++ b ∷ xs) ++ z ∷ []
 seam before b xs z = sym (append_assoc before (b ∷ xs) (z ∷ []))
@@ -43,35 +37,24 @@ each_last : {A : Type 0} (P : A → Type 0) (xs : List A) (z : A) → Each P (xs
 each_last P [] z e = (tt, e.0)
 each_last P (x ∷ xs) z e = let r = each_last P xs z e.1 in ((e.0, r.0), r.1)
 
--- the element that is read is one of the first or the last
-nth_snoc : {A : Type 0} (xs : List A) (r : A) (k : ℕ) (z : A) → nth (xs ++ r ∷ []) k ≡ Some z → ((k < length xs) × (nth xs k ≡ Some z)) ⊎ ((k ≡ length xs) × (r ≡ z))
-nth_snoc [] r zero z e = inr (refl, let q : Some r ≡ Some z = e in cc)
-nth_snoc [] r (suc k) z e = absurd (let q : None ≡ Some z = e in cc)
-nth_snoc (x ∷ xs) r zero z e = inl (omega arith, e)
-nth_snoc (x ∷ xs) r (suc k) z e = go (nth_snoc xs r k z e)
-  where
-    go : ((k < length xs) × (nth xs k ≡ Some z)) ⊎ ((k ≡ length xs) × (r ≡ z)) → ((suc k < suc (length xs)) × (nth xs k ≡ Some z)) ⊎ ((suc k ≡ suc (length xs)) × (r ≡ z))
-    go (inl (l, q)) = inl (omega arith, q)
-    go (inr (l, q)) = inr (ap suc l, q)
-
 -- one step more, behind which so many are left
 answered_more : (c n : ℕ) (steps : List Record) (r : Record) (left : ℕ) → IsAnsweredAt c n steps → suc (length steps) + left ≡ n → NotesWith c left r.note → IsAnsweredAt c n (steps ++ r ∷ [])
 answered_more c n steps r left h e notes = record {
   few = let l = length-append steps (r ∷ []) in omega arith;
-  quiet = λ k z at l. quiet k z l (nth_snoc steps r k z at);
-  answered = λ k z at l. last k z l (nth_snoc steps r k z at);
+  quiet = λ k z at l. quiet k z l (nth_snoc steps r z k at);
+  answered = λ k z at l. last k z l (nth_snoc steps r z k at);
 }
   where
     none_quiet : (m : ℕ) → 0 < m → NotesWith c m r.note → r.note ≡ Quiet
     none_quiet zero l q = absurd (omega arith)
     none_quiet (suc m) l q = q
 
-    quiet : (k : ℕ) (z : Record) → suc k < n → ((k < length steps) × (nth steps k ≡ Some z)) ⊎ ((k ≡ length steps) × (r ≡ z)) → z.note ≡ Quiet
-    quiet k z l (inl (b, q)) = h.quiet k z q l
+    quiet : (k : ℕ) (z : Record) → suc k < n → (nth steps k ≡ Some z) ⊎ ((k ≡ length steps) × (r ≡ z)) → z.note ≡ Quiet
+    quiet k z l (inl q) = h.quiet k z q l
     quiet k z l (inr (b, q)) = ap (λ (y : Record). y.note) (sym q) ∙ none_quiet left (omega arith) notes
 
-    last : (k : ℕ) (z : Record) → suc k ≡ n → ((k < length steps) × (nth steps k ≡ Some z)) ⊎ ((k ≡ length steps) × (r ≡ z)) → IsAnswered c z.note
-    last k z l (inl (b, q)) = absurd (omega arith)
+    last : (k : ℕ) (z : Record) → suc k ≡ n → (nth steps k ≡ Some z) ⊎ ((k ≡ length steps) × (r ≡ z)) → IsAnswered c z.note
+    last k z l (inl q) = absurd (let b = nth_within steps k z q in omega arith)
     last k z l (inr (b, q)) =
         let none : left ≡ 0 = omega arith in
         subst (λ (y : Record). IsAnswered c y.note) q (subst (λ (m : ℕ). NotesWith c m r.note) none notes)
@@ -82,26 +65,23 @@ no_answers c n = record { few = omega arith; quiet = λ k r e. absurd (let q : N
 module _ (o : Opening) (rs : List Record) (r : Record) where
   -- the call's stretch ended before the record
   record Past (x : RunsAlone o (rs ++ r ∷ [])) : Type 0 where
-    pub old : RunsAlone o rs
-    pub client : old.client ≡ x.client
-    pub cost : cost_of o rs old ≡ cost_of o (rs ++ r ∷ []) x
-    pub steps : old.steps ≡ x.steps
+    pub rest : List Record
+    pub whole : rs ≡ x.before ++ x.begin ∷ (x.steps ++ rest)
     pub behind : x.after ≢ []
 
   -- the record is its last step
   record Goes (x : RunsAlone o (rs ++ r ∷ [])) : Type 0 where
-    pub old : RunsAlone o rs
-    pub now : old.after ≡ []
-    pub client : old.client ≡ x.client
-    pub cost : cost_of o rs old ≡ cost_of o (rs ++ r ∷ []) x
-    pub steps : x.steps ≡ old.steps ++ r ∷ []
-    pub own : IsOwnStep old.client r
+    pub first : List Record
+    pub whole : rs ≡ x.before ++ x.begin ∷ (first ++ [])
+    pub each : Each (IsOwnStep x.client) first
+    pub steps : x.steps ≡ first ++ r ∷ []
+    pub own : IsOwnStep x.client r
 
   -- the record is its begin
   record Opens (x : RunsAlone o (rs ++ r ∷ [])) : Type 0 where
+    pub whole : rs ≡ x.before
     pub none : x.steps ≡ []
     pub opens : OpensCall x.client x.call r
-    pub finds : Finds o (words_after o.setup.pool o.words rs) x.call x.tags x.tail x.version
 
   split : (x : RunsAlone o (rs ++ r ∷ [])) → Past x ⊎ (Goes x ⊎ Opens x)
   split x = go (ending x.after)
@@ -110,11 +90,7 @@ module _ (o : Opening) (rs : List Record) (r : Record) where
       begin_now e f =
           let w : rs ++ r ∷ [] ≡ x.before ++ x.begin ∷ [] = x.whole ∙ (λ i. x.before ++ x.begin ∷ (f i ++ e i)) in
           let s = same_snoc rs x.before r x.begin w in
-          record {
-            none = f;
-            opens = subst (OpensCall x.client x.call) (sym s.1) x.opens;
-            finds = subst (λ (l : List Record). Finds o (words_after o.setup.pool o.words l) x.call x.tags x.tail x.version) (sym s.0) x.finds;
-          }
+          record { whole = s.0; none = f; opens = subst (OpensCall x.client x.call) (sym s.1) x.opens }
 
       step_now : (x.after ≡ []) → (steps : List Record) (z : Record) → x.steps ≡ steps ++ z ∷ [] → Goes x
       step_now e steps z f =
@@ -122,10 +98,9 @@ module _ (o : Opening) (rs : List Record) (r : Record) where
           let s = same_snoc rs (x.before ++ x.begin ∷ steps) r z w in
           let own = each_last (IsOwnStep x.client) steps z (subst (Each (IsOwnStep x.client)) f x.own) in
           record {
-            old = record { before = x.before; begin = x.begin; steps = steps; after = []; whole = s.0 ∙ ap (λ (l : List Record). x.before ++ x.begin ∷ l) (sym (append-nil steps)); client = x.client; call = x.call; opens = x.opens; own = own.0; tags = x.tags; tail = x.tail; version = x.version; finds = x.finds };
-            now = refl;
-            client = refl;
-            cost = refl;
+            first = steps;
+            whole = s.0 ∙ ap (λ (l : List Record). x.before ++ x.begin ∷ l) (sym (append-nil steps));
+            each = own.0;
             steps = f ∙ ap (λ (y : Record). steps ++ y ∷ []) (sym s.1);
             own = subst (IsOwnStep x.client) (sym s.1) own.1;
           }
@@ -138,57 +113,67 @@ module _ (o : Opening) (rs : List Record) (r : Record) where
       go (inl e) = by_steps e (ending x.steps)
       go (inr (after, z, e)) =
           let w : rs ++ r ∷ [] ≡ (x.before ++ x.begin ∷ (x.steps ++ after)) ++ z ∷ [] = x.whole ∙ ap (λ (l : List Record). x.before ++ x.begin ∷ (x.steps ++ l)) e ∙ ap (λ (l : List Record). x.before ++ x.begin ∷ l) (sym (append_assoc x.steps after (z ∷ []))) ∙ seam x.before x.begin (x.steps ++ after) z in
-          inl (record {
-            old = record { before = x.before; begin = x.begin; steps = x.steps; after = after; whole = (same_snoc rs (x.before ++ x.begin ∷ (x.steps ++ after)) r z w).0; client = x.client; call = x.call; opens = x.opens; own = x.own; tags = x.tags; tail = x.tail; version = x.version; finds = x.finds };
-            client = refl;
-            cost = refl;
-            steps = refl;
-            behind = λ q. no_snoc after z (sym q ∙ e);
-          })
+          inl (record { rest = after; whole = (same_snoc rs (x.before ++ x.begin ∷ (x.steps ++ after)) r z w).0; behind = λ q. no_snoc after z (sym q ∙ e) })
 
-  pub all_alone_more : AllAlone o rs → ((x : RunsAlone o rs) → x.after ≡ [] → IsOwnStep x.client r → (left : ℕ) × (suc (length x.steps) + left ≡ cost_of o rs x) × NotesWith x.client left r.note) → AllAlone o (rs ++ r ∷ [])
-  all_alone_more all left x = go (split x)
-    where
-      go : Past x ⊎ (Goes x ⊎ Opens x) → IsAnsweredAt x.client (cost_of o (rs ++ r ∷ []) x) x.steps
-      go (inl p) = subst (λ (l : List Record). IsAnsweredAt x.client (cost_of o (rs ++ r ∷ []) x) l) p.steps (subst (λ (n : ℕ). IsAnsweredAt x.client n p.old.steps) p.cost (subst (λ (c : ℕ). IsAnsweredAt c (cost_of o rs p.old) p.old.steps) p.client (all p.old)))
-      go (inr (inl g)) =
-          let l = left g.old g.now g.own in
-          subst (λ (l : List Record). IsAnsweredAt x.client (cost_of o (rs ++ r ∷ []) x) l) (sym g.steps)
-          (subst (λ (n : ℕ). IsAnsweredAt x.client n (g.old.steps ++ r ∷ [])) g.cost
-          (subst (λ (c : ℕ). IsAnsweredAt c (cost_of o rs g.old) (g.old.steps ++ r ∷ [])) g.client (answered_more g.old.client (cost_of o rs g.old) g.old.steps r l.0 (all g.old) l.1 l.2)))
-      go (inr (inr b)) = subst (λ (l : List Record). IsAnsweredAt x.client (cost_of o (rs ++ r ∷ []) x) l) (sym b.none) (no_answers x.client (cost_of o (rs ++ r ∷ []) x))
+  -- the same call without the record
+  abbrev old_past : (x : RunsAlone o (rs ++ r ∷ [])) → Past x → RunsAlone o rs
+  old_past x p = record { before = x.before; begin = x.begin; steps = x.steps; after = p.rest; whole = p.whole; client = x.client; call = x.call; opens = x.opens; own = x.own }
 
-  pub all_underway_more : (ws : List ℕ) (clients : List ClientState)
-      → ((x : RunsAlone o rs) → x.after ≡ [] → IsOwnStep x.client r → (i : ℕ) (y : ClientState) → suc i ≡ x.client → nth clients i ≡ Some y → (left : ℕ) × (suc (length x.steps) + left ≡ cost_of o rs x) × EndsIn o.setup.pool ws left y.under)
-      → ((c : ℕ) (call : Call) (tags : List ℕ) (tail : ℕ) (version : Option Value) → OpensCall c call r → Finds o (words_after o.setup.pool o.words rs) call tags tail version
-      → (i : ℕ) (y : ClientState) → suc i ≡ c → nth clients i ≡ Some y → EndsIn o.setup.pool ws (cost call (length tags) tail version) y.under)
-      → AllUnderway o ws clients (rs ++ r ∷ [])
-  all_underway_more ws clients left opens x now i y seat here = go (split x)
-    where
-      go : Past x ⊎ (Goes x ⊎ Opens x) → (n : ℕ) × (length x.steps + n ≡ cost_of o (rs ++ r ∷ []) x) × EndsIn o.setup.pool ws n y.under
-      go (inl p) = absurd (p.behind now)
-      go (inr (inl g)) =
-          let l = left g.old g.now g.own i y (seat ∙ sym g.client) here in
-          let k = length-append g.old.steps (r ∷ []) in
-          let s : length x.steps ≡ length (g.old.steps ++ r ∷ []) = ap length g.steps in
-          let e = l.1 in let f = g.cost in
-          (l.0, omega arith, l.2)
-      go (inr (inr b)) =
+  abbrev old_goes : (x : RunsAlone o (rs ++ r ∷ [])) → Goes x → RunsAlone o rs
+  old_goes x g = record { before = x.before; begin = x.begin; steps = g.first; after = []; whole = g.whole; client = x.client; call = x.call; opens = x.opens; own = g.each }
+
+  -- what is found behind the same records
+  abbrev found_there : (c : ℕ) (call : Call) (before : List Record) → rs ≡ before → Finds o c rs call → Finds o c before call
+  found_there c call before e f = record {
+    slot = f.slot;
+    named = f.named;
+    cursor = f.cursor;
+    may = subst (λ (l : List Record). MayBegin (ended c l) (key_of call) f.cursor) e f.may;
+    way = f.way;
+    is = subst (λ (l : List Record). f.way ≡ way_from (mem_of o.setup.pool (words_after o.setup.pool o.words l)) f.slot f.cursor) e f.is;
+    tags = f.tags;
+    tail = f.tail;
+    leads = subst (λ (l : List Record). LeadsOver o.setup.pool (words_after o.setup.pool o.words l) f.way.from f.tags f.tail) e f.leads;
+    version = f.version;
+    has = subst (λ (l : List Record). HasVersion o.setup.pool (words_after o.setup.pool o.words l) f.tail f.version) e f.has;
+  }
+
+  module _ (all : AllAlone o rs) (ws : List ℕ) (clients : List ClientState) (found : (c : ℕ) (call : Call) → OpensCall c call r → Finds o c rs call)
+      (left : (x : RunsAlone o rs) → x.after ≡ [] → IsOwnStep x.client r → (n : ℕ) × (suc (length x.steps) + n ≡ cost_of o x.client x.before x.call (all x).0) × NotesWith x.client n r.note) where
+    abbrev finds : (x : RunsAlone o (rs ++ r ∷ [])) → Past x ⊎ (Goes x ⊎ Opens x) → Finds o x.client x.before x.call
+    finds x (inl p) = (all (old_past x p)).0
+    finds x (inr (inl g)) = (all (old_goes x g)).0
+    finds x (inr (inr b)) = found_there x.client x.call x.before b.whole (found x.client x.call b.opens)
+
+    answers : (x : RunsAlone o (rs ++ r ∷ [])) (s : Past x ⊎ (Goes x ⊎ Opens x)) → IsAnsweredAt x.client (cost_of o x.client x.before x.call (finds x s)) x.steps
+    answers x (inl p) = (all (old_past x p)).1
+    answers x (inr (inl g)) =
+        let old = all (old_goes x g) in
+        let l = left (old_goes x g) refl g.own in
+        subst (IsAnsweredAt x.client (cost_of o x.client x.before x.call old.0)) (sym g.steps) (answered_more x.client (cost_of o x.client x.before x.call old.0) g.first r l.0 old.1 l.1 l.2)
+    answers x (inr (inr b)) = subst (IsAnsweredAt x.client (cost_of o x.client x.before x.call (finds x (inr (inr b))))) (sym b.none) (no_answers x.client (cost_of o x.client x.before x.call (finds x (inr (inr b)))))
+
+    abbrev more : AllAlone o (rs ++ r ∷ [])
+    more x = (finds x (split x), answers x (split x))
+
+    module _ (stays : (x : RunsAlone o rs) (now : x.after ≡ []) (own : IsOwnStep x.client r) (i : ℕ) (y : ClientState) → suc i ≡ x.client → nth clients i ≡ Some y → EndsIn o.setup.pool ws (left x now own).0 y.under)
+        (begins : (c : ℕ) (call : Call) (opens : OpensCall c call r) (i : ℕ) (y : ClientState) → suc i ≡ c → nth clients i ≡ Some y → EndsIn o.setup.pool ws (cost_of o c rs call (found c call opens)) y.under) where
+      underway : (x : RunsAlone o (rs ++ r ∷ [])) → x.after ≡ [] → (i : ℕ) (y : ClientState) → suc i ≡ x.client → nth clients i ≡ Some y → (s : Past x ⊎ (Goes x ⊎ Opens x)) → (n : ℕ) × (length x.steps + n ≡ cost_of o x.client x.before x.call (finds x s)) × EndsIn o.setup.pool ws n y.under
+      underway x now i y seat here (inl p) = absurd (p.behind now)
+      underway x now i y seat here (inr (inl g)) =
+          let l = left (old_goes x g) refl g.own in
+          let k = length-append g.first (r ∷ []) in
+          let s : length x.steps ≡ length (g.first ++ r ∷ []) = ap length g.steps in
+          let e : suc (length g.first) + l.0 ≡ cost_of o x.client x.before x.call (all (old_goes x g)).0 = l.1 in
+          (l.0, (let q : length x.steps + l.0 ≡ suc (length g.first) + l.0 = omega arith in q ∙ e), stays (old_goes x g) refl g.own i y seat here)
+      underway x now i y seat here (inr (inr b)) =
+          let n : ℕ = cost_of o x.client rs x.call (found x.client x.call b.opens) in
           let s : length x.steps ≡ 0 = ap length b.none in
-          (cost_of o (rs ++ r ∷ []) x, omega arith, opens x.client x.call x.tags x.tail x.version b.opens b.finds i y seat here)
+          (n, omega arith, begins x.client x.call b.opens i y seat here)
 
--- what a call finds behind one record more
-pub all_found_more : (o : Opening) (rs : List Record) (r : Record) → AllFound o rs
-    → ((call : Call) (slot : ℕ) → Within (slot, key_of call) o.names → (tags : List ℕ) × (tail : ℕ) × (version : Option Value) × Finds o (words_after o.setup.pool o.words (rs ++ r ∷ [])) call tags tail version) → AllFound o (rs ++ r ∷ [])
-all_found_more o rs r all now before after call slot whole named = go (ending after)
-  where
-    go : (after ≡ []) ⊎ ((ys : List Record) × (y : Record) × (after ≡ ys ++ y ∷ [])) → (tags : List ℕ) × (tail : ℕ) × (version : Option Value) × Finds o (words_after o.setup.pool o.words before) call tags tail version
-    go (inl e) =
-        let here : rs ++ r ∷ [] ≡ before = whole ∙ ap (λ (l : List Record). before ++ l) e ∙ append-nil before in
-        subst (λ (l : List Record). (tags : List ℕ) × (tail : ℕ) × (version : Option Value) × Finds o (words_after o.setup.pool o.words l) call tags tail version) here (now call slot named)
-    go (inr (ys, y, e)) =
-        let there : rs ++ r ∷ [] ≡ (before ++ ys) ++ y ∷ [] = whole ∙ ap (λ (l : List Record). before ++ l) e ∙ sym (append_assoc before ys (y ∷ [])) in
-        all before ys call slot (same_snoc rs (before ++ ys) r y there).0 named
+      -- one record more: each call that ran alone up to it and makes it, or begins by it, is answered at its cost, and will be
+      pub alone_more : AloneSoFar o ws clients (rs ++ r ∷ [])
+      alone_more = record { all = more; underway = λ x now i y seat here. underway x now i y seat here (split x) }
 
 -- nothing has run alone before the first record
 none_before : (o : Opening) → RunsAlone o [] → ⊥
@@ -196,8 +181,5 @@ none_before o x =
     let l : 0 ≡ length (x.before ++ x.begin ∷ (x.steps ++ x.after)) = ap length x.whole in
     let k = length-append x.before (x.begin ∷ (x.steps ++ x.after)) in absurd (omega arith)
 
-pub alone_first : (o : Opening) → AllAlone o []
-alone_first o x = absurd (none_before o x)
-
-pub underway_first : (o : Opening) (ws : List ℕ) (clients : List ClientState) → AllUnderway o ws clients []
-underway_first o ws clients x = absurd (none_before o x)
+pub alone_first : (o : Opening) (ws : List ℕ) (clients : List ClientState) → AloneSoFar o ws clients []
+alone_first o ws clients = record { all = λ x. absurd (none_before o x); underway = λ x. absurd (none_before o x) }

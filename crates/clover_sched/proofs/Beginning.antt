@@ -1,15 +1,16 @@
 -- A client that was asked for a task: the tag of its next put, and that it stands where the records lead.
 use Prim.Native.Nat.{zero, suc}
-use Rattle.std.proofs.Common.{◌≡◌, ℕ, ltb, ◌+◌, ◌-◌, ◌*◌, ◌<◌, ◌≤◌, List, [], ◌∷◌, Bool, false, cond, if◌then◌else◌, refl, sym, ap, ◌∙◌, subst, arith}
-use Rattle.std.specs.Prelude.{Option, Some, None}
+use Rattle.std.proofs.Common.{◌≡◌, ℕ, ltb, ◌+◌, ◌-◌, ◌*◌, ◌<◌, ◌≤◌, List, [], ◌∷◌, Bool, true, false, cond, if◌then◌else◌, refl, sym, ap, ◌∙◌, subst, arith, inr}
+use Rattle.std.specs.Prelude.{Option, Some, None, IfSome}
 use Rattle.std.proofs.Math.Nat.{min-le_left, mul-le-mul_left}
 use Rattle.std.proofs.lemmas.Bool.Decides.{nat_tests}
 use Rattle.clover_words.specs.declared.bytes.ValueBuf.{ValueBuf}
+use Rattle.clover_words.specs.declared.pool.Pool.{Pool}
 use Rattle.clover_words.specs.declared.setup.Setup.{Setup}
 use Rattle.clover_words.specs.declared.word.Buffer.{Buffer}
 use Rattle.clover_words.specs.Place.{buffer_of}
 use Rattle.clover_words.specs.Preset.{HasDealt, buffers_total, dealt_number}
-use Rattle.clover_words.specs.Tag.{tag_number}
+use Rattle.clover_words.specs.Tag.{TagParts, tag_number}
 use Rattle.clover_map.specs.declared.bytes.Value.{Value}
 use Rattle.clover_map.specs.declared.call.Call.{Call}
 use Rattle.clover_map.specs.declared.call.Call.TheVariants.{Get as GetOf, Put as PutOf, Delete as DeleteOf, Swap as SwapOf}
@@ -27,8 +28,10 @@ use Rattle.clover_rule.proofs.Ties.{test_below}
 use Rattle.clover_plain.specs.Plain.{Plain, view_at}
 use Rattle.clover_plain.specs.Preset.{tag_at, dealt_from}
 use Rattle.clover_plain.proofs.Dealing.{tag_young, tag_inside}
-use Rattle.clover_walk.specs.Walking.{Walking, Holds, made_walk, key_at}
-use Rattle.clover_walk.proofs.Calling.{made_holds as walk_holds}
+use Rattle.clover_cache.specs.Node.{Known, cursor_at, asked}
+use Rattle.clover_walk.specs.Standing.{number_of}
+use Rattle.clover_walk.specs.Walking.{Walking, Holds, IsOnWay, made_walk, key_at}
+use Rattle.clover_walk.proofs.Calling.{made_holds as walk_holds, IsCursor as IsWalkCursor}
 use Rattle.clover_get.specs.Getting.{Getting, getting, Seeking}
 use Rattle.clover_get.proofs.Begins.{get_begins}
 use Rattle.clover_put.specs.Putting.{call_of}
@@ -41,9 +44,10 @@ use Rattle.clover_sched.specs.declared.client.Underway.TheVariants.{Nothing, Get
 use Rattle.clover_sched.specs.declared.event.Note.TheVariants.{Quiet, Missing, Refused}
 use Rattle.clover_sched.specs.declared.event.CallRefusal.TheVariants.{TooLong}
 use Rattle.clover_sched.specs.Beginning.{IsBegun, begun_put, no_value}
-use Rattle.clover_sched.specs.Client.{Stands, Starts, Begins, IsTask, size_of, UnderMatches, IsUnder, spent_by, stock_at}
+use Rattle.clover_sched.specs.Client.{Stands, Starts, Begins, IsTask, IsCursor, AreCursors, size_of, UnderMatches, IsUnder, spent_by, stock_at}
 use Rattle.clover_sched.specs.Folds.{Doing}
 use Rattle.clover_sched.specs.Run.{Opening, begin_note, room}
+use Rattle.clover_sched.proofs.Cursoring.{cursors_asked, cursor_held}
 
 -- the tag of a dealt buffer is of the pool
 pub dealt_range : (s : Setup) (k n : ℕ) (b : Buffer) → HasDealt s k n → b ≡ buffer_of s.pool (dealt_number s k n) → InRange s.pool (tag_number (record { node = b.node; index = b.index; generation = 0 }))
@@ -53,8 +57,8 @@ dealt_range s k n b h e =
     subst (λ (z : Buffer). InRange s.pool (tag_number (record { node = z.node; index = z.index; generation = 0 }))) (sym e)
     (tag_inside s.pool (dealt_number s k n) below, subst (λ (y : ℕ). y < s.pool.wear) (sym (tag_young s.pool (dealt_number s k n) below)) (omega arith))
 
-pub get_begun : (s : Setup) (slot c n : ℕ) (call : Call) (key : List ℕ) (w : Walking) (g : Getting) (into : ValueBuf) → call ≡ GetOf key → w ≡ made_walk s.pool slot None → g ≡ getting w Seeking → IsBegun s slot c n call (Get g into call)
-get_begun s slot c n call key w g into e ew eg = subst (λ (y : Call). IsBegun s slot c n y (Get g into y)) (sym e) (into, λ j. Get ((eg ∙ ap (λ (z : Walking). getting z Seeking) ew) j) into (GetOf key))
+pub get_begun : (s : Setup) (slot : ℕ) (known : Option ℕ) (c n : ℕ) (call : Call) (key : List ℕ) (w : Walking) (g : Getting) (into : ValueBuf) → call ≡ GetOf key → w ≡ made_walk s.pool slot known → g ≡ getting w Seeking → IsBegun s slot known c n call (Get g into call)
+get_begun s slot known c n call key w g into e ew eg = subst (λ (y : Call). IsBegun s slot known c n y (Get g into y)) (sym e) (into, λ j. Get ((eg ∙ ap (λ (z : Walking). getting z Seeking) ew) j) into (GetOf key))
 
 -- the stock begins with the tag that is dealt for the next put
 pub stock_first : (s : Setup) (c n : ℕ) → HasDealt s c n → (rest : List ℕ) × (stock_at s c n ≡ tag_at s.pool (dealt_number s c n) ∷ rest)
@@ -66,37 +70,87 @@ stock_first s c n h =
     go zero p = absurd (omega arith)
     go (suc m) p = (dealt_from s c (suc n) m, ap (λ (b : Bool). cond b (tag_at s.pool (dealt_number s c n) ∷ dealt_from s c (suc n) m) []) (test_below (dealt_number s c n + s.pool.slots) (buffers_total s.pool) h.number))
 
+-- a walk that was just made, whatever it begins at
+pub made_pool : (p : Pool) (s : ℕ) (k : Option ℕ) → (made_walk p s k).pool ≡ p
+made_pool p s None = refl
+made_pool p s (Some t) = refl
+
+made_slot : (p : Pool) (s : ℕ) (k : Option ℕ) → (made_walk p s k).slot ≡ s
+made_slot p s None = refl
+made_slot p s (Some t) = refl
+
+made_first : (p : Pool) (s : ℕ) (k : Option ℕ) → (made_walk p s k).first ≡ true
+made_first p s None = refl
+made_first p s (Some t) = refl
+
+made_on_way : (p : Pool) (s : ℕ) (k : Option ℕ) → IsOnWay (made_walk p s k).stand
+made_on_way p s None = tt
+made_on_way p s (Some t) = tt
+
+-- a walk may begin at a cursor that the client knows durable
+cursor_known : (p : Pool) (v : View) (slot : ℕ) (c : Option TagParts) → IfSome c (λ t. IsCursor p v (slot, t)) → IsWalkCursor slot (number_of c) v
+cursor_known p v slot None h = tt
+cursor_known p v slot (Some t) h = h.1
+
 module _ (o : Opening) (p : Plain) (i slot : ℕ) (x : ClientState) (idle : x.under ≡ Nothing) (st : Stands o p i x) where
   abbrev v : View
   v = view_at p i
 
+  abbrev known : Option ℕ
+  known = number_of (cursor_at slot x.cursors)
+
   abbrev walk : Walking
-  walk = made_walk o.setup.pool slot None
+  walk = made_walk o.setup.pool slot known
+
+  -- the client behind the begin
+  abbrev after : Underway → Known → ClientState
+  after u k = record { under = u; refusing = x.refusing; taken = x.taken; number = x.number; cursors = k }
+
+  nothing_since : [] ≡ cond walk.first [] v.pass.since
+  nothing_since = ap (λ (b : Bool). cond b [] v.pass.since) (sym (made_first o.setup.pool slot known))
 
   module _ (call : Call) (named : Within (slot, key_of call) o.names) (key : key_at o.names slot ≡ key_of call) where
     held : Holds walk v
-    held = walk_holds o.setup.pool slot (key_of call) None v st.pool (st.role ∙ ap ClientRole (sym (ap role_number st.role))) (subst (Within (slot, key_of call)) (sym st.names) named) tt
+    held = walk_holds o.setup.pool slot (key_of call) known v st.pool (st.role ∙ ap ClientRole (sym (ap role_number st.role))) (subst (Within (slot, key_of call)) (sym st.names) named) (cursor_known o.setup.pool v slot (cursor_at slot x.cursors) (cursor_held o.setup.pool v slot x.cursors st.cursors))
 
-    key_is : key_at v.pass.names slot ≡ key_of call
-    key_is = ap (λ (l : List (ℕ × List ℕ)). key_at l slot) st.names ∙ key
+    key_is : key_at v.pass.names walk.slot ≡ key_of call
+    key_is = ap (key_at v.pass.names) (made_slot o.setup.pool slot known) ∙ ap (λ (l : List (ℕ × List ℕ)). key_at l slot) st.names ∙ key
 
     get_under : (into : ValueBuf) → call ≡ GetOf (key_of call) → IsUnder o.setup.pool v (Get (getting walk Seeking) into call)
-    get_under into e = (tt, refl, get_begins walk v into refl tt held, e ∙ ap GetOf (sym key_is))
+    get_under into e = (tt, made_pool o.setup.pool slot known, get_begins walk v into (made_first o.setup.pool slot known) (made_on_way o.setup.pool slot known) held, e ∙ ap GetOf (sym key_is))
 
-    put_under : (j : Job) (value : Value) → HasDealt o.setup (suc i) x.taken → call ≡ call_of j (key_of call) value → IsUnder o.setup.pool v (begun_put o.setup slot (suc i) x.taken j value call)
+    put_under : (j : Job) (value : Value) → HasDealt o.setup (suc i) x.taken → call ≡ call_of j (key_of call) value → IsUnder o.setup.pool v (begun_put o.setup slot known (suc i) x.taken j value call)
     put_under j value d e =
-        let first = stock_first o.setup (suc i) x.taken d in
-        (tt, refl, put_holds walk v j (tag_at o.setup.pool (dealt_number o.setup (suc i) x.taken)) value held refl tt (first.0, st.stock ∙ first.1), e ∙ ap (λ (k : List ℕ). call_of j k value) (sym key_is))
+        let first = stock_first o.setup (suc i) x.taken d in (
+          tt,
+          made_pool o.setup.pool slot known,
+          put_holds walk v j (tag_at o.setup.pool (dealt_number o.setup (suc i) x.taken)) value held (made_first o.setup.pool slot known) (made_on_way o.setup.pool slot known) (first.0, st.stock ∙ first.1),
+          e ∙ ap (λ (k : List ℕ). call_of j k value) (sym key_is),
+        )
 
-  module _ (u : Underway) (call : Call) (written : ℕ) (is : IsUnder o.setup.pool v u) (new : (d : Doing) → UnderMatches u v (record { task = Some (ClientTask call written); decided = None; since = []; refusing = d.refusing }))
-      (more : spent_by u x.taken ≤ x.taken + takes call) (fits : written ≤ room o.setup) (first : Starts o (suc i) x.taken call u) where
-    going : Begins o p i x (record { under = u; refusing = x.refusing; taken = x.taken; number = x.number }) (ClientTask call written) Quiet
+  module _ (u : Underway) (k : Known) (asks : k ≡ asked slot x.cursors) (call : Call) (written : ℕ) (is : IsUnder o.setup.pool v u) (new : (d : Doing) → UnderMatches u v (record { task = Some (ClientTask call written); decided = None; since = []; refusing = d.refusing }))
+      (more : spent_by u x.taken ≤ x.taken + takes call) (fits : written ≤ room o.setup) (first : Starts o (suc i) x.taken x.cursors call u) where
+    going : Begins o p i x (after u k) (ClientTask call written) Quiet
     going = record {
-      stands = record { setup = st.setup; opened = st.opened; entered = st.entered; seat = st.seat; seats = st.seats; pool = st.pool; role = st.role; names = st.names; stock = st.stock; number = st.number; under = is };
+      stands = record {
+        setup = st.setup;
+        opened = st.opened;
+        entered = st.entered;
+        seat = st.seat;
+        seats = st.seats;
+        pool = st.pool;
+        role = st.role;
+        names = st.names;
+        stock = st.stock;
+        number = st.number;
+        under = is;
+        cursors = subst (AreCursors o.setup.pool v) (sym asks) (cursors_asked o.setup.pool v slot x.cursors st.cursors);
+      };
       says = λ d none. says d none;
       matches = λ d m. record { refusing = m.refusing; under = new d };
       spent = subst (λ (z : Underway). spent_by u x.taken ≤ spent_by z x.taken + takes call) (sym idle) more;
       starts = λ q. first;
+      asks = inr (slot, asks);
     }
       where
         there : ltb o.setup.clients (suc i) ≡ false
@@ -108,37 +162,40 @@ module _ (o : Opening) (p : Plain) (i slot : ℕ) (x : ClientState) (idle : x.un
         says : (d : Doing) → d.task ≡ None → Quiet ≡ begin_note o.setup d (suc i) (ClientTask call written)
         says d none = sym (ap (λ (t : Option Task). begin_note o.setup (record d { task = t }) (suc i) (ClientTask call written)) none ∙ ap (λ (b : Bool). if b then Missing (suc i) else (if ltb (room o.setup) written then Refused (suc i) (TooLong written (room o.setup)) else Quiet)) there ∙ ap (λ (b : Bool). if b then Refused (suc i) (TooLong written (room o.setup)) else Quiet) short)
 
-  begins_write : (slot1 : ℕ) (j : Job) (value : Value) (call : Call) (written : ℕ) → IsUnder o.setup.pool v (begun_put o.setup slot1 (suc i) x.taken j value call) → takes call ≡ 1 → written ≤ room o.setup → Starts o (suc i) x.taken call (begun_put o.setup slot1 (suc i) x.taken j value call)
-      → Begins o p i x (record { under = begun_put o.setup slot1 (suc i) x.taken j value call; refusing = x.refusing; taken = x.taken; number = x.number }) (ClientTask call written) Quiet
-  begins_write slot1 j value call written h one fits first = going (begun_put o.setup slot1 (suc i) x.taken j value call) call written h (λ d. ((written, refl), refl, refl)) (omega arith) fits first
+  module _ (k : Known) (asks : k ≡ asked slot x.cursors) where
+    begins_write : (j : Job) (value : Value) (call : Call) (written : ℕ) → IsUnder o.setup.pool v (begun_put o.setup slot known (suc i) x.taken j value call) → takes call ≡ 1 → written ≤ room o.setup → Starts o (suc i) x.taken x.cursors call (begun_put o.setup slot known (suc i) x.taken j value call)
+        → Begins o p i x (after (begun_put o.setup slot known (suc i) x.taken j value call) k) (ClientTask call written) Quiet
+    begins_write j value call written h one fits first = going (begun_put o.setup slot known (suc i) x.taken j value call) k asks call written h (λ d. ((written, refl), refl, nothing_since)) (omega arith) fits first
 
-  begins : (call : Call) (written : ℕ) (u : Underway) → Within (slot, key_of call) o.names → key_at o.names slot ≡ key_of call → IsBegun o.setup slot (suc i) x.taken call u → (takes call ≡ 1 → HasDealt o.setup (suc i) x.taken) → written ≤ room o.setup → size_of call ≤ room o.setup
-      → Begins o p i x (record { under = u; refusing = x.refusing; taken = x.taken; number = x.number }) (ClientTask call written) Quiet
-  begins (GetOf k) written u named key b stock fits size =
-      subst (λ (z : Underway). Begins o p i x (record { under = z; refusing = x.refusing; taken = x.taken; number = x.number }) (ClientTask (GetOf k) written) Quiet) (sym b.1)
-      (going (Get (getting walk Seeking) b.0 (GetOf k)) (GetOf k) written (get_under (GetOf k) named key b.0 refl) (λ d. ((written, refl), refl, refl)) (omega arith) fits (record { slot = slot; named = named; begun = (b.0, refl); fits = size; dealt = stock }))
-  begins (PutOf k value) written u named key b stock fits size =
-      subst (λ (z : Underway). Begins o p i x (record { under = z; refusing = x.refusing; taken = x.taken; number = x.number }) (ClientTask (PutOf k value) written) Quiet) (sym b)
-      (begins_write slot Put value (PutOf k value) written (put_under (PutOf k value) named key Put value (stock refl) refl) refl fits (record { slot = slot; named = named; begun = refl; fits = size; dealt = stock }))
-  begins (DeleteOf k) written u named key b stock fits size =
-      subst (λ (z : Underway). Begins o p i x (record { under = z; refusing = x.refusing; taken = x.taken; number = x.number }) (ClientTask (DeleteOf k) written) Quiet) (sym b)
-      (begins_write slot Delete no_value (DeleteOf k) written (put_under (DeleteOf k) named key Delete no_value (stock refl) refl) refl fits (record { slot = slot; named = named; begun = refl; fits = size; dealt = stock }))
-  begins (SwapOf k expected value) written u named key b stock fits size =
-      subst (λ (z : Underway). Begins o p i x (record { under = z; refusing = x.refusing; taken = x.taken; number = x.number }) (ClientTask (SwapOf k expected value) written) Quiet) (sym b.2)
-      (begins_write slot (Swap b.0) value (SwapOf k expected value) written (put_under (SwapOf k expected value) named key (Swap b.0) value (stock refl) (ap (λ (t : ℕ). SwapOf k t value) (sym b.1))) refl fits (record { slot = slot; named = named; begun = (b.0, b.1, refl); fits = size; dealt = stock }))
+    begins : (call : Call) (written : ℕ) (u : Underway) → Within (slot, key_of call) o.names → key_at o.names slot ≡ key_of call → IsBegun o.setup slot known (suc i) x.taken call u → (takes call ≡ 1 → HasDealt o.setup (suc i) x.taken) → written ≤ room o.setup → size_of call ≤ room o.setup
+        → Begins o p i x (after u k) (ClientTask call written) Quiet
+    begins (GetOf key) written u named is b stock fits size =
+        subst (λ (z : Underway). Begins o p i x (after z k) (ClientTask (GetOf key) written) Quiet) (sym b.1)
+        (going (Get (getting walk Seeking) b.0 (GetOf key)) k asks (GetOf key) written (get_under (GetOf key) named is b.0 refl) (λ d. ((written, refl), refl, nothing_since)) (omega arith) fits (record { slot = slot; named = named; begun = (b.0, refl); fits = size; dealt = stock }))
+    begins (PutOf key value) written u named is b stock fits size =
+        subst (λ (z : Underway). Begins o p i x (after z k) (ClientTask (PutOf key value) written) Quiet) (sym b)
+        (begins_write Put value (PutOf key value) written (put_under (PutOf key value) named is Put value (stock refl) refl) refl fits (record { slot = slot; named = named; begun = refl; fits = size; dealt = stock }))
+    begins (DeleteOf key) written u named is b stock fits size =
+        subst (λ (z : Underway). Begins o p i x (after z k) (ClientTask (DeleteOf key) written) Quiet) (sym b)
+        (begins_write Delete no_value (DeleteOf key) written (put_under (DeleteOf key) named is Delete no_value (stock refl) refl) refl fits (record { slot = slot; named = named; begun = refl; fits = size; dealt = stock }))
+    begins (SwapOf key expected value) written u named is b stock fits size =
+        subst (λ (z : Underway). Begins o p i x (after z k) (ClientTask (SwapOf key expected value) written) Quiet) (sym b.2)
+        (begins_write (Swap b.0) value (SwapOf key expected value) written (put_under (SwapOf key expected value) named is (Swap b.0) value (stock refl) (ap (λ (t : ℕ). SwapOf key t value) (sym b.1))) refl fits (record { slot = slot; named = named; begun = (b.0, b.1, refl); fits = size; dealt = stock }))
 
 -- what is kept of a value is no longer than what was written of it
 task_size : (s : Setup) (call : Call) (written : ℕ) → IsTask (ClientTask call written) → written ≤ room s → size_of call ≤ room s
 task_size s call written t h = let e = t.0 in let l = min-le_left written 1024 in omega arith
 
 -- the client begins the call of its task
-pub begins_task : (o : Opening) (p : Plain) (i slot client : ℕ) (x : ClientState) (s : Setup) (task : Task) (call : Call) (written : ℕ) (u : Underway) → IsTask task → x.under ≡ Nothing → task ≡ ClientTask call written → IsBegun s slot client x.taken call u → (takes (call_in task) ≡ 1 → HasDealt s client x.taken) → written ≤ 8 * s.pool.words
+pub begins_task : (o : Opening) (p : Plain) (i slot client : ℕ) (x : ClientState) (s : Setup) (task : Task) (call : Call) (written : ℕ) (cursor : Option TagParts) (k : Known) (u : Underway) → IsTask task → x.under ≡ Nothing → task ≡ ClientTask call written
+    → cursor ≡ cursor_at slot x.cursors → k ≡ asked slot x.cursors → IsBegun s slot (number_of cursor) client x.taken call u → (takes (call_in task) ≡ 1 → HasDealt s client x.taken) → written ≤ 8 * s.pool.words
     → suc i ≡ client → o.setup ≡ s → Within (slot, key_of (call_in task)) o.names → key_at o.names slot ≡ key_of (call_in task) → Stands o p i x
-    → Begins o p i x (record { under = u; refusing = x.refusing; taken = x.taken; number = x.number }) task Quiet
-begins_task o p i slot client x s task call written u kept idle is begun stock fits seat setup named key st =
-    subst (λ (t : Task). Begins o p i x (record { under = u; refusing = x.refusing; taken = x.taken; number = x.number }) t Quiet) (sym is)
-    (begins o p i slot x idle st call written u (subst (λ (t : Task). Within (slot, key_of (call_in t)) o.names) is named) (subst (λ (t : Task). key_at o.names slot ≡ key_of (call_in t)) is key)
-    (subst (λ (c : ℕ). IsBegun o.setup slot c x.taken call u) (sym seat) (subst (λ (z : Setup). IsBegun z slot client x.taken call u) (sym setup) begun))
+    → Begins o p i x (record { under = u; refusing = x.refusing; taken = x.taken; number = x.number; cursors = k }) task Quiet
+begins_task o p i slot client x s task call written cursor k u kept idle is found asks begun stock fits seat setup named key st =
+    subst (λ (t : Task). Begins o p i x (record { under = u; refusing = x.refusing; taken = x.taken; number = x.number; cursors = k }) t Quiet) (sym is)
+    (begins o p i slot x idle st k asks call written u (subst (λ (t : Task). Within (slot, key_of (call_in t)) o.names) is named) (subst (λ (t : Task). key_at o.names slot ≡ key_of (call_in t)) is key)
+    (subst (λ (c : ℕ). IsBegun o.setup slot (number_of (cursor_at slot x.cursors)) c x.taken call u) (sym seat) (subst (λ (z : Setup). IsBegun z slot (number_of (cursor_at slot x.cursors)) client x.taken call u) (sym setup)
+    (subst (λ (c : Option TagParts). IsBegun s slot (number_of c) client x.taken call u) found begun)))
     (λ one. subst (λ (c : ℕ). HasDealt o.setup c x.taken) (sym seat) (subst (λ (z : Setup). HasDealt z client x.taken) (sym setup) (stock (subst (λ (t : Task). takes (call_in t) ≡ 1) (sym is) one))))
     (subst (λ (z : Setup). written ≤ 8 * z.pool.words) (sym setup) fits)
     (task_size o.setup call written (subst IsTask is kept) (subst (λ (z : Setup). written ≤ 8 * z.pool.words) (sym setup) fits)))

@@ -1,11 +1,11 @@
 -- The chain of a slot in some words: it has at most as many tags as the pool has buffers.
-use Prim.Native.Nat.{suc}
 use Rattle.std.proofs.Common.{◌≡◌, ◌≢◌, ℕ, ◌+◌, ◌*◌, ◌/◌, ◌%◌, ◌<◌, List, [], ◌∷◌, ◌++◌, length, Bool, true, false, eqb, refl, sym, ap, ◌∙◌, subst, arith, inl, inr, ne_eqb, length-append}
 use Rattle.std.specs.Prelude.{Option, Some, None, map, ◌||◌}
 use Rattle.std.specs.List.{AllByRecursion, IsDistinct, list_any}
 use Rattle.std.proofs.lemmas.Bool.Decides.{nat_tests}
 use Rattle.std.proofs.lemmas.Map.Steps.{length-le_from_distinct_below}
 use Rattle.std.proofs.lemmas.Nat.{div-mul-add, mod-mul-add, mul-add-lt}
+use Rattle.std.proofs.lemmas.List.{length-map}
 use Rattle.clover_words.specs.declared.pool.Pool.{Pool}
 use Rattle.clover_rule.specs.Content.{InRange, inside}
 use Rattle.clover_rule.specs.Lists.{Each, Within}
@@ -17,7 +17,7 @@ use Rattle.clover_walk.specs.Alone.{LeadsOver}
 use Rattle.clover_walk.specs.Walking.{budget}
 
 -- where it begins says which chain it is
-pub one_walk : (m : Mem) (x : Option ℕ) (ts us : List ℕ) → Walk m x ts → Walk m x us → ts ≡ us
+one_walk : (m : Mem) (x : Option ℕ) (ts us : List ℕ) → Walk m x ts → Walk m x us → ts ≡ us
 one_walk m x [] [] a b = refl
 one_walk m x [] (u ∷ us) a b = absurd (let e : Some u ≡ None = sym b.0 ∙ a in cc)
 one_walk m x (t ∷ ts) [] a b = absurd (let e : Some t ≡ None = sym a.0 ∙ b in cc)
@@ -79,14 +79,10 @@ places_below p q (t ∷ ts) r h = go (places_below p q ts r.1) (eqb q (spot p t)
     go rest true e g = let same : q ≡ spot p t = grind (arith, nat_tests) in subst (λ (n : ℕ). n < p.nodes * p.buffers) (sym same) (spot_below p t r.0)
     go rest false e g = rest g
 
-length_places : (p : Pool) (ts : List ℕ) → length (map (spot p) ts) ≡ length ts
-length_places p [] = refl
-length_places p (t ∷ ts) = ap suc (length_places p ts)
-
--- the links before the tail do not reach the budget
-pub few_links : (p : Pool) (ws : List ℕ) (x : Option ℕ) (ts : List ℕ) (u : ℕ) → LeadsOver p ws x ts u → 0 + length ts < budget p
+-- the links before the tail do not reach the budget, with the two stale starts that a way may have neither
+pub few_links : (p : Pool) (ws : List ℕ) (x : Option ℕ) (ts : List ℕ) (u : ℕ) → LeadsOver p ws x ts u → length ts + 2 < budget p
 few_links p ws x ts u l =
     let n = length-le_from_distinct_below (map (spot p) (ts ++ u ∷ [])) (p.nodes * p.buffers) (distinct p (mem_of p ws) x (ts ++ u ∷ []) l.walk l.range) (λ q h. places_below p q (ts ++ u ∷ []) l.range h) in
-    let e = length_places p (ts ++ u ∷ []) in
+    let e = length-map (ts ++ u ∷ []) (spot p) in
     let k = length-append ts (u ∷ []) in
     omega arith

@@ -1,66 +1,56 @@
--- What a call finds at any moment: the chain of a named slot leads over some tags to a tail, which has a version.
+-- What a call finds at any moment: from a durable tag that is live, and from the root, the chain of a named slot leads over some tags to a tail, which has a version; and from there the call ends, if it runs alone, in as many accesses as it costs.
 use Prim.Native.Nat.{zero, suc}
-use Rattle.std.proofs.Common.{◌≡◌, ℕ, ◌+◌, ◌<◌, ◌≤◌, List, [], ◌∷◌, ◌++◌, length, drop, refl, sym, ap, ◌∙◌, subst, arith}
-use Rattle.std.specs.Prelude.{Option, Some, None}
+use Rattle.std.proofs.Common.{◌≡◌, ◌≢◌, ℕ, ◌+◌, ◌-◌, ◌<◌, ◌≤◌, List, [], ◌∷◌, ◌++◌, length, Bool, true, false, refl, sym, ap, ◌∙◌, subst, arith, eqb-true}
+use native.Mathlib.Decide.{dec_le}
+use Rattle.std.specs.Prelude.{Option, Some, None, IfSome}
+use Rattle.std.specs.FinMap as finite
+use Rattle.std.proofs.lemmas.Option.{IfSome_then}
 use Rattle.clover_words.specs.declared.pool.Pool.{Pool}
 use Rattle.clover_words.specs.declared.setup.Setup.{Setup}
 use Rattle.clover_words.specs.declared.word.Side.TheVariants.{Current}
 use Rattle.clover_words.specs.declared.word.Word.TheVariants.{Next as NextOf}
+use Rattle.clover_words.specs.Preset.{HasDealt, dealt_number}
+use Rattle.clover_words.specs.Tag.{TagParts, tag_number}
 use Rattle.clover_map.specs.Tagged.{Tagged}
 use Rattle.clover_map.specs.History.{key_of}
 use Rattle.clover_map.specs.declared.bytes.Value.{Value}
 use Rattle.clover_map.specs.declared.call.Call.{Call}
 use Rattle.clover_map.specs.declared.call.Entry.{Entry}
+use Rattle.clover_script.specs.Lines.{takes}
 use Rattle.clover_rule.specs.Content.{Fits, InRange, content}
 use Rattle.clover_rule.specs.History.{Version}
-use Rattle.clover_rule.specs.Image.{tags}
 use Rattle.clover_rule.specs.Lists.{Each, nth, Within}
 use Rattle.clover_rule.specs.Meets.{Meets}
-use Rattle.clover_rule.specs.Memory.{Mem, word, home, age}
+use Rattle.clover_rule.specs.Memory.{Mem, word, gen, link, home, age}
 use Rattle.clover_rule.specs.Parts.{Walk}
-use Rattle.clover_rule.specs.Story.{Story, tag_at, tag_in_version}
+use Rattle.clover_rule.specs.Story.{Story, Chained, Stocked, Durable, tag_at, tag_in_version}
+use Rattle.clover_rule.specs.Views.{Owned, ViewOk}
 use Rattle.clover_rule.specs.Words.{mem_of, next_code, buffer_at}
 use Rattle.clover_rule.specs.declared.view.View.{View}
-use Rattle.clover_rule.proofs.Derived.{chains, drop_within}
 use Rattle.clover_rule.proofs.Keeping.{read_next, read_body}
-use Rattle.clover_rule.proofs.Steps.{within_prefix}
+use Rattle.clover_rule.proofs.Standings.{tag_within}
+use Rattle.clover_rule.proofs.Steps.{each_map, each_within, within_prefix}
 use Rattle.clover_rule.proofs.Ties.{buffer_in}
-use Rattle.clover_plain.specs.Plain.{Plain, Running, view_at, outset}
+use Rattle.clover_rule.proofs.Tools.{nth_none, nth_past, nth_within}
+use Rattle.clover_plain.specs.Plain.{Plain, Running, history, view_at, outset}
+use Rattle.clover_plain.specs.Preset.{tag_at as dealt_tag}
 use Rattle.clover_plain.proofs.Stepping.{nth_default}
-use Rattle.clover_walk.specs.Alone.{LeadsOver, HasVersion}
+use Rattle.clover_walk.specs.Alone.{Way, way_from, way_from_short, is_live, LeadsOver, ComesBy, HasVersion}
+use Rattle.clover_walk.specs.Standing.{number_of}
+use Rattle.clover_walk.specs.Walking.{made_walk}
+use Rattle.clover_walk.specs.declared.start.Start.TheVariants.{FromCursor, FromShort, FromRoot}
 use Rattle.clover_walk.proofs.Alone.{content_words}
 use Rattle.clover_sched.specs.declared.client.ClientState.{ClientState}
-use Rattle.clover_sched.specs.Alone.{Finds}
-use Rattle.clover_sched.specs.Client.{Stands}
-use Rattle.clover_sched.specs.Run.{Opening}
-use Rattle.clover_sched.proofs.Places.{nth_within}
-use Rattle.clover_sched.proofs.Starting.{each_of, value_fits, dead_fits}
-
--- the versions from a place on end with the last one
-record Ends (ws : List Version) (n : ℕ) : Type 0 where
-  pub before : List ℕ
-  pub place : ℕ
-  pub last : Version
-  pub there : nth ws place ≡ Some last
-  pub whole : suc place ≡ length ws
-  pub behind : n ≤ place
-  pub split : tags (drop n ws) ≡ before ++ last.tag ∷ []
-
-ends_at : (ws : List Version) (n : ℕ) → n < length ws → Ends ws n
-ends_at [] n l = absurd (omega arith)
-ends_at (x ∷ []) zero l = record { before = []; place = 0; last = x; there = refl; whole = refl; behind = omega arith; split = refl }
-ends_at (x ∷ []) (suc n) l = absurd (omega arith)
-ends_at (x ∷ y ∷ ws) zero l =
-    let q = ends_at (y ∷ ws) zero (omega arith) in
-    record { before = x.tag ∷ q.before; place = suc q.place; last = q.last; there = q.there; whole = ap suc q.whole; behind = omega arith; split = ap (λ (ts : List ℕ). x.tag ∷ ts) q.split }
-ends_at (x ∷ y ∷ ws) (suc n) l =
-    let q = ends_at (y ∷ ws) n (omega arith) in
-    record { before = q.before; place = suc q.place; last = q.last; there = q.there; whole = ap suc q.whole; behind = (let b = q.behind in omega arith); split = q.split }
-
-nth_past : (ws : List Version) (i : ℕ) → length ws ≤ i → nth ws i ≡ None
-nth_past [] i l = refl
-nth_past (x ∷ ws) zero l = absurd (omega arith)
-nth_past (x ∷ ws) (suc i) l = nth_past ws i (omega arith)
+use Rattle.clover_sched.specs.declared.client.Underway.{Underway}
+use Rattle.clover_sched.specs.Alone.{EndsIn, Finds, cost_of}
+use Rattle.clover_sched.specs.Beginning.{IsBegun}
+use Rattle.clover_sched.specs.Client.{Stands, IsCursor, size_of}
+use Rattle.clover_sched.specs.Ends.{ended, MayBegin}
+use Rattle.clover_sched.specs.Folds.{words_after}
+use Rattle.clover_sched.specs.Record.{Record}
+use Rattle.clover_sched.specs.Run.{Opening, room}
+use Rattle.clover_sched.proofs.Beginning.{stock_first}
+use Rattle.clover_sched.proofs.Starting.{comes_made, starts, value_fits, dead_fits}
 
 -- a content has no more words than a buffer
 content_fits : (p : Pool) (x : Option Value) → Fits p x → length (content x) ≤ p.words + 1
@@ -71,61 +61,203 @@ module _ (p : Pool) (first : Tagged) (used : List ℕ) (ws : List ℕ) (vs : Lis
   abbrev m : Mem
   m = mem_of p ws
 
+  -- what a walk of the slot that goes on from there comes to: the tags on its way and the tail, each in a buffer of the slot's chain, and the tail's version
+  record Onward (s : ℕ) (from : Option ℕ) : Type 0 where
+    pub tags : List ℕ
+    pub tail : ℕ
+    pub leads : LeadsOver p ws from tags tail
+    pub version : Option Value
+    pub has : HasVersion p ws tail version
+    pub placed : Each (λ (t : ℕ). st.place (home t) ≡ Chained s) (tags ++ tail ∷ [])
+
+  -- the version at a place that is not recycled stands on the slot's chain, and its link leads to the next place
+  record Standing (s i : ℕ) (w : Version) : Type 0 where
+    pub tag : tag_at st s i ≡ Some w.tag
+    pub range : InRange p w.tag
+    pub now : m.next (home w.tag) ≡ word (age w.tag) (tag_at st s (suc i))
+    pub placed : st.place (home w.tag) ≡ Chained s
+
+  stands_at : (s i : ℕ) (w : Version) → nth (st.log s) i ≡ Some w → st.gone s ≤ i → Standing s i w
+  stands_at s i w e gone =
+      let tag : tag_at st s i ≡ Some w.tag = ap tag_in_version e in
+      let z = r.whole.basis.core.standing s i w.tag tag gone in
+      record { tag = tag; range = r.whole.help.ranged.tags s i w.tag tag; now = z.now; placed = z.placed }
+
+  -- the last version's words are what its content and its unlinked tag say
   has_version : (s i : ℕ) (w : Version) → nth (st.log s) i ≡ Some w → suc i ≡ length (st.log s) → st.gone s ≤ i → HasVersion p ws w.tag w.value
   has_version s i w e whole gone = record {
-    next = sym (r.decodes (NextOf (buffer_at (home w.tag))) Current (buffer_in p (home w.tag) range.0) tt) ∙ ap next_code (sym (read_next p ws (home w.tag) range.0) ∙ stands);
+    next = sym (r.decodes (NextOf (buffer_at (home w.tag))) Current (buffer_in p (home w.tag) z.range.0) tt) ∙ ap next_code (sym (read_next p ws (home w.tag) z.range.0) ∙ unlinked);
     fits = fits;
     words = λ j x q.
         let l = nth_within (content w.value) j x q in
         let k = content_fits p w.value fits in
-        sym (read_body p ws (home w.tag) j range.0 (omega arith)) ∙ (r.whole.basis.bodies s i w e gone j x q).0;
+        sym (read_body p ws (home w.tag) j z.range.0 (omega arith)) ∙ (r.whole.basis.bodies s i w e gone j x q).0;
   }
     where
-      tag : tag_at st s i ≡ Some w.tag
-      tag = ap tag_in_version e
-
-      range : InRange p w.tag
-      range = r.whole.help.ranged.tags s i w.tag tag
+      z : Standing s i w
+      z = stands_at s i w e gone
 
       fits : Fits p w.value
       fits = r.whole.help.ranged.fits s i w e
 
-      stands : m.next (home w.tag) ≡ word (age w.tag) None
-      stands = (r.whole.basis.core.standing s i w.tag tag gone).now ∙ ap (λ (v : Option Version). word (age w.tag) (tag_in_version v)) (nth_past (st.log s) (suc i) (omega arith))
+      unlinked : m.next (home w.tag) ≡ word (age w.tag) None
+      unlinked = z.now ∙ ap (λ (v : Option Version). word (age w.tag) (tag_in_version v)) (nth_none (st.log s) (suc i) (omega arith))
 
-  finds_slot : (id : ℕ) (v : View) → nth vs id ≡ Some v → (s : ℕ) (k : List ℕ) → Within (s, k) v.pass.names → (ts : List ℕ) × (u : ℕ) × (x : Option Value) × LeadsOver p ws (m.root s) ts u × HasVersion p ws u x
-  finds_slot id v at s k name =
-      let b = r.whole.basis in
-      let ok = b.views id v at in
-      let bound = b.bound s k (subst (Within (s, k)) (sym ok.names.1) (within_prefix (s, k) v.pass.names ok.names.0 name)) in
-      let low = b.core.rooted s (r.whole.help.keyed.filled s k bound.0) in
-      let most = b.core.sure_most s in
-      let led = b.core.led s in
-      let q = ends_at (st.log s) (st.lead s) (omega arith) in
-      let behind = q.behind in (
-        q.before,
-        q.last.tag,
-        q.last.value,
-        record {
-          walk = subst (Walk m (m.root s)) q.split ((chains m st b.core).walk s);
-          range = subst (Each (InRange p)) q.split (each_of (InRange p) (tags (drop (st.lead s) (st.log s))) (λ t w. let d = drop_within (st.lead s) (st.log s) t w in r.whole.help.ranged.tags s d.0 t d.2));
-        },
-        has_version s q.place q.last q.there q.whole (omega arith),
-      )
-
--- a call on a named key finds its chain and its version
-pub finds_now : (o : Opening) (p : Plain) (i : ℕ) (x : ClientState) → Stands o p i x → Running p → (call : Call) (slot : ℕ) → Within (slot, key_of call) o.names → (ts : List ℕ) × (u : ℕ) × (v : Option Value) × Finds o p.words call ts u v
-finds_now o p i x st running call slot named =
-    let seats = st.seats in let seat = st.seat in
-    let here : nth p.views i ≡ Some (view_at p i) = nth_default p.views i (outset p.setup) (omega arith) in
-    let f = finds_slot p.setup.pool _ _ p.words p.views running.rule.story _ running.rule.helped i (view_at p i) here slot (key_of call) (subst (Within (slot, key_of call)) (sym st.names) named) in (
-      f.0,
-      f.1,
-      f.2,
+  ends_here : (s i : ℕ) → suc i ≡ length (st.log s) → st.gone s ≤ i → (v : Option Version) → nth (st.log s) i ≡ v → Onward s (tag_at st s i)
+  ends_here s i whole gone None e = absurd (let l = nth_past (st.log s) i e in omega arith)
+  ends_here s i whole gone (Some w) e =
+      let z = stands_at s i w e gone in
       record {
-        slot = slot;
-        named = named;
-        leads = subst (λ (s : Setup). LeadsOver s.pool p.words ((mem_of s.pool p.words).root slot) f.0 f.1) st.setup f.3;
-        has = subst (λ (s : Setup). HasVersion s.pool p.words f.1 f.2) st.setup f.4;
-      },
+        tags = [];
+        tail = w.tag;
+        leads = record { walk = (z.tag, ap gen z.now, ap link z.now ∙ ap tag_in_version (nth_none (st.log s) (suc i) (omega arith))); range = (z.range, tt) };
+        version = w.value;
+        has = has_version s i w e whole gone;
+        placed = (z.placed, tt);
+      }
+
+  goes_on_here : (s i : ℕ) → i < length (st.log s) → st.gone s ≤ i → Onward s (tag_at st s (suc i)) → (v : Option Version) → nth (st.log s) i ≡ v → Onward s (tag_at st s i)
+  goes_on_here s i inside gone rest None e = absurd (let l = nth_past (st.log s) i e in omega arith)
+  goes_on_here s i inside gone rest (Some w) e =
+      let z = stands_at s i w e gone in
+      record {
+        tags = w.tag ∷ rest.tags;
+        tail = rest.tail;
+        leads = record { walk = (z.tag, ap gen z.now, subst (λ (x : Option ℕ). Walk m x (rest.tags ++ rest.tail ∷ [])) (sym (ap link z.now)) rest.leads.walk); range = (z.range, rest.leads.range) };
+        version = rest.version;
+        has = rest.has;
+        placed = (z.placed, rest.placed);
+      }
+
+  -- from a place that is not recycled, with n places behind it
+  from_place : (s n i : ℕ) → suc (i + n) ≡ length (st.log s) → st.gone s ≤ i → Onward s (tag_at st s i)
+  from_place s zero i whole gone = ends_here s i (omega arith) gone (nth (st.log s) i) refl
+  from_place s (suc n) i whole gone = goes_on_here s i (omega arith) gone (from_place s n (suc i) (omega arith) (omega arith)) (nth (st.log s) i) refl
+
+  onward : (s i : ℕ) → i < length (st.log s) → st.gone s ≤ i → Onward s (tag_at st s i)
+  onward s i inside gone = from_place s (length (st.log s) - suc i) i (omega arith) gone
+
+  -- from a durable tag that is live
+  from_live : (s t : ℕ) → Durable st s t → is_live m t ≡ true → Onward s (Some t)
+  from_live s t d live = go (dec_le (st.gone s) d.0)
+    where
+      go : Dec (st.gone s ≤ d.0) → Onward s (Some t)
+      go (yes a) = subst (Onward s) d.1 (onward s d.0 (tag_within st s d.0 t d.1) a)
+      go (no a) =
+          let e : gen (m.next (home t)) ≡ age t = eqb-true (gen (m.next (home t))) (age t) live in
+          let l = (r.whole.basis.core.passed s d.0 t d.1 (omega arith)).later in absurd (omega arith)
+
+  -- from the root of a slot that has a key
+  from_root : (s : ℕ) (k : List ℕ) → st.keys s ≡ Some k → Onward s (m.root s)
+  from_root s k e =
+      let c = r.whole.basis.core in
+      let low = c.rooted s (r.whole.help.keyed.filled s k e) in
+      let most = c.sure_most s in
+      let led = c.led s in
+      subst (Onward s) (sym (c.root s)) (onward s (st.lead s) (omega arith) (omega arith))
+
+  durable_range : (s t : ℕ) → Durable st s t → InRange p t
+  durable_range s t d = r.whole.help.ranged.tags s d.0 t d.1
+
+  short_range : (s : ℕ) (x : Option ℕ) → m.short s ≡ x → IfSome x (InRange p)
+  short_range s None e = tt
+  short_range s (Some t) e = durable_range s t (r.whole.help.short s t e)
+
+  -- a way with so many stale starts at most, and what it comes to
+  record Comes (s n : ℕ) (y : Way) : Type 0 where
+    pub few : y.stale ≤ n
+    pub onward : Onward s y.from
+
+  module _ (s : ℕ) (k : List ℕ) (key : st.keys s ≡ Some k) where
+    abbrev at_root : ℕ → ℕ → Way
+    at_root loads stale = record { loads = loads; stale = stale; start = FromRoot; from = m.root s }
+
+    short_tag : (t : ℕ) → m.short s ≡ Some t → (b : Bool) → is_live m t ≡ b → Comes s 1 (way_from_short m s)
+    short_tag t e true live = subst (Comes s 1) (let q : record { loads = 1; stale = 0; start = FromShort; from = Some t } ≡ way_from_short m s = rw (e, live) refl in q) (record { few = omega arith; onward = from_live s t (r.whole.help.short s t e) live })
+    short_tag t e false stale = subst (Comes s 1) (let q : at_root 3 1 ≡ way_from_short m s = rw (e, stale) refl in q) (record { few = omega arith; onward = from_root s k key })
+
+    short_comes : (x : Option ℕ) → m.short s ≡ x → Comes s 1 (way_from_short m s)
+    short_comes None e = subst (Comes s 1) (let q : at_root 2 0 ≡ way_from_short m s = rw e refl in q) (record { few = omega arith; onward = from_root s k key })
+    short_comes (Some t) e = short_tag t e (is_live m t) refl
+
+    cursor_comes : (t : ℕ) → Durable st s t → (b : Bool) → is_live m t ≡ b → Comes s 2 (way_from m s (Some t))
+    cursor_comes t d true live = subst (Comes s 2) (let q : record { loads = 0; stale = 0; start = FromCursor; from = Some t } ≡ way_from m s (Some t) = rw live refl in q) (record { few = omega arith; onward = from_live s t d live })
+    cursor_comes t d false stale =
+        let y : Way = way_from_short m s in
+        let z = short_comes (m.short s) refl in
+        subst (Comes s 2) (let q : record { loads = suc y.loads; stale = suc y.stale; start = y.start; from = y.from } ≡ way_from m s (Some t) = rw stale refl in q) (record { few = let l = z.few in omega arith; onward = z.onward })
+
+    comes : (known : Option ℕ) → IfSome known (Durable st s) → Comes s 2 (way_from m s known)
+    comes None d = let z = short_comes (m.short s) refl in record { few = let l = z.few in omega arith; onward = z.onward }
+    comes (Some t) d = cursor_comes t d (is_live m t) refl
+
+-- a call of the client on a named slot, from a cursor that it knows durable or from none, finds its way behind the records, and ends in as many accesses as that costs
+module _ (o : Opening) (rs : List Record) (p : Plain) (i : ℕ) (x : ClientState) (st : Stands o p i x) (running : Running p) (words : p.words ≡ words_after o.setup.pool o.words rs) (call : Call) (slot : ℕ) (named : Within (slot, key_of call) o.names) (cursor : Option TagParts)
+    (held : IfSome cursor (λ t. IsCursor o.setup.pool (view_at p i) (slot, t))) where
+  abbrev ws : List ℕ
+  ws = words_after o.setup.pool o.words rs
+
+  abbrev known : Option ℕ
+  known = number_of cursor
+
+  abbrev story : Story
+  story = running.rule.story
+
+  met : Meets o.setup.pool finite.empty [] ws p.views story (history p)
+  met = subst (λ (s : Setup). Meets s.pool finite.empty [] ws p.views story (history p)) st.setup (subst (λ (l : List ℕ). Meets p.setup.pool finite.empty [] l p.views story (history p)) words running.rule.helped)
+
+  view_ok : ViewOk (mem_of o.setup.pool ws) story (history p) i (view_at p i)
+  view_ok = let seats = st.seats in let seat = st.seat in met.whole.basis.views i (view_at p i) (nth_default p.views i (outset p.setup) (omega arith))
+
+  has_key : story.keys slot ≡ Some (key_of call)
+  has_key = (met.whole.basis.bound slot (key_of call) (subst (Within (slot, key_of call)) (sym view_ok.names.1) (within_prefix (slot, key_of call) (view_at p i).pass.names view_ok.names.0 (subst (Within (slot, key_of call)) (sym st.names) named)))).0
+
+  is_durable : (c : Option TagParts) → IfSome c (λ t. IsCursor o.setup.pool (view_at p i) (slot, t)) → IfSome (number_of c) (Durable story slot)
+  is_durable None h = tt
+  is_durable (Some t) h = each_within (λ (q : ℕ × ℕ). Durable story q.0 q.1) (slot, tag_number t) (view_at p i).pass.durable view_ok.durable h.1
+
+  abbrev way : Way
+  way = way_from (mem_of o.setup.pool ws) slot known
+
+  here : Comes o.setup.pool finite.empty [] ws p.views story (history p) met slot 2 way
+  here = comes o.setup.pool finite.empty [] ws p.views story (history p) met slot (key_of call) has_key known (is_durable cursor held)
+
+  comes_here : ComesBy ws (made_walk o.setup.pool slot known) known way here.onward.tags here.onward.tail
+  comes_here = comes_made o.setup.pool ws slot known way here.onward.tags here.onward.tail
+      (met.whole.help.keyed.slots slot (key_of call) has_key)
+      (IfSome_then known (is_durable cursor held) (durable_range o.setup.pool finite.empty [] ws p.views story (history p) met slot))
+      (short_range o.setup.pool finite.empty [] ws p.views story (history p) met slot ((mem_of o.setup.pool ws).short slot) refl)
+      refl here.onward.leads here.few
+
+  abbrev own_tag : ℕ
+  own_tag = dealt_tag o.setup.pool (dealt_number o.setup (suc i) x.taken)
+
+  -- the buffer of the client's next put is on no chain
+  off_chain : HasDealt o.setup (suc i) x.taken → Each (λ (t : ℕ). home t ≢ home own_tag) (here.onward.tags ++ here.onward.tail ∷ [])
+  off_chain d =
+      let first = stock_first o.setup (suc i) x.taken d in
+      let own = (subst (Each (Owned (mem_of o.setup.pool ws) story i)) (st.stock ∙ first.1) view_ok.stocked).0 in
+      each_map {P = λ (t : ℕ). story.place (home t) ≡ Chained slot} {Q = λ (t : ℕ). home t ≢ home own_tag} (λ t c e. let k : Chained slot ≡ Stocked i = sym c ∙ ap story.place e ∙ own.0 in absurd cc) (here.onward.tags ++ here.onward.tail ∷ []) here.onward.placed
+
+  module _ (may : MayBegin (ended (suc i) rs) (key_of call) known) where
+    abbrev finds_here : Finds o (suc i) rs call
+    finds_here = record {
+      slot = slot;
+      named = named;
+      cursor = known;
+      may = may;
+      way = way;
+      is = refl;
+      tags = here.onward.tags;
+      tail = here.onward.tail;
+      leads = here.onward.leads;
+      version = here.onward.version;
+      has = here.onward.has;
+    }
+
+    pub begins_alone : (f : Finds o (suc i) rs call) × ((u : Underway) → IsBegun o.setup slot known (suc i) x.taken call u → size_of call ≤ room o.setup → (takes call ≡ 1 → HasDealt o.setup (suc i) x.taken) → EndsIn o.setup.pool p.words (cost_of o (suc i) rs call f) u)
+    begins_alone = (
+      finds_here,
+      λ u begun fits dealt. subst (λ (l : List ℕ). EndsIn o.setup.pool l (cost_of o (suc i) rs call finds_here) u) (sym words)
+          (starts o.setup (suc i) x.taken ws slot known way here.onward.tags here.onward.tail here.onward.version comes_here here.onward.has off_chain call u begun fits dealt),
     )

@@ -1,8 +1,10 @@
 -- What a step of a get is in a run: its access decides nothing, or it decides the call, or the call ends without an answer.
-use Rattle.std.proofs.Common.{◌≡◌, ◌≢◌, ℕ, suc, ◌+◌, ◌-◌, ◌^◌, ◌<◌, ◌≤◌, ◌==◌, List, [], ◌∷◌, ◌++◌, length, Bool, true, false, cond, refl, sym, ap, ◌∙◌, subst, arith, eqb, eq-eqb, length-append}
+use Rattle.std.proofs.Common.{◌≡◌, ◌≢◌, ℕ, suc, ◌+◌, ◌-◌, ◌^◌, ◌<◌, ◌≤◌, ◌==◌, List, [], ◌∷◌, ◌++◌, length, get_or, Bool, true, false, cond, refl, sym, ap, ◌∙◌, subst, arith, eq-eqb}
 use Rattle.std.specs.Prelude.{Option, Some, None}
 use Rattle.clover_words.specs.declared.bytes.ValueBuf.{ValueBuf}
+use Rattle.clover_words.specs.declared.pool.Pool.{Pool}
 use Rattle.clover_words.specs.declared.setup.Setup.{Setup}
+use Rattle.clover_words.specs.Tag.{TagParts, tag_number}
 use Rattle.clover_map.specs.declared.call.Call.{Call}
 use Rattle.clover_map.specs.declared.call.Call.TheVariants.{Get as GetOf}
 use Rattle.clover_map.specs.declared.call.Entry.{Entry}
@@ -11,16 +13,18 @@ use Rattle.clover_map.specs.declared.call.Reply.TheVariants.{Found, Absent}
 use Rattle.clover_map.specs.History.{own}
 use Rattle.clover_script.specs.declared.line.Task.TheVariants.{Client as ClientTask}
 use Rattle.clover_rule.specs.Accesses.{CameBack, Decides}
+use Rattle.clover_rule.specs.Content.{InRange}
 use Rattle.clover_rule.specs.Knowing.{link_entry}
-use Rattle.clover_rule.specs.Memory.{Next, word, age}
+use Rattle.clover_rule.specs.Lists.{Within}
 use Rattle.clover_rule.specs.Steps.{Step, DecideNext, act_of, found, turn_of, words_after_step, next_history, unlinked, client, number_of}
-use Rattle.clover_rule.specs.Words.{next_of, root_of}
 use Rattle.clover_rule.specs.declared.access.Act.{Act}
 use Rattle.clover_rule.specs.declared.view.View.{View}
+use Rattle.clover_rule.proofs.Tools.{length_snoc}
 use Rattle.clover_port.specs.Told.{Open, Made}
-use Rattle.clover_plain.specs.Plain.{Plain, Accessed, KeptButEntries, view_at, history, open_of, access}
+use Rattle.clover_plain.specs.Plain.{Plain, Accessed, KeptButEntries, outset, view_at, history, open_of, access}
+use Rattle.clover_cache.specs.Node.{Known, IsSet}
 use Rattle.clover_walk.specs.Ending.{Ended}
-use Rattle.clover_walk.specs.Walking.{Walking, Stand, AtRoot, AtTag, AtLink, OnTail, Ended as StandEnded, IsOnWay, hops, followed, rooted, goes_from, goes_on, key_at, budget, step_at}
+use Rattle.clover_walk.specs.Walking.{Walking, Stand, AtShort, AtRoot, AtTag, AtLink, OnTail, Ended as StandEnded, IsOnWay, goes_from, goes_on, key_at, budget}
 use Rattle.clover_walk.proofs.Endings.{stepped as stepped_so}
 use Rattle.clover_get.specs.Alone.{Moment, GoesAlone}
 use Rattle.clover_get.specs.Getting.{Getting, Stage, Seeking, AtMeta, AtValue, AtFound, AtDead, AtBad, Over, IsOpen, getting, sought, step_from, get_step, GoesFrom, GoesOn, FillsFrom, value_in}
@@ -32,12 +36,17 @@ use Rattle.clover_sched.specs.declared.client.Underway.TheVariants.{Nothing, Get
 use Rattle.clover_sched.specs.declared.event.CallRefusal.TheVariants.{Unreached, Behind}
 use Rattle.clover_sched.specs.declared.event.Note.TheVariants.{Quiet, Answered, Refused}
 use Rattle.clover_sched.specs.Alone.{GetEnds, EndsIn, Advances}
-use Rattle.clover_sched.specs.Client.{Stands, Moved, Went, Matches, UnderMatches, IsUnder, since_of, spent, spent_by}
+use Rattle.clover_sched.specs.Client.{Stands, Moved, Went, Matches, UnderMatches, IsUnder, IsCursor, AreCursors, SetsCursor, since_of, slot_of, spent, spent_by}
+use Rattle.clover_sched.specs.Ends.{end_tag}
 use Rattle.clover_sched.specs.Folds.{Doing}
-use Rattle.clover_sched.specs.Run.{Opening, IsCommit, Wrote}
+use Rattle.clover_sched.specs.Run.{Opening, IsCommit, lost}
 use Rattle.clover_sched.proofs.Advancing.{get_goes_on, get_answers, get_stays_ahead}
+use Rattle.clover_sched.proofs.Cursoring.{KnowsMore, knows_more, cursors_kept, cursors_set}
 use Rattle.clover_sched.proofs.Moving.{MadeSo, IsNoLink, made_so, refused_so, names_kept, moved_quiet, moved_entered, moved_refused}
-use Rattle.clover_sched.proofs.Stepping.{made_step, refused_step, stands_made, stands_entered, stands_refused}
+use Rattle.clover_sched.proofs.Places.{same_snoc}
+use Rattle.clover_sched.proofs.Going.{step_refused}
+use Rattle.clover_sched.proofs.Stepping.{made_step, stands_made, stands_entered, stands_refused}
+use Rattle.clover_sched.proofs.Walks.{Reads, on_walk, walk_reads, walk_links, walk_quiet}
 
 -- the walk is on the same slot of the same pool, and its call has made an access
 record Goes (w w1 : Walking) : Type 0 where
@@ -45,34 +54,16 @@ record Goes (w w1 : Walking) : Type 0 where
   pub slot : w1.slot ≡ w.slot
   pub first : w1.first ≡ false
 
-either_goes : (b : Bool) (w y z : Walking) → Goes w y → Goes w z → Goes w (cond b y z)
-either_goes true w y z h k = h
-either_goes false w y z h k = k
-
-hops_goes : (w : Walking) (t : ℕ) (l : Option ℕ) → Goes w (hops w t l)
-hops_goes w t None = record { pool = refl; slot = refl; first = refl }
-hops_goes w t (Some u) = record { pool = refl; slot = refl; first = refl }
-
-followed_goes : (w : Walking) (t : ℕ) (n : Next) → Goes w (followed w t n)
-followed_goes w t (word a l) = either_goes (eqb a (age t)) w (hops w t l) _ (hops_goes w t l) (record { pool = refl; slot = refl; first = refl })
-
-rooted_goes : (w : Walking) (r : Option ℕ) → Goes w (rooted w r)
-rooted_goes w None = record { pool = refl; slot = refl; first = refl }
-rooted_goes w (Some t) = record { pool = refl; slot = refl; first = refl }
-
 -- the walk has not ended
 abbrev Stays : Stand → Type 0
 Stays StandEnded = ⊥
 Stays at = Unit {0}
 
 walk_goes : (at : Stand) (w : Walking) (x : ℕ) → Stays at → Goes w (goes_from at w x)
-walk_goes AtRoot w x h = rooted_goes w (root_of x)
-walk_goes (AtTag t) w x h = followed_goes w t (next_of x)
-walk_goes (AtLink t u) w x h = record { pool = refl; slot = refl; first = refl }
-walk_goes (OnTail t) w x h = followed_goes w t (next_of x)
-walk_goes StandEnded w x h = absurd h
+walk_goes at w x h = let k = on_walk at w x in record { pool = k.pool; slot = k.slot; first = k.first (λ (e : at ≡ StandEnded). absurd (subst Stays e h)) }
 
 way_stays : (at : Stand) → IsOnWay at → Stays at
+way_stays AtShort h = tt
 way_stays AtRoot h = tt
 way_stays (AtTag t) h = tt
 way_stays (AtLink t u) h = tt
@@ -96,29 +87,15 @@ goes (AtDead t) w v into size x g1 h e = last_goes (x == unlinked t) w t x g1 h.
 goes (AtBad t) w v into size x g1 h e = subst (λ (g : Getting). Goes w g.walk) (sym e) (tail_goes w t x h.0.0)
 goes Over w v into size x g1 h e = absurd h
 
-walk_reads : (s : ℕ) (at : Stand) (x : ℕ) → Wrote (act_of (step_at s at) x) → ⊥
-walk_reads s AtRoot x h = h
-walk_reads s (AtTag t) x h = h
-walk_reads s (AtLink t u) x h = h
-walk_reads s (OnTail t) x h = h
-walk_reads s StandEnded x h = h
-
--- no access of a get is an exchange
-reads : (s : Stage) (w : Walking) (k : List ℕ) (into : ValueBuf) (x : ℕ) → Wrote (act_of (step_from s w k into) x) → ⊥
-reads Seeking w k into x h = walk_reads w.slot w.stand x h
-reads (AtMeta t) w k into x h = h
-reads (AtValue t f j) w k into x h = h
-reads (AtFound t f) w k into x h = h
-reads (AtDead t) w k into x h = h
-reads (AtBad t) w k into x h = h
-reads Over w k into x h = walk_reads w.slot w.stand x h
-
-walk_links : (s : ℕ) (at : Stand) → IsNoLink (step_at s at)
-walk_links s AtRoot = tt
-walk_links s (AtTag t) = tt
-walk_links s (AtLink t u) = tt
-walk_links s (OnTail t) = tt
-walk_links s StandEnded = tt
+-- no access of a get is an exchange or a store
+reads : (s : Stage) (w : Walking) (k : List ℕ) (into : ValueBuf) (x : ℕ) → Reads (act_of (step_from s w k into) x)
+reads Seeking w k into x = walk_reads w.slot w.stand x
+reads (AtMeta t) w k into x = (λ h. h, λ h. h)
+reads (AtValue t f j) w k into x = (λ h. h, λ h. h)
+reads (AtFound t f) w k into x = (λ h. h, λ h. h)
+reads (AtDead t) w k into x = (λ h. h, λ h. h)
+reads (AtBad t) w k into x = (λ h. h, λ h. h)
+reads Over w k into x = walk_reads w.slot w.stand x
 
 links : (s : Stage) (w : Walking) (k : List ℕ) (into : ValueBuf) → IsNoLink (step_from s w k into)
 links Seeking w k into = walk_links w.slot w.stand
@@ -134,13 +111,6 @@ abbrev Misses : Stage → ℕ → Type 0
 Misses (AtFound t f) x = (x == unlinked t) ≡ false
 Misses (AtDead t) x = (x == unlinked t) ≡ false
 Misses s x = Unit {0}
-
-walk_quiet : (s : ℕ) (at : Stand) (h : List Entry) (v : View) (x : ℕ) → next_history (step_at s at) h v x ≡ h
-walk_quiet s AtRoot h v x = refl
-walk_quiet s (AtTag t) h v x = refl
-walk_quiet s (AtLink t u) h v x = refl
-walk_quiet s (OnTail t) h v x = refl
-walk_quiet s StandEnded h v x = refl
 
 -- the history is as it was
 quiet : (s : Stage) (w : Walking) (k : List ℕ) (into : ValueBuf) (h : List Entry) (v : View) (x : ℕ) → Misses s x → next_history (step_from s w k into) h v x ≡ h
@@ -190,18 +160,15 @@ holding_open (AtDead t) w v into h = tt
 holding_open (AtBad t) w v into h = tt
 holding_open Over w v into h = absurd h
 
-length_more : (l : List Act) (a : Act) → length (l ++ a ∷ []) ≡ suc (length l)
-length_more l a = let e = length-append l (a ∷ []) in omega arith
-
 -- a client's state where a get is under way
 abbrev pub with_get : ClientState → Getting → ValueBuf → Call → ClientState
-with_get x g into asked = record { under = Get g into asked; refusing = false; taken = x.taken; number = x.number }
+with_get x g into asked = record x { under = Get g into asked; refusing = false }
 
 abbrev pub at_rest : ClientState → ClientState
-at_rest x = record { under = Nothing; refusing = false; taken = x.taken; number = x.number }
+at_rest x = record x { under = Nothing; refusing = false }
 
-abbrev pub answered : ClientState → ClientState
-answered x = record { under = Nothing; refusing = false; taken = x.taken; number = x.number + 1 }
+abbrev pub answered : ClientState → Known → ClientState
+answered x n = record x { under = Nothing; refusing = false; number = x.number + 1; cursors = n }
 
 abbrev moment : List ℕ → Getting → ValueBuf → Moment
 moment ws g room = record { words = ws; call = g; room = room }
@@ -222,6 +189,10 @@ module _ (o : Opening) (i : ℕ) (p : Plain) (x : ClientState) (g : Getting) (in
   spends : x.taken ≤ spent x
   spends = let e : spent x ≡ x.taken = ap (λ (u : Underway). spent_by u x.taken) is in omega arith
 
+  -- the get goes on, or ends, on its slot
+  pub slot_kept : (g1 : Getting) (into1 : ValueBuf) (n : ℕ) → GoesOn g into1.length n g1 → g1.walk.slot ≡ g.walk.slot
+  slot_kept g1 into1 n go = (goes g.stage g.walk (view_at p i) into into1.length n g1 under.2.stage go).slot
+
   came : (act : Act) → CameBack p.setup.pool p.words act → CameBack o.setup.pool p.words act
   came act h = subst (λ (z : Setup). CameBack z.pool p.words act) s.setup h
 
@@ -229,6 +200,13 @@ module _ (o : Opening) (i : ℕ) (p : Plain) (x : ClientState) (g : Getting) (in
       (accessed : Accessed i true p q) where
     so : MadeSo i p q (get_step g (key_of g (view_at p i)) into) g.walk.first n
     so = made_so i p q (get_step g (key_of g (view_at p i)) into) g.walk.first n few below s.role s.entered made accessed
+
+    knows : KnowsMore (view_at p i) (view_at q i)
+    knows = knows_more i p q (get_step g (key_of g (view_at p i)) into) g.walk.first n so
+
+    -- the cursors are cursors still
+    cursors : AreCursors o.setup.pool (view_at q i) x.cursors
+    cursors = cursors_kept o.setup.pool (view_at p i) (view_at q i) x.cursors knows s.cursors
 
     -- the access is one of a get that is made alone
     alone : (g1 : Getting) (into1 : ValueBuf) → GoesOn g into1.length n g1 → FillsFrom g.stage n into into1 → GoesAlone o.setup.pool (view_at p i) (moment p.words g into) (moment q.words g1 into1)
@@ -259,14 +237,15 @@ module _ (o : Opening) (i : ℕ) (p : Plain) (x : ClientState) (g : Getting) (in
           access = access i act false;
           entry = None;
           moved = moved_quiet i p q a g.walk.first n so s.entered same;
-          stands = stands_made o i p x (with_get x g1 into1 asked) s q a g.walk.first n so (links g.stage g.walk k into) same refl refl (opens, gs.pool ∙ under.1, h, under.3 ∙ sym (λ j. GetOf (key_at (names j) (slot j))));
+          stands = stands_made o i p x (with_get x g1 into1 asked) s q a g.walk.first n so (links g.stage g.walk k into) same refl refl (opens, gs.pool ∙ under.1, h, under.3 ∙ sym (λ j. GetOf (key_at (names j) (slot j)))) cursors;
           follows = λ d m.
               let u = doing d m in (
-                made_step o i d p.words (length (own p.entries (suc i))) (ClientTask asked u.0.0) u.0.1 act None Quiet (sym m.refusing ∙ free) (came act so.came) tt (λ w. absurd (reads g.stage g.walk k into n w)) tt,
+                made_step o i d p.words (length (own p.entries (suc i))) (ClientTask asked u.0.0) u.0.1 act None Quiet (sym m.refusing ∙ free) (came act so.came) tt (λ w. absurd ((reads g.stage g.walk k into n).0 w)) (tt, (reads g.stage g.walk k into n).1),
                 record { refusing = refl; under = (u.0, u.1, ap (λ (l : List Act). l ++ act ∷ []) u.2 ∙ sym so.since ∙ sym (ap (λ (b : Bool). cond b [] (view_at q i).pass.since) gs.first)) },
               );
-          longer = λ ne. ap (λ (b : Bool). length (cond b [] (view_at q i).pass.since)) gs.first ∙ ap length so.since ∙ length_more _ act ∙ ap (λ (l : List Act). suc (length l)) (sym since);
+          longer = λ ne. ap (λ (b : Bool). length (cond b [] (view_at q i).pass.since)) gs.first ∙ ap length so.since ∙ length_snoc act _ ∙ ap (λ (l : List Act). suc (length l)) (sym since);
           spent = spends;
+          cursor = refl;
           alone = λ m free e. get_goes_on (suc i) o.setup.pool m (view_at p i) (moment p.words g into) (moment q.words g1 into1) (ends m e) under.0 (alone g1 into1 go fills) asked opens;
         }
 
@@ -286,51 +265,65 @@ module _ (o : Opening) (i : ℕ) (p : Plain) (x : ClientState) (g : Getting) (in
           access = access i act false;
           entry = None;
           moved = moved_quiet i p q a g.walk.first n so s.entered same;
-          stands = stands_made o i p x (at_rest x) s q a g.walk.first n so (links g.stage g.walk k into) same refl refl tt;
+          stands = stands_made o i p x (at_rest x) s q a g.walk.first n so (links g.stage g.walk k into) same refl refl tt cursors;
           follows = λ d m.
               let u = doing d m in (
-                made_step o i d p.words (length (own p.entries (suc i))) (ClientTask asked u.0.0) u.0.1 act None (Refused (suc i) (Behind turns)) (sym m.refusing ∙ free) (came act so.came) tt (λ w. absurd (reads g.stage g.walk k into n w))
-                    (refl, much ∙ ap (λ (z : Setup). budget z.pool) s.setup, refl),
+                made_step o i d p.words (length (own p.entries (suc i))) (ClientTask asked u.0.0) u.0.1 act None (Refused (suc i) (Behind turns)) (sym m.refusing ∙ free) (came act so.came) tt (λ w. absurd ((reads g.stage g.walk k into n).0 w))
+                    (refl, much ∙ ap (λ (z : Setup). budget z.pool) s.setup, refl, (reads g.stage g.walk k into n).1),
                 record { refusing = refl; under = refl },
               );
           longer = λ ne. absurd (ne refl);
           spent = spends;
+          cursor = refl;
           alone = λ m free e. absurd (get_stays_ahead (suc i) o.setup.pool m (view_at p i) (moment p.words g into) (moment q.words g1 into1) (ends m e) under.0 (alone g1 into1 go fills) over
               (subst (λ (y : ℕ). turn_of a y ≢ 0) (so.here ∙ ap (λ (z : Setup). found z.pool a p.words) s.setup) turned));
         }
 
     module _ (c : ℕ) (reply : Reply) (mine : suc i ≡ c) (ended : Ended p.setup.pool (GetOf (key_of g (view_at p i))) reply (view_at p i) (Some (open_of p)) (view_at q i) (Some (open_of q))) where
+      abbrev last : Step
+      last = DecideNext ended.slot ended.tag (GetOf (key_of g (view_at p i))) reply
+
+      last_so : MadeSo i p q last false (unlinked ended.tag)
+      last_so = made_so i p q last false (unlinked ended.tag) few below s.role s.entered ended.made accessed
+
+      -- the access was the load that decided the call
+      last_act : act_of (get_step g (key_of g (view_at p i)) into) n ≡ act_of last (unlinked ended.tag)
+      last_act = (same_snoc (cond g.walk.first [] (view_at p i).pass.since) (view_at p i).pass.since _ _ (sym so.since ∙ last_so.since)).1
+
       -- the history grew by the get's entry
       grows : history q ≡ history p ++ record { client = c; number = x.number + 1; call = asked; reply = reply } ∷ []
       grows =
           let v = view_at p i in
           let k = key_of g v in
-          let last : Step = DecideNext ended.slot ended.tag (GetOf k) reply in
-          let m = made_so i p q last false (unlinked ended.tag) few below s.role s.entered ended.made accessed in
           let who : client v ≡ c = ap number_of s.role ∙ mine in
-          let number : suc (length v.pass.calls) ≡ x.number + 1 = (let a = m.number in let b = s.number in omega arith) in
+          let number : suc (length v.pass.calls) ≡ x.number + 1 = (let a = last_so.number in let b = s.number in omega arith) in
           let e : link_entry v (client v) (GetOf k) reply ≡ record { client = c; number = x.number + 1; call = asked; reply = reply } = (λ j. record { client = who j; number = number j; call = sym under.3 j; reply = reply }) in
-          m.history ∙ ap (λ (b : Bool). cond b (history p ++ link_entry v (client v) (GetOf k) reply ∷ []) (history p)) (eq-eqb (unlinked ended.tag) (unlinked ended.tag) refl) ∙ ap (λ (z : Entry). history p ++ z ∷ []) e
+          last_so.history ∙ ap (λ (b : Bool). cond b (history p ++ link_entry v (client v) (GetOf k) reply ∷ []) (history p)) (eq-eqb (unlinked ended.tag) (unlinked ended.tag) refl) ∙ ap (λ (z : Entry). history p ++ z ∷ []) e
 
       -- so the entry is the one that may be entered
       pub enters : history q ≡ q.entries ++ record { client = c; number = x.number + 1; call = asked; reply = reply } ∷ []
       enters = grows ∙ ap (λ (h : List Entry). h ++ record { client = c; number = x.number + 1; call = asked; reply = reply } ∷ []) (sym s.entered ∙ sym so.entries)
 
-      -- the access decides the call, and its entry was entered
+      -- the access decides the call, its entry was entered, and the slot's cursor was set to the tail
       pub went_answered : (r : Plain) (g1 : Getting) (into1 : ValueBuf) → GoesOn g into1.length n g1 → FillsFrom g.stage n into into1 → g1.stage ≡ Over → x.refusing ≡ false → IsCommit reply ≡ false → r.entries ≡ q.entries ++ record { client = c; number = x.number + 1; call = asked; reply = reply } ∷ [] → KeptButEntries q r
-          → Went o i x (answered x) p r (Answered c reply)
-      went_answered r g1 into1 go fills over free commit entries kept =
+          → (known : Known) (tail : TagParts) → end_tag reply (act_of last (unlinked ended.tag)) ≡ tag_number tail → InRange g.walk.pool (tag_number tail) × Within (g.walk.slot, tag_number tail) (view_at q i).pass.durable → IsSet g.walk.slot tail x.cursors known
+          → Went o i x (answered x known) p r (Answered c reply)
+      went_answered r g1 into1 go fills over free commit entries kept known tail tells durable is_set =
           let v = view_at p i in
           let k = key_of g v in
           let a : Step = get_step g k into in
           let act : Act = act_of a n in
           let entry : Entry = record { client = c; number = x.number + 1; call = asked; reply = reply } in
           let moved : Moved i (access i act false) (Some entry) p r = moved_entered i p q r a g.walk.first n entry so s.entered (sym so.history ∙ grows) entries kept in
+          let there : view_at r i ≡ view_at q i = (λ z. get_or (kept.views z) i (outset (kept.setup z))) in
+          let more : KnowsMore v (view_at r i) = subst (KnowsMore v) (sym there) knows in
+          let new : IsCursor o.setup.pool (view_at r i) (g.walk.slot, tail) = subst (λ (w : View). IsCursor o.setup.pool w (g.walk.slot, tail)) (sym there) (subst (λ (z : Pool). InRange z (tag_number tail)) under.1 durable.0, durable.1) in
+          let set = cursors_set o.setup.pool v (view_at r i) g.walk.slot tail x.cursors known more s.cursors new is_set in
           record {
             access = access i act false;
             entry = Some entry;
             moved = moved;
-            stands = stands_entered o i p x (answered x) s q r a g.walk.first n entry so (links g.stage g.walk k into) moved kept (sym mine) refl refl tt;
+            stands = stands_entered o i p x (answered x known) s q r a g.walk.first n entry so (links g.stage g.walk k into) moved kept (sym mine) refl refl tt set;
             follows = λ d m.
                 let u = doing d m in
                 let acts : (view_at q i).pass.since ≡ d.since ++ act ∷ [] = so.since ∙ ap (λ (l : List Act). l ++ act ∷ []) (sym u.2) in
@@ -347,6 +340,7 @@ module _ (o : Opening) (i : ℕ) (p : Plain) (x : ClientState) (g : Getting) (in
                 );
             longer = λ ne. absurd (ne refl);
             spent = spends;
+            cursor = subst (λ (u : Underway). SetsCursor (slot_of u) act (Answered c reply) x.cursors known) (sym is) (tail, ap (end_tag reply) last_act ∙ tells, is_set);
             alone = λ m free e. subst (λ (y : ℕ). Advances (suc i) o.setup.pool m r.words Nothing (Answered y reply)) mine
                 (get_answers (suc i) o.setup.pool m (view_at p i) (moment p.words g into) (moment q.words g1 into1) (ends m e) under.0 (alone g1 into1 go fills) r.words reply over);
           }
@@ -359,11 +353,12 @@ module _ (o : Opening) (i : ℕ) (p : Plain) (x : ClientState) (g : Getting) (in
         access = access i r.act true;
         entry = None;
         moved = moved_refused i p q r s.entered;
-        stands = stands_refused o i p x (at_rest x) s q r refl refl tt;
+        stands = stands_refused o i p x (at_rest x) s q r refl refl tt refl;
         follows = λ d m.
             let u = doing d m in
-            (refused_step o i d p.words (length (own p.entries (suc i))) (ClientTask asked u.0.0) u.0.1 r.act (sym m.refusing ∙ refused) r.blank u.1, record { refusing = refl; under = refl });
+            (step_refused o i d p.words (length (own p.entries (suc i))) r.act (Refused (suc i) Unreached) (ClientTask asked u.0.0) u.0.1 (sym m.refusing ∙ refused) r.blank (ap (λ (y : Option Reply). Refused (suc i) (lost y)) (sym u.1)), record { refusing = refl; under = refl });
         longer = λ ne. absurd (ne refl);
         spent = spends;
+        cursor = refl;
         alone = λ m free e. absurd (let z : true ≡ false = free in cc);
       }

@@ -2,17 +2,18 @@
 use Prim.Native.Nat.{suc}
 use Rattle.std.proofs.Common.{◌≡◌, ℕ, ◌<◌, List, [], ◌∷◌, ◌++◌, length, true, false, refl, sym, ap, ◌∙◌, arith, append-nil}
 use Rattle.std.specs.Prelude.{Option, Some, None}
+use Rattle.std.proofs.lemmas.Option.{same_Some}
 use Rattle.clover_map.specs.History.{own}
 use Rattle.clover_map.specs.declared.call.Entry.{Entry}
 use Rattle.clover_script.specs.declared.line.Task.{Task}
 use Rattle.clover_rule.specs.declared.access.Access.{Access}
 use Rattle.clover_rule.specs.declared.access.Act.{Act}
 use Rattle.clover_plain.specs.Plain.{Plain, view_at, access}
-use Rattle.clover_sched.proofs.Stepping.{some_is, task_there, own_more}
+use Rattle.clover_sched.proofs.Stepping.{task_there, own_more}
 use Rattle.clover_sched.specs.declared.client.ClientState.{ClientState}
 use Rattle.clover_sched.specs.declared.event.Note.{Note}
 use Rattle.clover_sched.specs.declared.event.Note.TheVariants.{Refused}
-use Rattle.clover_sched.specs.Client.{Stands, Moved, IsUnder, stock_at, step_record}
+use Rattle.clover_sched.specs.Client.{Stands, Moved, IsUnder, AreCursors, stock_at, step_record}
 use Rattle.clover_sched.specs.Folds.{Doing}
 use Rattle.clover_sched.specs.Run.{Opening, IsStep, IsBlank, lost}
 
@@ -24,9 +25,9 @@ step_refused o i d ws n act note t task going blank told = record {
   one = λ u h. refl;
   access = record { actor = refl; refused = sym going; blank = λ q. blank; replays = λ q. absurd (let z : true ≡ false = q in cc) };
   entry = tt;
-  commits = λ x is made. absurd (let z : true ≡ false = ap (λ (y : Access). y.refused) (some_is _ _ is) ∙ made in cc);
+  commits = λ x is made. absurd (let z : true ≡ false = ap (λ (y : Access). y.refused) (same_Some _ _ is) ∙ made in cc);
   unreached = λ x is made. (refl, told);
-  cause = λ x is made. absurd (let z : true ≡ false = ap (λ (y : Access). y.refused) (some_is _ _ is) ∙ made in cc);
+  cause = λ x is made. absurd (let z : true ≡ false = ap (λ (y : Access). y.refused) (same_Some _ _ is) ∙ made in cc);
 }
 
 -- a seat that stands is one of the pool's
@@ -36,8 +37,8 @@ seat_below o p i x s = let a = s.seat in let b = s.seats in omega arith
 -- the client stands behind an access
 pub stands_moved : (o : Opening) (i : ℕ) (x y : ClientState) (p q : Plain) (a : Access) (e : Option Entry) → Stands o p i x → Moved i a e p q
     → (view_at q i).pass.pool ≡ (view_at p i).pass.pool → (view_at q i).pass.role ≡ (view_at p i).pass.role → (view_at q i).pass.names ≡ (view_at p i).pass.names → (view_at q i).pass.stock ≡ stock_at o.setup (suc i) y.taken
-    → y.number ≡ length (own q.entries (suc i)) → IsUnder o.setup.pool (view_at q i) y.under → Stands o q i y
-stands_moved o i x y p q a e s m pool role names stock number under = record {
+    → y.number ≡ length (own q.entries (suc i)) → IsUnder o.setup.pool (view_at q i) y.under → AreCursors o.setup.pool (view_at q i) y.cursors → Stands o q i y
+stands_moved o i x y p q a e s m pool role names stock number under cursors = record {
   setup = m.setup ∙ s.setup;
   opened = m.opened ∙ s.opened;
   entered = m.entered;
@@ -49,6 +50,7 @@ stands_moved o i x y p q a e s m pool role names stock number under = record {
   stock = stock;
   number = number;
   under = under;
+  cursors = cursors;
 }
 
 -- the numbers of a client's entries, with none more and with one more

@@ -1,25 +1,32 @@
 -- What an event of an actor comes to, by what the machine's client of that number does.
 use Rattle.std.proofs.Common.{◌≡◌, ◌≢◌, ℕ, ◌-◌, ◌≤◌, ◌<◌, suc, length, set, get_or, List, [], ◌∷◌, ◌++◌, Bool, true, refl, sym, ap, ◌∙◌, subst, arith}
-use Rattle.std.specs.Prelude.{Option, Some, None, Result, Ok, Err, IfOk, OnErr, slice_get, if◌then◌else◌}
+use Rattle.std.specs.Prelude.{Option, Some, None, Result, Ok, Err, IfSome, IfOk, OnErr, slice_get, if◌then◌else◌}
 use Rattle.std.specs.FinMap as finite
+use Rattle.std.proofs.lemmas.Result.{IfOk-weaker}
+use Rattle.std.proofs.lemmas.Option.{IfSome_then}
 use Rattle.clover_map.specs.Legal.{Legal}
 use Rattle.clover_map.specs.declared.bytes.OutOfMemory.{OutOfMemory}
 use Rattle.clover_map.specs.declared.call.Entry.{Entry}
 use Rattle.clover_words.specs.Preset.{HasDealt}
+use Rattle.clover_words.specs.Tag.{tag_number}
 use Rattle.clover_words.specs.declared.setup.Setup.{Setup}
 use Rattle.clover_map.specs.History.{key_of}
 use Rattle.clover_walk.specs.Walking.{key_at}
+use Rattle.clover_cache.specs.Node.{cursor_at}
+use Rattle.clover_rule.specs.Content.{InRange}
 use Rattle.clover_rule.specs.Lists.{nth, Within}
 use Rattle.clover_rule.specs.Preset.{bindings_from}
 use Rattle.clover_rule.specs.Rule.{longest}
 use Rattle.clover_rule.specs.declared.view.View.{View}
+use Rattle.clover_rule.proofs.Steps.{set_here}
+use Rattle.clover_rule.proofs.Tools.{nth_past}
 use Rattle.clover_plain.specs.Plain.{Plain, Kept, Running, history, view_at, outset}
 use Rattle.clover_script.specs.Form.{call_in}
 use Rattle.clover_script.specs.Lines.{takes}
 use Rattle.clover_script.specs.declared.line.Task.{Task}
 use Rattle.clover_script.specs.declared.line.Task.TheVariants.{Client as ClientTask}
 use Rattle.clover_plain.specs.Preset.{AreDistinct}
-use Rattle.clover_sched.specs.Alone.{AllUnderway}
+use Rattle.clover_sched.specs.Alone.{AloneSoFar}
 use Rattle.clover_sched.specs.Client.{Stands, Matches, Went, Begins, IsUnder, spent, spent_by, since_of, most_made}
 use Rattle.clover_sched.specs.Folds.{accesses_in, doing}
 use Rattle.clover_sched.specs.Machine.{Parts, IsAt, IsBehind, IsSame, IsBusy, IsFitting, HasCall, MayCome, left, left_of, left_by}
@@ -33,11 +40,12 @@ use Rattle.clover_sched.specs.declared.event.Event.TheVariants.{Begin, Step, Ref
 use Rattle.clover_sched.specs.declared.event.Note.{Note}
 use Rattle.clover_sched.specs.declared.event.Note.TheVariants.{Quiet, Busy, Missing}
 use Rattle.clover_sched.proofs.Stepping.{stands_kept}
+use Rattle.clover_sched.proofs.Cursoring.{cursor_held}
 use Rattle.clover_sched.proofs.Busies.{busy_within, busy_here}
 use Rattle.clover_sched.proofs.Lefts.{since_few, left_less}
 use Rattle.clover_sched.proofs.Onward.{with_client, with_pool, refusing, begun_missing, begun_busy, begun_client, idled_far, idled_client, refused_client, refused_far, stepped_client}
 use Rattle.clover_sched.proofs.Bound.{bound_within, bound_key}
-use Rattle.clover_sched.proofs.Places.{nth_here, nth_none, nth_get, nth_set, nth_within, set_same}
+use Rattle.clover_sched.proofs.Places.{nth_here, nth_get, set_same}
 
 -- the event came to this note, and leads from one machine to another
 abbrev pub Happens : Parts → Parts → Event → Note → Type 0
@@ -75,7 +83,7 @@ module _ (m : Parts) (a : ℕ) (one : 1 ≤ a) where
 
   -- no call is under way
   quiet_at : (z : Option ClientState) → nth m.clients (a - 1) ≡ z → (IsBusy m a → ⊥) → Happens m m (Step a) Quiet
-  quiet_at None past not o rs at = (_, refl, refl, idled_far o m rs at a (above o rs at (nth_none m.clients (a - 1) past)))
+  quiet_at None past not o rs at = (_, refl, refl, idled_far o m rs at a (above o rs at (nth_past m.clients (a - 1) past)))
   quiet_at (Some x) here not o rs at = (_, ap Step same_actor, refl, idled_client o m rs at (a - 1) x here (not_busy x.under (λ (busy : x.under ≢ Nothing). not (a - 1, same_actor, subst HasCall (sym here) busy))))
 
   pub quiet_happens : (IsBusy m a → ⊥) → Happens m m (Step a) Quiet
@@ -121,12 +129,11 @@ kept_at o m n rs same at =
         stands = stands_kept o m.pool n.pool i x k was.stands;
         matches = subst (λ (v : View). Matches x v (doing (suc i) rs)) (sym (view i)) was.matches;
         spent = was.spent;
+        cursors = was.cursors;
       };
       far = at.far;
       legal = at.legal;
-      found = at.found;
-      alone = at.alone;
-      underway = subst (λ (ws : List ℕ). AllUnderway o ws n.clients rs) (sym k.words) (subst (λ (cs : List ClientState). AllUnderway o m.pool.words cs rs) (sym same.clients) at.underway);
+      alone = subst (λ (ws : List ℕ). AloneSoFar o ws n.clients rs) (sym k.words) (subst (λ (cs : List ClientState). AloneSoFar o m.pool.words cs rs) (sym same.clients) at.alone);
     }
   where
     view : (i : ℕ) → view_at n.pool i ≡ view_at m.pool i
@@ -141,22 +148,17 @@ pub step_behind : (m : Parts) (a : ℕ) (x y : ClientState) (q : Plain) (r : Res
 step_behind m a x y q (Ok note) one here went same running b = behind m (with_pool m (a - 1) y q) (Step a) note (step_happens m a one x y q note here went running) b
 step_behind m a x y q (Err fault) one here went same running b = (b.0, b.1, kept_at b.0 m (with_pool m (a - 1) y q) b.1 (same_parts m (a - 1) x y q here same.0 same.1) b.2)
 
--- what holds of the value of a result
-if_ok : {T E : Type 0} (r : Result T E) {P Q : T → Type 0} → IfOk r P → ((t : T) → P t → Q t) → IfOk r Q
-if_ok (Ok t) h f = f t h
-if_ok (Err e) h f = tt
-
 -- what a step of the client says in every run
 abbrev pub GoesOn : Parts → ℕ → ClientState → ClientState → Plain → Note → Type 0
 GoesOn m a x y q note = (o : Opening) (i : ℕ) → suc i ≡ a → Stands o m.pool i x → Went o i x y m.pool q note
 
 pub step_ok : (m p : Parts) (a : ℕ) (x y : ClientState) (q : Plain) (r : Result Note OutOfMemory) → m ≡ p → 1 ≤ a → nth m.clients (a - 1) ≡ Some x → IfOk r (GoesOn m a x y q) → (q.opened ≡ true → Running q)
     → IfOk r (Happens p (with_pool m (a - 1) y q) (Step a))
-step_ok m p a x y q r same one here went running = if_ok r went (λ note w o rs at. step_happens m a one x y q note here w running o rs (subst (λ (z : Parts). IsAt o z rs) (sym same) at))
+step_ok m p a x y q r same one here went running = IfOk-weaker r (GoesOn m a x y q) (Happens p (with_pool m (a - 1) y q) (Step a)) (λ note w o rs at. step_happens m a one x y q note here w running o rs (subst (λ (z : Parts). IsAt o z rs) (sym same) at)) went
 
 pub step_parts : (m p : Parts) (a : ℕ) (x y : ClientState) (q : Plain) (r : Result Note OutOfMemory) → m ≡ p → 1 ≤ a → nth m.clients (a - 1) ≡ Some x → IfOk r (GoesOn m a x y q) → IsBehind m
     → IfOk r (λ note. (m.setup ≡ p.setup) × (m.names ≡ p.names) × (q.traced ≡ p.pool.traced))
-step_parts m p a x y q r same one here went b = if_ok r went (λ note w. (ap (λ (z : Parts). z.setup) same, ap (λ (z : Parts). z.names) same, (w b.0 (a - 1) (omega arith) (b.2.each (a - 1) x here).stands).moved.traced ∙ ap (λ (z : Parts). z.pool.traced) same))
+step_parts m p a x y q r same one here went b = IfOk-weaker r (GoesOn m a x y q) (λ note. (m.setup ≡ p.setup) × (m.names ≡ p.names) × (q.traced ≡ p.pool.traced)) (λ note w. (ap (λ (z : Parts). z.setup) same, ap (λ (z : Parts). z.names) same, (w b.0 (a - 1) (omega arith) (b.2.each (a - 1) x here).stands).moved.traced ∙ ap (λ (z : Parts). z.pool.traced) same)) went
 
 pub client_stands : (m : Parts) (a : ℕ) (x : ClientState) → 1 ≤ a → nth m.clients (a - 1) ≡ Some x → IsBehind m → (o : Opening) × (i : ℕ) × (suc i ≡ a) × Stands o m.pool i x
 client_stands m a x one here b = (b.0, a - 1, omega arith, (b.2.each (a - 1) x here).stands)
@@ -172,6 +174,11 @@ may_stock m a (ClientTask call written) x may here idle takes =
     let dealt : HasDealt m.setup a (spent x) = may.2.stock (a - 1) x (omega arith) here takes in
     subst (λ (n : ℕ). HasDealt m.setup a n) (ap (λ (u : Underway). spent_by u x.taken) idle) dealt
 
+-- each cursor of a client is a tag of the pool
+pub may_cursor : (m : Parts) (a slot : ℕ) (x : ClientState) → nth m.clients (a - 1) ≡ Some x → IsBehind m → IfSome (cursor_at slot x.cursors) (λ t. InRange m.setup.pool (tag_number t))
+may_cursor m a slot x here (o, rs, at) = subst (λ (s : Setup). IfSome (cursor_at slot x.cursors) (λ t. InRange s.pool (tag_number t))) (sym at.setup)
+    (IfSome_then (cursor_at slot x.cursors) (cursor_held o.setup.pool (view_at m.pool (a - 1)) slot x.cursors (at.each (a - 1) x here).stands.cursors) (λ t known. known.0))
+
 -- what a begin of the client on the slot of the task's key says in every run
 abbrev pub BeginsOn : Parts → ℕ → ℕ → ClientState → ClientState → Task → Note → Type 0
 BeginsOn m a slot x y t note = (o : Opening) (p : Plain) (i : ℕ) → suc i ≡ a → o.setup ≡ m.setup → Within (slot, key_of (call_in t)) o.names → key_at o.names slot ≡ key_of (call_in t) → Stands o p i x → Begins o p i x y t note
@@ -184,15 +191,15 @@ begin_on m a slot x y t note one here idle named begins running = begin_happens 
 
 pub step_less : (m p : Parts) (a : ℕ) (x y : ClientState) (q : Plain) (r : Result Note OutOfMemory) → m ≡ p → 1 ≤ a → nth m.clients (a - 1) ≡ Some x → IfOk r (GoesOn m a x y q) → IsBehind m → x.under ≢ Nothing → IsFitting x.under
     → IfOk r (λ note. IsBusy p a → left (with_pool m (a - 1) y q) a < left p a)
-step_less m p a x y q r same one here went b busy fits = if_ok r went (λ note w is_busy.
+step_less m p a x y q r same one here went b busy fits = IfOk-weaker r (GoesOn m a x y q) (λ note. IsBusy p a → left (with_pool m (a - 1) y q) a < left p a) (λ note w is_busy.
     let i = a - 1 in
     let s = (b.2.each i x here).stands in
     let go = w b.0 i (omega arith) s in
     let few : length (since_of x.under (view_at m.pool i)) ≤ most_made m.setup.pool = since_few m.setup.pool x.under (view_at m.pool i) (subst (λ (z : Setup). IsUnder z.pool (view_at m.pool i) x.under) (sym b.2.setup) s.under) fits in
     let less : left_by m.setup.pool y.under (view_at q i) < left_by m.setup.pool x.under (view_at m.pool i) = left_less m.setup.pool x.under y.under (view_at m.pool i) (view_at q i) busy few go.longer in
-    let new : left (with_pool m i y q) a ≡ left_by m.setup.pool y.under (view_at q i) = ap (left_of (with_pool m i y q) i) (nth_set m.clients i y (nth_within m.clients i x here)) in
+    let new : left (with_pool m i y q) a ≡ left_by m.setup.pool y.under (view_at q i) = ap (left_of (with_pool m i y q) i) (set_here m.clients i y x here) in
     let old : left m a ≡ left_by m.setup.pool x.under (view_at m.pool i) = ap (left_of m i) here in
-    subst (λ (z : Parts). left (with_pool m i y q) a < left z a) same (omega arith))
+    subst (λ (z : Parts). left (with_pool m i y q) a < left z a) same (omega arith)) went
 
 -- the client that is read where the actor has a call
 pub busy_read : (m p : Parts) (a : ℕ) (x : ClientState) → m ≡ p → IsBusy p a → x ≡ get_or m.clients (a - 1) x → nth m.clients (a - 1) ≡ Some x

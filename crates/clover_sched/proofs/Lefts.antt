@@ -4,12 +4,12 @@ use Rattle.std.proofs.Math.Nat.{mul-le-mul_left}
 use Rattle.clover_words.specs.declared.bytes.ValueBuf.{ValueBuf}
 use Rattle.clover_words.specs.declared.pool.Pool.{Pool}
 use Rattle.clover_rule.specs.declared.view.View.{View}
-use Rattle.clover_walk.specs.Walking.{Walking, Stand, AtRoot, AtTag, AtLink as OnLink, OnTail, Ended, budget}
+use Rattle.clover_walk.specs.Walking.{Walking, Stand, AtShort as ToShort, AtRoot, AtTag, AtLink as OnLink, OnTail, Ended, budget}
 use Rattle.clover_get.specs.Getting.{Getting, Stage as GetStage, Seeking as GetSeeking, AtMeta as GetMeta, AtValue, AtFound, AtDead as GetDead, AtBad as GetBad, Over as GetOver}
 use Rattle.clover_get.specs.Holding.{GetHolds, StandsOn, walked, copied}
 use Rattle.clover_get.proofs.Counting.{length_first}
 use Rattle.clover_put.specs.Holding.{PutHolds, Fills, steps_at, most}
-use Rattle.clover_put.specs.Putting.{Putting, Stage, Storing, Flushing, Seeking, AtMeta, AtLink, AtDead, AtOther, AtBad, AtRaise, Over, body}
+use Rattle.clover_put.specs.Putting.{Putting, Stage, Storing, Flushing, Seeking, AtMeta, AtLink, AtDead, AtOther, AtBad, AtRaise, AtShort, Over, body}
 use Rattle.clover_put.specs.Stepping.{turn_bound}
 use Rattle.clover_put.proofs.Known.{bounded}
 use Rattle.clover_sched.specs.Client.{IsUnder, since_of, most_made}
@@ -18,14 +18,15 @@ use Rattle.clover_sched.specs.declared.client.Underway.{Underway}
 use Rattle.clover_sched.specs.declared.client.Underway.TheVariants.{Nothing, Get, Write, Raise}
 
 -- the accesses of a get since its last turn
-walked_few : (at : Stand) → walked at ≤ 2
+walked_few : (at : Stand) → walked at ≤ 3
+walked_few ToShort = omega arith
 walked_few AtRoot = omega arith
 walked_few (AtTag t) = omega arith
 walked_few (OnLink t u) = omega arith
 walked_few (OnTail t) = omega arith
 walked_few Ended = omega arith
 
-copied_few : (s : GetStage) (w : Walking) (v : View) (into : ValueBuf) → StandsOn s w v into → copied s w.stand w.pool.words ≤ 4 + w.pool.words
+copied_few : (s : GetStage) (w : Walking) (v : View) (into : ValueBuf) → StandsOn s w v into → copied s w.stand w.pool.words ≤ 5 + w.pool.words
 copied_few GetSeeking w v into h = let l = walked_few w.stand in omega arith
 copied_few (GetMeta t) w v into h = omega arith
 copied_few (AtValue t f j) w v into h = let a : j < (into.length + 7) / 8 = h.1 in let b = h.2.size in omega arith
@@ -35,9 +36,9 @@ copied_few (GetBad t) w v into h = omega arith
 copied_few GetOver w v into h = absurd h
 
 -- what the turns of a call allow
-turns_allow : (t b w c : ℕ) → t < b → c ≤ 4 + w → t * (w + 4) + c ≤ (b + 1) * (w + 5) + 2 * w + 7
+turns_allow : (t b w c : ℕ) → t < b → c ≤ 5 + w → t * (w + 5) + c ≤ (b + 1) * (w + 5) + 2 * w + 7
 turns_allow t b w c less few =
-    let one : (w + 4) * t ≤ (w + 4) * b = mul-le-mul_left (w + 4) (omega arith) in
+    let one : (w + 5) * t ≤ (w + 5) * b = mul-le-mul_left (w + 5) (omega arith) in
     omega arith
 
 get_few : (p : Pool) (g : Getting) (v : View) (into : ValueBuf) → g.walk.pool ≡ p → GetHolds g v into → length (cond g.walk.first [] v.pass.since) ≤ most_made p
@@ -48,14 +49,15 @@ get_few p g v into pool h =
     let count = length_first g.walk.first v.pass.since in
     subst (λ (q : Pool). length (cond g.walk.first [] v.pass.since) ≤ most_made q) pool (omega arith)
 
-steps_few : (at : Stand) → steps_at at ≤ 2
+steps_few : (at : Stand) → steps_at at ≤ 3
+steps_few ToShort = omega arith
 steps_few AtRoot = omega arith
 steps_few (AtTag t) = omega arith
 steps_few (OnLink t u) = omega arith
 steps_few (OnTail t) = omega arith
 steps_few Ended = omega arith
 
-most_few : (s : Stage) (c : Putting) (v : View) → Fills s c v → most s c ≤ 2 * length (body c) + 5 * c.walk.turns + 5
+most_few : (s : Stage) (c : Putting) (v : View) → Fills s c v → most s c ≤ 2 * length (body c) + 5 * c.walk.turns + 7
 most_few (Storing j) c v h = let l = h.1 in omega arith
 most_few (Flushing j) c v h = let l = h.1 in omega arith
 most_few Seeking c v h = let l = steps_few c.walk.stand in omega arith
@@ -65,6 +67,7 @@ most_few (AtDead u) c v h = omega arith
 most_few (AtOther u) c v h = omega arith
 most_few (AtBad u) c v h = omega arith
 most_few (AtRaise u) c v h = omega arith
+most_few AtShort c v h = omega arith
 most_few Over c v h = absurd h
 
 turn_most : (t b w : ℕ) → t < b → (t + 1) * (w + 5) + 2 * w + 4 ≤ (b + 1) * (w + 5) + 2 * w + 7
@@ -84,7 +87,7 @@ pub since_few : (p : Pool) (u : Underway) (v : View) → IsUnder p v u → IsFit
 since_few p Nothing v h fits = omega arith
 since_few p (Get g into call) v h fits = get_few p g v into h.1 h.2
 since_few p (Write c call) v h fits = put_few p c v h.1 h.2 fits
-since_few p (Raise c) v h fits = put_few p c v h.2 h.3 fits
+since_few p (Raise c) v h fits = put_few p c v h.0 h.1 fits
 
 -- a call that has ended has none left, and one that goes on has one less
 left_some : (p : Pool) (u : Underway) (v : View) → u ≢ Nothing → left_by p u v ≡ most_made p + 1 - length (since_of u v)

@@ -1,37 +1,31 @@
 -- The machine as it is made: the preset pool, and clients that have done nothing.
-use Rattle.std.proofs.Common.{◌≡◌, ℕ, ◌≤◌, ◌<◌, ◌-◌, zero, suc, length, List, [], ◌∷◌, ◌++◌, Bool, true, false, replicate, refl, sym, ap, ◌∙◌, subst, arith}
-use Rattle.std.specs.Prelude.{Option, Some, slice_get, if◌then◌else◌}
+use Rattle.std.proofs.Common.{◌≡◌, ℕ, ◌≤◌, ◌<◌, ◌-◌, suc, length, List, [], Bool, true, false, replicate, refl, sym, ap, ◌∙◌, subst, arith}
+use Rattle.std.specs.Prelude.{Some, slice_get, if◌then◌else◌}
+use Rattle.std.proofs.lemmas.List.Elements.{All-nil}
+use Rattle.std.proofs.lemmas.List.{length-replicate}
 use Rattle.clover_words.specs.Preset.{buffers_total}
 use Rattle.clover_words.specs.declared.setup.Setup.{Setup}
 use Rattle.clover_map.specs.History.{own}
-use Rattle.clover_map.specs.declared.bytes.Value.{Value}
 use Rattle.clover_map.specs.declared.call.Entry.{Entry}
 use Rattle.clover_rule.specs.Lists.{nth}
 use Rattle.clover_rule.specs.Preset.{bindings_from}
 use Rattle.clover_rule.specs.declared.access.Access.{Access}
 use Rattle.clover_rule.specs.declared.view.View.{View}
-use Rattle.clover_plain.specs.Plain.{Plain, Running, view_at, history, outset}
+use Rattle.clover_rule.proofs.Tools.{nth_within}
+use Rattle.clover_plain.specs.Plain.{Plain, view_at, history, outset}
 use Rattle.clover_plain.specs.Preset.{IsPreset, start_view, dealt_from, AreDistinct}
 use Rattle.clover_plain.proofs.Stepping.{nth_default}
-use Rattle.clover_sched.specs.Alone.{AllFound, Finds}
-use Rattle.clover_sched.specs.Client.{Stands}
-use Rattle.clover_sched.specs.Folds.{words_after}
-use Rattle.clover_sched.specs.Record.{Record}
+use Rattle.clover_sched.specs.Client.{Stands, IsCursor, idle_client}
 use Rattle.clover_sched.specs.Machine.{Parts, IsAt, IsClientAt, IsOpening}
 use Rattle.clover_sched.specs.Run.{Opening}
 use Rattle.clover_sched.specs.declared.client.ClientState.{ClientState}
-use Rattle.clover_sched.specs.declared.client.Underway.TheVariants.{Nothing}
-use Rattle.clover_sched.proofs.Alone.{alone_first, underway_first}
-use Rattle.clover_sched.proofs.Finding.{finds_now}
-use Rattle.clover_sched.proofs.Places.{nth_within, nth_get, nth_replicate}
+use Rattle.clover_sched.proofs.Alone.{alone_first}
+use Rattle.clover_sched.proofs.Places.{nth_get, nth_replicate}
+use Rattle.clover_sched.proofs.Remembering.{remembers_none}
 
 -- the keys of the slots each stand once
 pub distinct_keys : (keys : List (List ℕ)) → ((i j : ℕ) (k : List ℕ) → slice_get keys i ≡ Some k → slice_get keys j ≡ Some k → i ≡ j) → AreDistinct keys
 distinct_keys keys h s r k a b = h s r k (nth_get keys s ∙ a) (nth_get keys r ∙ b)
-
-length_replicate : {A : Type 0} (n : ℕ) (x : A) → length (replicate n x) ≡ n
-length_replicate zero x = refl
-length_replicate (suc n) x = ap suc (length_replicate n x)
 
 -- a pool that was just preset
 pub record IsFresh (s : Setup) (keys : List (List ℕ)) (p : Plain) : Type 0 where
@@ -47,9 +41,6 @@ pub record IsFresh (s : Setup) (keys : List (List ℕ)) (p : Plain) : Type 0 whe
   pub made : p.made ≡ 0
   pub whole : p.whole ≡ true
 
-pub idle : ClientState
-idle = record { under = Nothing; refusing = false; taken = 0; number = 0 }
-
 pub opening : Setup → List (List ℕ) → Plain → Opening
 opening s keys p = record { setup = s; words = p.words; names = bindings_from 0 keys }
 
@@ -57,9 +48,9 @@ pub is_opening : (s : Setup) (keys : List (List ℕ)) (p : Plain) → IsFresh s 
 unfolding opening
 is_opening s keys p fresh = record { setup = refl; names = refl; words = fresh.preset }
 
-pub made_at : (m : Parts) (s : Setup) (keys : List (List ℕ)) → m.setup ≡ s → m.names ≡ keys → length keys ≤ s.pool.slots → AreDistinct keys → (m.pool.opened ≡ true → Running m.pool) → IsFresh s keys m.pool → m.clients ≡ replicate s.clients (record { under = Nothing; refusing = false; taken = 0; number = 0 }) → IsAt (opening s keys m.pool) m []
-unfolding opening idle
-made_at m s keys setup names slots apart running fresh clients = record {
+pub made_at : (m : Parts) (s : Setup) (keys : List (List ℕ)) → m.setup ≡ s → m.names ≡ keys → length keys ≤ s.pool.slots → AreDistinct keys → IsFresh s keys m.pool → m.clients ≡ replicate s.clients idle_client → IsAt (opening s keys m.pool) m []
+unfolding opening
+made_at m s keys setup names slots apart fresh clients = record {
   run = tt;
   setup = setup;
   names = ap (bindings_from 0) (sym names);
@@ -77,13 +68,11 @@ made_at m s keys setup names slots apart running fresh clients = record {
     made = fresh.made;
     seats = fresh.seats;
   };
-  clients = ap length clients ∙ length_replicate s.clients idle;
+  clients = ap length clients ∙ length-replicate s.clients idle_client;
   each = λ i x here. each i x (subst (λ (l : List ClientState). nth l i ≡ Some x) clients here);
   far = λ a above. refl;
   legal = tt;
-  found = found;
-  alone = alone_first (record { setup = s; words = m.pool.words; names = bindings_from 0 keys });
-  underway = underway_first (record { setup = s; words = m.pool.words; names = bindings_from 0 keys }) m.pool.words m.clients;
+  alone = alone_first (record { setup = s; words = m.pool.words; names = bindings_from 0 keys }) m.pool.words m.clients;
 }
   where
     none : (b : Bool) → ◌≡◌ {A = List Access} [] (if b then [] else [])
@@ -93,7 +82,7 @@ made_at m s keys setup names slots apart running fresh clients = record {
     view : (i : ℕ) → i < s.clients → view_at m.pool i ≡ start_view s keys i
     view i below = fresh.views i (view_at m.pool i) (nth_default m.pool.views i (outset m.pool.setup) (omega (arith, below, fresh.seats)))
 
-    stands : (i : ℕ) → i < s.clients → Stands (record { setup = s; words = m.pool.words; names = bindings_from 0 keys }) m.pool i idle
+    stands : (i : ℕ) → i < s.clients → Stands (record { setup = s; words = m.pool.words; names = bindings_from 0 keys }) m.pool i idle_client
     stands i below = record {
       setup = fresh.setup;
       opened = fresh.opened;
@@ -106,25 +95,16 @@ made_at m s keys setup names slots apart running fresh clients = record {
       stock = ap (λ (v : View). v.pass.stock) (view i below) ∙ ap (dealt_from s (suc i) 0) (whole (buffers_total s.pool));
       number = sym (ap (λ (l : List Entry). length (own l (suc i))) fresh.entries);
       under = tt;
+      cursors = record { last = tt; list = All-nil (IsCursor s.pool (view_at m.pool i)) };
     }
       where
         whole : (n : ℕ) → n ≡ n - 0
         whole n = omega arith
 
-    found : AllFound (record { setup = s; words = m.pool.words; names = bindings_from 0 keys }) []
-    found before after call slot whole named =
-        let some = s.some_client in
-        let none : [] ≡ before = nothing before after whole in
-        subst (λ (l : List Record). (tags : List ℕ) × (tail : ℕ) × (version : Option Value) × Finds (record { setup = s; words = m.pool.words; names = bindings_from 0 keys }) (words_after s.pool m.pool.words l) call tags tail version) none
-        (finds_now (record { setup = s; words = m.pool.words; names = bindings_from 0 keys }) m.pool 0 idle (stands 0 (omega arith)) (running fresh.opened) call slot named)
-      where
-        nothing : (xs ys : List Record) → [] ≡ xs ++ ys → [] ≡ xs
-        nothing [] ys e = refl
-        nothing (x ∷ xs) ys e = absurd (let q : 0 ≡ suc (length (xs ++ ys)) = ap length e in omega arith)
-
-    each : (i : ℕ) (x : ClientState) → nth (replicate s.clients idle) i ≡ Some x → IsClientAt (record { setup = s; words = m.pool.words; names = bindings_from 0 keys }) m.pool i x []
-    each i x here = subst (λ (y : ClientState). IsClientAt (record { setup = s; words = m.pool.words; names = bindings_from 0 keys }) m.pool i y []) (sym (nth_replicate s.clients i idle x here)) (record {
-      stands = stands i (subst (λ (n : ℕ). i < n) (length_replicate s.clients idle) (nth_within (replicate s.clients idle) i x here));
+    each : (i : ℕ) (x : ClientState) → nth (replicate s.clients idle_client) i ≡ Some x → IsClientAt (record { setup = s; words = m.pool.words; names = bindings_from 0 keys }) m.pool i x []
+    each i x here = subst (λ (y : ClientState). IsClientAt (record { setup = s; words = m.pool.words; names = bindings_from 0 keys }) m.pool i y []) (sym (nth_replicate s.clients i idle_client x here)) (record {
+      stands = stands i (subst (λ (n : ℕ). i < n) (length-replicate s.clients idle_client) (nth_within (replicate s.clients idle_client) i x here));
       matches = record { refusing = refl; under = refl };
       spent = omega arith;
+      cursors = remembers_none (bindings_from 0 keys);
     })

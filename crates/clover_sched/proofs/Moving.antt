@@ -2,6 +2,7 @@
 use Rattle.std.proofs.Common.{◌≡◌, ◌≢◌, ℕ, suc, ◌-◌, ◌^◌, ◌<◌, List, [], ◌∷◌, ◌++◌, length, get_or, Bool, true, false, ◌&&◌, cond, eqb, if◌then◌else◌, refl, sym, ap, ◌∙◌, subst, ◌==◌, inl, inr, arith, append-nil}
 use Rattle.std.specs.Prelude.{Option, Some, None}
 use Rattle.std.proofs.lemmas.List.{get_or-set_other, get_or-set_same, length-set}
+use Rattle.std.proofs.lemmas.Option.{same_Some}
 use Rattle.clover_map.specs.History.{own}
 use Rattle.clover_map.specs.declared.call.Entry.{Entry}
 use Rattle.clover_map.specs.declared.call.Call.{Call}
@@ -21,32 +22,16 @@ use Rattle.clover_rule.proofs.Accessing.{access_law}
 use Rattle.clover_port.specs.Told.{Open, Made}
 use Rattle.clover_walk.proofs.Endings.{stepped}
 use Rattle.clover_plain.specs.Plain.{Plain, Stepped, Accessed, KeptButEntries, outset, view_at, history, open_of, grown, access}
-use Rattle.clover_plain.proofs.Learned.{role_kept as role_stays}
 use Rattle.clover_sched.specs.Client.{Moved}
 use Rattle.clover_sched.specs.Run.{IsBlank}
+use Rattle.clover_sched.proofs.Places.{same_snoc}
 
 -- the entries of a client, by either definition
 own_alike : (c : ℕ) (h : List Entry) → own_of c h ≡ own h c
 own_alike c [] = refl
 own_alike c (e ∷ h) = ap (λ (l : List Entry). cond (eqb e.client c) (e ∷ l) l) (own_alike c h)
 
--- the last element
-last_of : {A : Type 0} → A → List A → A
-last_of d [] = d
-last_of d (x ∷ xs) = last_of x xs
-
-last_snoc : {A : Type 0} (d : A) (xs : List A) (a : A) → last_of d (xs ++ a ∷ []) ≡ a
-unfolding last_of
-last_snoc d [] a = refl
-last_snoc d (x ∷ xs) a = last_snoc x xs a
-
-one_last : {A : Type 0} (xs ys : List A) (a b : A) → xs ++ a ∷ [] ≡ ys ++ b ∷ [] → a ≡ b
-one_last xs ys a b e = sym (last_snoc a xs a) ∙ ap (last_of a) e ∙ last_snoc a ys b
-
--- a client's role and names stay, and its stock but where it commits
-pub role_kept : (a : Step) (b : Bool) (h : List Entry) (v : View) (x : ℕ) → (next_view b a h v x).pass.role ≡ v.pass.role
-role_kept a b h v x = role_stays a b h v x
-
+-- a client's names stay, and its stock but where it commits
 -- what no step but by its access alone changes: the names, the acts of the call, and how many were made
 abbrev core : View → List (ℕ × List ℕ) × (List Act × ℕ)
 core v = (v.pass.names, (v.pass.since, v.pass.made))
@@ -193,10 +178,7 @@ module _ (i : ℕ) (p q : Plain) (a : Step) (b : Bool) (x : ℕ) (few : p.made <
   words_now = ap (λ (o : Open). o.words) (sym m.tells.0)
 
   open_now : open_of q ≡ record { words = words_after_step p.setup.pool a m.now.words; history = next_history a m.now.history (view_at p i) x }
-  open_now = some_is _ _ m.tells.1
-    where
-      some_is : (y z : Open) → Some y ≡ Some z → y ≡ z
-      some_is y z e = cc
+  open_now = same_Some _ _ m.tells.1
 
   came : CameBack p.setup.pool p.words (act_of a x)
   came = subst (λ (ws : List ℕ). CameBack p.setup.pool ws (act_of a x)) words_now (subst (λ (n : ℕ). CameBack p.setup.pool m.now.words (act_of a n)) (sym m.told.here) (access_law p.setup.pool m.now.words a).0)
@@ -213,7 +195,7 @@ module _ (i : ℕ) (p q : Plain) (a : Step) (b : Bool) (x : ℕ) (few : p.made <
   stepped_so : (a1 : Step) (b1 : Bool) (x1 : ℕ) → Stepped a1 b1 true i x1 p q → MadeSo i p q a b x
   stepped_so a1 b1 x1 s =
       let there : view_at q i ≡ next_view b1 a1 (history p) (view_at p i) x1 = ap (λ (l : List View). get_or l i (outset q.setup)) s.views ∙ get_or-set_same p.views i _ (outset q.setup) below in
-      let same : act_of a1 x1 ≡ act_of a x = one_last (cond b1 [] (view_at p i).pass.since) (cond b [] (view_at p i).pass.since) (act_of a1 x1) (act_of a x) (sym (since_next a1 b1 (history p) (view_at p i) x1) ∙ ap (λ (v : View). v.pass.since) (sym there ∙ view) ∙ since_next a b (history p) (view_at p i) x) in
+      let same : act_of a1 x1 ≡ act_of a x = (same_snoc (cond b1 [] (view_at p i).pass.since) (cond b [] (view_at p i).pass.since) (act_of a1 x1) (act_of a x) (sym (since_next a1 b1 (history p) (view_at p i) x1) ∙ ap (λ (v : View). v.pass.since) (sym there ∙ view) ∙ since_next a b (history p) (view_at p i) x)).1 in
       record {
         came = came;
         words = words;

@@ -1,5 +1,5 @@
 -- The machine stands behind one record more: in general, and for each kind of event.
-use Rattle.std.proofs.Common.{◌≡◌, ◌≢◌, ℕ, ◌+◌, ◌≤◌, ◌<◌, suc, length, set, List, [], ◌∷◌, ◌++◌, Bool, true, false, refl, sym, ap, ◌∙◌, subst, arith, append-nil, ltb, ne_eqb}
+use Rattle.std.proofs.Common.{◌≡◌, ◌≢◌, ℕ, ◌+◌, ◌≤◌, ◌<◌, suc, length, set, List, [], ◌∷◌, ◌++◌, Bool, true, false, refl, sym, ap, ◌∙◌, subst, arith, append-nil, ltb, ne_eqb, inl, inr, ◌⊎◌, ⊎_elim}
 use Rattle.std.specs.Prelude.{Option, Some, None, ◌==◌, if◌then◌else◌, IfSome}
 use Rattle.std.specs.FinMap as finite
 use Rattle.std.proofs.lemmas.Bool.{lt-ltb, le-ltb}
@@ -10,25 +10,26 @@ use native.Mathlib.Decide.{ℕ_discrete}
 use mathlib.Core.Logic.{dite}
 use Rattle.clover_words.specs.declared.setup.Setup.{Setup}
 use Rattle.clover_map.specs.History.{own, key_of}
-use Rattle.clover_map.specs.declared.bytes.Value.{Value}
 use Rattle.clover_map.specs.declared.call.Call.{Call}
 use Rattle.clover_map.specs.Legal.{Legal}
 use Rattle.clover_map.specs.declared.call.Entry.{Entry}
-use Rattle.clover_rule.specs.Lists.{nth, Within}
-use Rattle.clover_rule.specs.Words.{mem_of}
+use Rattle.clover_rule.specs.Lists.{nth}
 use Rattle.clover_rule.specs.Preset.{bindings_from}
 use Rattle.clover_rule.specs.declared.access.Access.{Access}
 use Rattle.clover_rule.specs.declared.view.View.{View}
+use Rattle.clover_rule.proofs.Steps.{nth_set}
 use Rattle.clover_plain.specs.Plain.{Plain, Running, view_at}
 use Rattle.clover_plain.specs.Preset.{AreDistinct}
-use Rattle.clover_walk.specs.Alone.{LeadsOver, HasVersion}
+use Rattle.clover_walk.specs.Standing.{number_of}
+use Rattle.clover_cache.specs.Node.{Known, cursor_at, asked as asked_for}
 use Rattle.clover_script.specs.Form.{call_in}
 use Rattle.clover_script.specs.declared.line.Task.{Task}
 use Rattle.clover_script.specs.declared.line.Task.TheVariants.{Client as ClientTask}
-use Rattle.clover_sched.specs.Alone.{OpensCall, IsOwnStep, Finds, RunsAlone, cost, cost_of, AllFound, AllAlone, EndsIn, NotesWith, AllUnderway}
-use Rattle.clover_sched.specs.Client.{Stands, Matches, UnderMatches, Moved, Went, Starts, Begins, IsUnder, spent, step_record}
+use Rattle.clover_sched.specs.Alone.{OpensCall, IsOwnStep, Finds, RunsAlone, cost_of, EndsIn, NotesWith, AloneSoFar}
+use Rattle.clover_sched.specs.Client.{Stands, AreCursors, Matches, UnderMatches, Moved, Went, Starts, Begins, IsUnder, spent, slot_of, step_record}
+use Rattle.clover_sched.specs.Ends.{ended, MayBegin}
 use Rattle.clover_sched.specs.Folds.{listed, accesses_in, entries_in, words_by, words_after, made_by, made_in, Doing, actor_of, does, doing}
-use Rattle.clover_sched.specs.Machine.{Parts, IsAt, IsPoolAt, IsClientAt, asked}
+use Rattle.clover_sched.specs.Machine.{Parts, Remembers, IsAt, IsPoolAt, IsClientAt, asked}
 use Rattle.clover_sched.specs.Record.{Record}
 use Rattle.clover_sched.specs.Run.{Opening, Follows, IsStep, IsEntry, begin_note}
 use Rattle.clover_sched.specs.declared.client.ClientState.{ClientState}
@@ -38,19 +39,19 @@ use Rattle.clover_sched.specs.declared.event.Event.{Event}
 use Rattle.clover_sched.specs.declared.event.Event.TheVariants.{Begin, Step, Refuse}
 use Rattle.clover_sched.specs.declared.event.Note.{Note}
 use Rattle.clover_sched.specs.declared.event.Note.TheVariants.{Quiet, Busy, Missing}
-use Rattle.clover_sched.proofs.Pasts.{accesses_more, entries_more, words_more, made_more, goes_more, doing_own, doing_other, asked_least, asked_own}
-use Rattle.clover_sched.proofs.Finding.{finds_now}
-use Rattle.clover_sched.proofs.Alone.{all_found_more, all_alone_more, all_underway_more}
-use Rattle.clover_sched.proofs.Bound.{one_slot, slot_low}
-use Rattle.clover_sched.proofs.Starting.{starts}
-use Rattle.clover_sched.proofs.Places.{nth_within, nth_set, nth_other}
+use Rattle.clover_sched.proofs.Pasts.{accesses_more, entries_more, words_more, made_more, goes_more, doing_own, doing_other, asked_least, asked_own, ended_more}
+use Rattle.clover_sched.proofs.Finding.{begins_alone}
+use Rattle.clover_sched.proofs.Alone.{alone_more}
+use Rattle.clover_sched.proofs.Bound.{AreBindings, bindings_are}
+use Rattle.clover_sched.proofs.Cursoring.{cursor_held}
+use Rattle.clover_sched.proofs.Remembering.{IsOn, AnswersOnly, ended_still, ended_other, answers_own, under_on, remembers_asked, remembers_step, may_begin}
 
 -- one record more, from what it owes
 pub pushed : (o : Opening) (m n : Parts) (rs : List Record) (r : Record) → IsAt o m rs → Follows o rs r → n.setup ≡ m.setup → n.names ≡ m.names → IsPoolAt o n.pool (rs ++ r ∷ []) → length n.clients ≡ length m.clients
     → ((i : ℕ) (x : ClientState) → nth n.clients i ≡ Some x → IsClientAt o n.pool i x (rs ++ r ∷ []))
     → ((d : Doing) → o.setup.clients < actor_of r.event → d.task ≡ None → (does d r r.event).task ≡ None)
-    → Legal finite.empty [] (entries_in (rs ++ r ∷ [])) → AllFound o (rs ++ r ∷ []) → AllAlone o (rs ++ r ∷ []) → AllUnderway o n.pool.words n.clients (rs ++ r ∷ []) → IsAt o n (rs ++ r ∷ [])
-pushed o m n rs r at follows setup names pool clients each far legal found alone underway = record {
+    → Legal finite.empty [] (entries_in (rs ++ r ∷ [])) → AloneSoFar o n.pool.words n.clients (rs ++ r ∷ []) → IsAt o n (rs ++ r ∷ [])
+pushed o m n rs r at follows setup names pool clients each far legal alone = record {
   run = goes_more o [] rs r at.run follows;
   setup = setup ∙ at.setup;
   names = at.names ∙ ap (bindings_from 0) (sym names);
@@ -63,9 +64,7 @@ pushed o m n rs r at follows setup names pool clients each far legal found alone
       (λ e. ap (λ (d : Doing). d.task) (doing_own a rs r e) ∙ far (doing a rs) (subst (λ (b : ℕ). o.setup.clients < b) (sym e) above) (at.far a above))
       (λ e. ap (λ (d : Doing). d.task) (doing_other a rs r e) ∙ at.far a above);
   legal = legal;
-  found = found;
   alone = alone;
-  underway = underway;
 }
 
 -- no access and no entry
@@ -93,29 +92,29 @@ still_pool o p rs r at a e = record {
 }
 
 -- a client of which the record is not
-other_client : (o : Opening) (p q : Plain) (i : ℕ) (x : ClientState) (rs : List Record) (r : Record) → IsClientAt o p i x rs → actor_of r.event ≢ suc i → Stands o q i x → view_at q i ≡ view_at p i → IsClientAt o q i x (rs ++ r ∷ [])
-other_client o p q i x rs r at apart stands same = record {
+other_client : (o : Opening) (p q : Plain) (i : ℕ) (x : ClientState) (rs : List Record) (r : Record) → IsClientAt o p i x rs → actor_of r.event ≢ suc i → Stands o q i x → view_at q i ≡ view_at p i → ended (suc i) (rs ++ r ∷ []) ≡ ended (suc i) rs → IsClientAt o q i x (rs ++ r ∷ [])
+other_client o p q i x rs r at apart stands same stays = record {
   stands = stands;
   matches = subst (λ (v : View). Matches x v (doing (suc i) (rs ++ r ∷ []))) (sym same) (subst (λ (d : Doing). Matches x (view_at p i) d) (sym (doing_other (suc i) rs r apart)) at.matches);
   spent = let l = asked_least (suc i) rs r in let s = at.spent in omega arith;
+  cursors = subst (Remembers o.names x.cursors) (sym stays) at.cursors;
 }
 
 -- the client of which it is
-own_client : (o : Opening) (q : Plain) (i : ℕ) (y : ClientState) (rs : List Record) (r : Record) → actor_of r.event ≡ suc i → Stands o q i y → Matches y (view_at q i) (does (doing (suc i) rs) r r.event) → spent y ≤ asked (suc i) (rs ++ r ∷ []) → IsClientAt o q i y (rs ++ r ∷ [])
-own_client o q i y rs r e stands matches few = record {
+own_client : (o : Opening) (q : Plain) (i : ℕ) (y : ClientState) (rs : List Record) (r : Record) → actor_of r.event ≡ suc i → Stands o q i y → Matches y (view_at q i) (does (doing (suc i) rs) r r.event) → spent y ≤ asked (suc i) (rs ++ r ∷ []) → Remembers o.names y.cursors (ended (suc i) (rs ++ r ∷ [])) → IsClientAt o q i y (rs ++ r ∷ [])
+own_client o q i y rs r e stands matches few cursors = record {
   stands = stands;
   matches = subst (λ (d : Doing). Matches y (view_at q i) d) (sym (doing_own (suc i) rs r e)) matches;
   spent = few;
+  cursors = cursors;
 }
 
 -- the clients where that of one place is another
 each_set : (P : ℕ → ClientState → Type 0) (xs : List ClientState) (i : ℕ) (y : ClientState) → P i y → ((j : ℕ) (z : ClientState) → j ≢ i → nth xs j ≡ Some z → P j z) → (j : ℕ) (z : ClientState) → nth (set xs i y) j ≡ Some z → P j z
-each_set P xs i y here others j z e = dite (ℕ_discrete j i)
-    (λ (h : j ≡ i). let at : nth (set xs i y) i ≡ Some z = subst (λ (k : ℕ). nth (set xs i y) k ≡ Some z) h e in let same : y ≡ z = go at in subst (λ (k : ℕ). P k z) (sym h) (subst (P i) same here))
-    (λ (h : j ≢ i). others j z h (sym (nth_other xs i j y h) ∙ e))
-  where
-    go : nth (set xs i y) i ≡ Some z → y ≡ z
-    go at = let l = nth_within (set xs i y) i z at in let k : i < length xs = subst (λ (n : ℕ). i < n) (length-set xs i y) l in let h = nth_set xs i y k in cc
+each_set P xs i y here others j z e = ⊎_elim
+    (λ (h : (j ≡ i) × (y ≡ z)). subst (λ (k : ℕ). P k z) (sym h.0) (subst (P i) h.1 here))
+    (λ (h : (j ≢ i) × (nth xs j ≡ Some z)). others j z h.0 h.1)
+    (nth_set xs i j y z e)
 
 abbrev pub with_client : Parts → ℕ → ClientState → Parts
 with_client m i y = record m { clients = set m.clients i y }
@@ -123,7 +122,21 @@ with_client m i y = record m { clients = set m.clients i y }
 abbrev pub refusing : ClientState → ClientState
 refusing x = record x { refusing = true }
 
+-- the client that was put there is the one that stands there
+client_set : (m : Parts) (i : ℕ) (y : ClientState) (j : ℕ) (z : ClientState) → suc j ≡ suc i → nth (set m.clients i y) j ≡ Some z → y ≡ z
+client_set m i y j z seat there = ⊎_elim
+    (λ (h : (j ≡ i) × (y ≡ z)). h.1)
+    (λ (h : (j ≢ i) × (nth m.clients j ≡ Some z)). absurd (h.0 (omega arith)))
+    (nth_set m.clients i j y z there)
+
+-- a call that the client begins there finds its way, and ends in as many accesses as it costs
+abbrev BeginsAlone : (o : Opening) → List Record → List ℕ → List ClientState → ℕ → Call → Type 0
+BeginsAlone o rs ws clients c call = (f : Finds o c rs call) × ((i : ℕ) (y : ClientState) → suc i ≡ c → nth clients i ≡ Some y → EndsIn o.setup.pool ws (cost_of o c rs call f) y.under)
+
 module _ (o : Opening) (m : Parts) (rs : List Record) (at : IsAt o m rs) where
+  names_are : AreBindings o.names
+  names_are = subst AreBindings (sym at.names) (bindings_are m.names at.apart)
+
   still_legal : (r : Record) → r.entry ≡ None → Legal finite.empty [] (entries_in (rs ++ r ∷ []))
   still_legal r e = subst (λ (l : List Entry). Legal finite.empty [] l) (sym (still_entries rs r e)) at.legal
 
@@ -131,41 +144,35 @@ module _ (o : Opening) (m : Parts) (rs : List Record) (at : IsAt o m rs) where
   no_step : (e : Event) (note : Note) (c : ℕ) → IsOwnStep c (still e note) → ⊥
   no_step e note c s = let q : None ≡ Some s.access = s.is in absurd cc
 
-  -- nor does it change what a call finds
-  found_still : (e : Event) (note : Note) → AllFound o (rs ++ still e note ∷ [])
-  found_still e note = all_found_more o rs (still e note) at.found (λ call slot named.
-      let same : words_after o.setup.pool o.words rs ≡ words_after o.setup.pool o.words (rs ++ still e note ∷ []) = sym (words_more o.setup.pool o.words rs (still e note)) in
-      subst (λ (ws : List ℕ). (tags : List ℕ) × (tail : ℕ) × (version : Option Value) × Finds o ws call tags tail version) same (at.found rs [] call slot (sym (append-nil rs)) named))
-
-  alone_still : (e : Event) (note : Note) → AllAlone o (rs ++ still e note ∷ [])
-  alone_still e note = all_alone_more o rs (still e note) at.alone (λ x now s. absurd (no_step e note x.client s))
+  -- nor does it end one
+  still_ended : (c : ℕ) (e : Event) (note : Note) → ended c (rs ++ still e note ∷ []) ≡ ended c rs
+  still_ended c e note = ended_more c rs (still e note) ∙ ended_still c (doing c rs).task note (ended c rs)
 
   -- what is told of the calls that such a record begins
   abbrev BeginsSo : Event → Note → List ClientState → Type 0
-  BeginsSo e note clients = (c : ℕ) (call : Call) (tags : List ℕ) (tail : ℕ) (version : Option Value) → OpensCall c call (still e note) → Finds o (words_after o.setup.pool o.words rs) call tags tail version
-      → (i : ℕ) (y : ClientState) → suc i ≡ c → nth clients i ≡ Some y → EndsIn o.setup.pool m.pool.words (cost call (length tags) tail version) y.under
+  BeginsSo e note clients = (c : ℕ) (call : Call) → OpensCall c call (still e note) → BeginsAlone o rs m.pool.words clients c call
 
-  underway_still : (e : Event) (note : Note) (clients : List ClientState) → BeginsSo e note clients → AllUnderway o m.pool.words clients (rs ++ still e note ∷ [])
-  underway_still e note clients opens = all_underway_more o rs (still e note) m.pool.words clients (λ x now s. absurd (no_step e note x.client s)) opens
+  alone_still : (e : Event) (note : Note) (clients : List ClientState) → BeginsSo e note clients → AloneSoFar o m.pool.words clients (rs ++ still e note ∷ [])
+  alone_still e note clients opens = alone_more o rs (still e note) at.alone.all m.pool.words clients (λ c call s. (opens c call s).0) (λ x now s. absurd (no_step e note x.client s)) (λ x now s. absurd (no_step e note x.client s)) (λ c call s. (opens c call s).1)
 
   -- it begins none
   abbrev Silent : Event → Note → Type 0
   Silent e note = (c : ℕ) (call : Call) → OpensCall c call (still e note) → ⊥
 
   silent_opening : (e : Event) (note : Note) (clients : List ClientState) → Silent e note → BeginsSo e note clients
-  silent_opening e note clients silent c call tags tail version opens finds i y seat here = absurd (silent c call opens)
+  silent_opening e note clients silent c call opens = absurd (silent c call opens)
 
   -- nothing is another
   stayed : (e : Event) (note : Note) → Follows o rs (still e note) → ((d : Doing) → does d (still e note) e ≡ d) → Silent e note → IsAt o m (rs ++ still e note ∷ [])
-  stayed e note follows same silent = pushed o m m rs r at follows refl refl (still_pool o m.pool rs r at.pool refl refl) refl each (λ d above h. ap (λ (z : Doing). z.task) (same d) ∙ h) (still_legal r refl) (found_still e note) (alone_still e note) (underway_still e note m.clients (silent_opening e note m.clients silent))
+  stayed e note follows same silent = pushed o m m rs r at follows refl refl (still_pool o m.pool rs r at.pool refl refl) refl each (λ d above h. ap (λ (z : Doing). z.task) (same d) ∙ h) (still_legal r refl) (alone_still e note m.clients (silent_opening e note m.clients silent))
     where
       r : Record
       r = still e note
 
       each : (i : ℕ) (x : ClientState) → nth m.clients i ≡ Some x → IsClientAt o m.pool i x (rs ++ still e note ∷ [])
       each i x here = let was = at.each i x here in dite (ℕ_discrete (actor_of e) (suc i))
-          (λ (h : actor_of e ≡ suc i). own_client o m.pool i x rs (still e note) h was.stands (subst (λ (d : Doing). Matches x (view_at m.pool i) d) (sym (same (doing (suc i) rs))) was.matches) (let l = asked_least (suc i) rs (still e note) in let s = was.spent in omega arith))
-          (λ h. other_client o m.pool m.pool i x rs (still e note) was h was.stands refl)
+          (λ (h : actor_of e ≡ suc i). own_client o m.pool i x rs (still e note) h was.stands (subst (λ (d : Doing). Matches x (view_at m.pool i) d) (sym (same (doing (suc i) rs))) was.matches) (let l = asked_least (suc i) rs (still e note) in let s = was.spent in omega arith) (subst (Remembers o.names x.cursors) (sym (still_ended (suc i) e note)) was.cursors))
+          (λ h. other_client o m.pool m.pool i x rs (still e note) was h was.stands refl (still_ended (suc i) e note))
 
   -- an actor that there is not
   begin_missing : (a : ℕ) (t : Task) → o.setup.clients < a → Missing a ≡ begin_note o.setup (doing a rs) a t
@@ -209,37 +216,33 @@ module _ (o : Opening) (m : Parts) (rs : List Record) (at : IsAt o m rs) where
 
   -- one client is another, and the record has no access and no entry
   pub changed : (i : ℕ) (x y : ClientState) (e : Event) (note : Note) → nth m.clients i ≡ Some x → actor_of e ≡ suc i → Follows o rs (still e note) → Stands o m.pool i y
-      → Matches y (view_at m.pool i) (does (doing (suc i) rs) (still e note) e) → spent y ≤ asked (suc i) (rs ++ still e note ∷ []) → BeginsSo e note (set m.clients i y) → IsAt o (with_client m i y) (rs ++ still e note ∷ [])
-  changed i x y e note here actor follows stands matches few opens = pushed o m (with_client m i y) rs (still e note) at follows refl refl (still_pool o m.pool rs (still e note) at.pool refl refl) (length-set m.clients i y)
-      (each_set (λ (j : ℕ) (z : ClientState). IsClientAt o m.pool j z (rs ++ still e note ∷ [])) m.clients i y (own_client o m.pool i y rs (still e note) actor stands matches few)
-      (λ j z apart there. let was = at.each j z there in other_client o m.pool m.pool j z rs (still e note) was (λ (s : actor_of e ≡ suc j). apart (omega (arith, s, actor))) was.stands refl))
+      → Matches y (view_at m.pool i) (does (doing (suc i) rs) (still e note) e) → spent y ≤ asked (suc i) (rs ++ still e note ∷ []) → Remembers o.names y.cursors (ended (suc i) rs) → BeginsSo e note (set m.clients i y) → IsAt o (with_client m i y) (rs ++ still e note ∷ [])
+  changed i x y e note here actor follows stands matches few cursors opens = pushed o m (with_client m i y) rs (still e note) at follows refl refl (still_pool o m.pool rs (still e note) at.pool refl refl) (length-set m.clients i y)
+      (each_set (λ (j : ℕ) (z : ClientState). IsClientAt o m.pool j z (rs ++ still e note ∷ [])) m.clients i y (own_client o m.pool i y rs (still e note) actor stands matches few (subst (Remembers o.names y.cursors) (sym (still_ended (suc i) e note)) cursors))
+      (λ j z apart there. let was = at.each j z there in other_client o m.pool m.pool j z rs (still e note) was (λ (s : actor_of e ≡ suc j). apart (omega (arith, s, actor))) was.stands refl (still_ended (suc j) e note)))
       (λ d above h. absurd (absent i x here (subst (λ (b : ℕ). o.setup.clients < b) actor above)))
-      (still_legal (still e note) refl) (found_still e note) (alone_still e note) (underway_still e note (set m.clients i y) opens)
+      (still_legal (still e note) refl) (alone_still e note (set m.clients i y) opens)
 
   -- a client with nothing under way has no task
   idle_task : (i : ℕ) (x : ClientState) → nth m.clients i ≡ Some x → x.under ≡ Nothing → (doing (suc i) rs).task ≡ None
   idle_task i x here idle = subst (λ (u : Underway). UnderMatches u (view_at m.pool i) (doing (suc i) rs)) idle (at.each i x here).matches.under
 
-  -- the call that a client begins ends in as many accesses as it costs
+  -- a call that a client begins: at its cursor of the key's slot where it has one
   opened : (i : ℕ) (x y : ClientState) (t : Task) (note : Note) → nth m.clients i ≡ Some x → Begins o m.pool i x y t note → Running m.pool → BeginsSo (Begin (suc i) t) note (set m.clients i y)
-  opened i x y t note here b running c call tags tail version opens finds j z seat there =
+  opened i x y t note here b running c call opens =
       let event : Begin (suc i) t ≡ Begin c (ClientTask call opens.written) = opens.event in
       let own : suc i ≡ c = cc in
       let task : t ≡ ClientTask call opens.written = cc in
-      let place : j ≡ i = (let s = seat in omega arith) in
-      let set_here : nth (set m.clients i y) i ≡ Some y = nth_set m.clients i y (nth_within m.clients i x here) in
-      let read : nth (set m.clients i y) i ≡ Some z = subst (λ (k : ℕ). nth (set m.clients i y) k ≡ Some z) place there in
-      let same : y ≡ z = (let q : Some y ≡ Some z = sym set_here ∙ read in cc) in
-      let s : Starts o (suc i) x.taken call y.under = subst (λ (k : Task). Starts o (suc i) x.taken (call_in k) y.under) task (b.starts opens.quiet) in
-      let in_names : (r : ℕ) → Within (r, key_of call) o.names → Within (r, key_of call) (bindings_from 0 m.names) = (λ r. subst (Within (r, key_of call)) at.names) in
-      let slot : finds.slot ≡ s.slot = one_slot m.names finds.slot s.slot (key_of call) at.apart (in_names finds.slot finds.named) (in_names s.slot s.named) in
-      let few = slot_low m.names s.slot (key_of call) (in_names s.slot s.named) in
-      let slots = subst (λ (k : Setup). length m.names ≤ k.pool.slots) at.setup at.slots in
-      let low : s.slot < o.setup.pool.slots = omega arith in
-      let leads = subst (λ (ws : List ℕ). LeadsOver o.setup.pool ws ((mem_of o.setup.pool ws).root s.slot) tags tail) (sym at.pool.words) (subst (λ (k : ℕ). LeadsOver o.setup.pool (words_after o.setup.pool o.words rs) ((mem_of o.setup.pool (words_after o.setup.pool o.words rs)).root k) tags tail) slot finds.leads) in
-      let has = subst (λ (ws : List ℕ). HasVersion o.setup.pool ws tail version) (sym at.pool.words) finds.has in
-      subst (λ (k : ClientState). EndsIn o.setup.pool m.pool.words (cost call (length tags) tail version) k.under) same
-      (starts o m.pool i x (at.each i x here).stands running s.slot low tags tail version leads has call y.under s.begun s.fits s.dealt)
+      subst (λ (a : ℕ). BeginsAlone o rs m.pool.words (set m.clients i y) a call) own (subst (λ (k : Task). BeginsAlone o rs m.pool.words (set m.clients i y) (suc i) (call_in k)) task (mine opens.quiet))
+    where
+      mine : note ≡ Quiet → BeginsAlone o rs m.pool.words (set m.clients i y) (suc i) (call_in t)
+      mine quiet =
+          let was = at.each i x here in
+          let s : Starts o (suc i) x.taken x.cursors (call_in t) y.under = b.starts quiet in
+          let may : MayBegin (ended (suc i) rs) (key_of (call_in t)) (number_of (cursor_at s.slot x.cursors)) = may_begin o.names names_are x.cursors (ended (suc i) rs) s.slot (key_of (call_in t)) was.cursors s.named in
+          let known = cursor_held o.setup.pool (view_at m.pool i) s.slot x.cursors was.stands.cursors in
+          let found = begins_alone o rs m.pool i x was.stands running at.pool.words (call_in t) s.slot s.named (cursor_at s.slot x.cursors) known may in
+          (found.0, λ j z seat there. subst (λ (k : ClientState). EndsIn o.setup.pool m.pool.words (cost_of o (suc i) rs (call_in t) found.0) k.under) (client_set m i y j z seat there) (found.1 y.under s.begun s.fits s.dealt))
 
   -- a client begins
   pub begun_client : (i : ℕ) (x y : ClientState) (t : Task) (note : Note) → nth m.clients i ≡ Some x → x.under ≡ Nothing → Begins o m.pool i x y t note → Running m.pool → IsAt o (with_client m i y) (rs ++ still (Begin (suc i) t) note ∷ [])
@@ -248,7 +251,11 @@ module _ (o : Opening) (m : Parts) (rs : List Record) (at : IsAt o m rs) where
       let own = asked_own (suc i) rs (still (Begin (suc i) t) note) t refl in
       let few = was.spent in
       let more = b.spent in
-      changed i x y (Begin (suc i) t) note here refl (refl, refl, b.says (doing (suc i) rs) (idle_task i x here idle)) b.stands (b.matches (doing (suc i) rs) was.matches) (omega arith) (opened i x y t note here b running)
+      changed i x y (Begin (suc i) t) note here refl (refl, refl, b.says (doing (suc i) rs) (idle_task i x here idle)) b.stands (b.matches (doing (suc i) rs) was.matches) (omega arith) (remembers b.asks) (opened i x y t note here b running)
+    where
+      remembers : (y.cursors ≡ x.cursors) ⊎ ((s : ℕ) × (y.cursors ≡ asked_for s x.cursors)) → Remembers o.names y.cursors (ended (suc i) rs)
+      remembers (inl same) = subst (λ (k : Known). Remembers o.names k (ended (suc i) rs)) (sym same) (at.each i x here).cursors
+      remembers (inr (s, is)) = subst (λ (k : Known). Remembers o.names k (ended (suc i) rs)) (sym is) (remembers_asked o.names s x.cursors (ended (suc i) rs) (at.each i x here).cursors)
 
   -- an actor with no task steps
   idled : (a : ℕ) → (doing a rs).task ≡ None → IsAt o m (rs ++ still (Step a) Quiet ∷ [])
@@ -276,8 +283,8 @@ module _ (o : Opening) (m : Parts) (rs : List Record) (at : IsAt o m rs) where
       let least = asked_least (suc i) rs (still (Refuse (suc i)) Quiet) in
       let few = was.spent in
       changed i x (refusing x) (Refuse (suc i)) Quiet here refl (refl, refl, refl)
-      (record { setup = s.setup; opened = s.opened; entered = s.entered; seat = s.seat; seats = s.seats; pool = s.pool; role = s.role; names = s.names; stock = s.stock; number = s.number; under = s.under })
-      (record { refusing = refl; under = same (doing (suc i) rs) x.under was.matches.under }) (omega arith)
+      (record { setup = s.setup; opened = s.opened; entered = s.entered; seat = s.seat; seats = s.seats; pool = s.pool; role = s.role; names = s.names; stock = s.stock; number = s.number; under = s.under; cursors = s.cursors })
+      (record { refusing = refl; under = same (doing (suc i) rs) x.under was.matches.under }) (omega arith) was.cursors
       (silent_opening (Refuse (suc i)) Quiet (set m.clients i (refusing x)) (λ c call s. let q : Refuse (suc i) ≡ Begin c (ClientTask call s.written) = s.event in absurd cc))
     where
       same : (d : Doing) (u : Underway) → UnderMatches u (view_at m.pool i) d → UnderMatches u (view_at m.pool i) (record { task = d.task; decided = d.decided; since = d.since; refusing = true })
@@ -288,9 +295,9 @@ module _ (o : Opening) (m : Parts) (rs : List Record) (at : IsAt o m rs) where
 
   pub refused_far : (a : ℕ) → o.setup.clients < a → IsAt o m (rs ++ still (Refuse a) Quiet ∷ [])
   refused_far a above = pushed o m m rs (still (Refuse a) Quiet) at (refl, refl, refl) refl refl (still_pool o m.pool rs (still (Refuse a) Quiet) at.pool refl refl) refl
-      (λ i x here. let was = at.each i x here in other_client o m.pool m.pool i x rs (still (Refuse a) Quiet) was (λ (e : a ≡ suc i). absent i x here (subst (λ (b : ℕ). o.setup.clients < b) e above)) was.stands refl)
-      (λ d over h. h) (still_legal (still (Refuse a) Quiet) refl) (found_still (Refuse a) Quiet) (alone_still (Refuse a) Quiet)
-      (underway_still (Refuse a) Quiet m.clients (silent_opening (Refuse a) Quiet m.clients (λ c call s. let q : Refuse a ≡ Begin c (ClientTask call s.written) = s.event in absurd cc)))
+      (λ i x here. let was = at.each i x here in other_client o m.pool m.pool i x rs (still (Refuse a) Quiet) was (λ (e : a ≡ suc i). absent i x here (subst (λ (b : ℕ). o.setup.clients < b) e above)) was.stands refl (still_ended (suc i) (Refuse a) Quiet))
+      (λ d over h. h) (still_legal (still (Refuse a) Quiet) refl)
+      (alone_still (Refuse a) Quiet m.clients (silent_opening (Refuse a) Quiet m.clients (λ c call s. let q : Refuse a ≡ Begin c (ClientTask call s.written) = s.event in absurd cc)))
 
 -- the entries of a client are the same where the entry is another client's
 own_kept : (h : List Entry) (e : Option Entry) (c n : ℕ) → IfSome e (λ (x : Entry). x.client ≡ n) → n ≢ c → own (h ++ listed e) c ≡ own h c
@@ -313,6 +320,7 @@ stands_on o i j z x e p q apart is moved s =
       stock = ap (λ (v : View). v.pass.stock) same ∙ s.stock;
       number = s.number ∙ sym (ap (λ (l : List Entry). length (own l (suc j))) moved.entries ∙ ap length (own_kept p.entries e (suc j) (suc i) is (λ (h : suc i ≡ suc j). apart (omega arith))));
       under = subst (λ (v : View). IsUnder o.setup.pool v z.under) (sym same) s.under;
+      cursors = subst (λ (v : View). AreCursors o.setup.pool v z.cursors) (sym same) s.cursors;
     }
 
 -- the pool of one access more
@@ -339,25 +347,17 @@ moved_pool o i x e note p q rs at moved =
 abbrev pub with_pool : Parts → ℕ → ClientState → Plain → Parts
 with_pool m i y q = record m { pool = q; clients = set m.clients i y }
 
--- the client that was put there is the one that stands there
-client_set : (m : Parts) (i : ℕ) (x y : ClientState) → nth m.clients i ≡ Some x → (j : ℕ) (z : ClientState) → suc j ≡ suc i → nth (set m.clients i y) j ≡ Some z → y ≡ z
-client_set m i x y here j z seat there =
-    let place : j ≡ i = (let s = seat in omega arith) in
-    let set_here : nth (set m.clients i y) i ≡ Some y = nth_set m.clients i y (nth_within m.clients i x here) in
-    let read : nth (set m.clients i y) i ≡ Some z = subst (λ (k : ℕ). nth (set m.clients i y) k ≡ Some z) place there in
-    let q : Some y ≡ Some z = sym set_here ∙ read in cc
-
 own_client_is : {c d : ℕ} → Step c ≡ Step d → c ≡ d
 own_client_is e = cc
 
 -- a step of a call that has run alone up to it
-gone : (o : Opening) (m : Parts) (rs : List Record) → IsAt o m rs → (i : ℕ) (x y : ClientState) (q : Plain) (note : Note) → nth m.clients i ≡ Some x → (w : Went o i x y m.pool q note)
-    → (s : RunsAlone o rs) → s.after ≡ [] → IsOwnStep s.client (step_record i w.access w.entry note) → (left : ℕ) × (suc (length s.steps) + left ≡ cost_of o rs s) × NotesWith s.client left note × EndsIn o.setup.pool q.words left y.under
+gone : (o : Opening) (m : Parts) (rs : List Record) (at : IsAt o m rs) (i : ℕ) (x y : ClientState) (q : Plain) (note : Note) → nth m.clients i ≡ Some x → (w : Went o i x y m.pool q note)
+    → (s : RunsAlone o rs) → s.after ≡ [] → IsOwnStep s.client (step_record i w.access w.entry note) → (left : ℕ) × (suc (length s.steps) + left ≡ cost_of o s.client s.before s.call (at.alone.all s).0) × NotesWith s.client left note × EndsIn o.setup.pool q.words left y.under
 gone o m rs at i x y q note here w s now own =
     let seat : suc i ≡ s.client = own_client_is own.event in
     let access : w.access ≡ own.access = (let e : Some w.access ≡ Some own.access = own.is in cc) in
     let free = ap (λ (z : Access). z.refused) access ∙ own.made in
-    let u = at.underway s now i x seat here in
+    let u = at.alone.underway s now i x seat here in
     let a = w.alone u.0 free u.2 in
     let n = u.1 in let k = a.one in
     (a.left, omega arith, subst (λ (c : ℕ). NotesWith c a.left note) seat a.notes, a.ends)
@@ -378,14 +378,21 @@ stepped_client o m rs at i x y q note here w running legal =
     let least = asked_least (suc i) rs r in
     let few = was.spent in
     let less = w.spent in
+    let answers : AnswersOnly (suc i) note = answers_own o i d m.pool.words (length (own m.pool.entries (suc i))) w.access w.entry note went.0 in
+    let busy : x.under ≢ Nothing = (λ idle. let none : Some w.access ≡ None = (went.0.idle (idle_task o m rs at i x here idle)).0 in cc) in
+    let on : IsOn o.names (slot_of x.under) d.task = under_on o.setup.pool x.under (view_at m.pool i) d o.names was.stands.under was.matches.under was.stands.names busy in
+    let cursors : Remembers o.names y.cursors (ended (suc i) (rs ++ r ∷ [])) = subst (Remembers o.names y.cursors) (sym (ended_more (suc i) rs r))
+    (remembers_step o.names (names_are o m rs at) (suc i) (slot_of x.under) d.task w.access note x.cursors y.cursors (ended (suc i) rs) on answers w.cursor was.cursors) in
+    let alone : AloneSoFar o q.words (set m.clients i y) (rs ++ r ∷ []) = alone_more o rs r at.alone.all q.words (set m.clients i y) (λ c call opens. absurd (no_begin c call opens))
+    (λ s now own. let g = gone o m rs at i x y q note here w s now own in (g.0, g.1, g.2))
+    (λ s now own j z seat there. let g = gone o m rs at i x y q note here w s now own in subst (λ (k : ClientState). EndsIn o.setup.pool q.words g.0 k.under) (client_set m i y j z (seat ∙ sym (own_client_is own.event)) there) g.3)
+    (λ c call opens. absurd (no_begin c call opens)) in
     pushed o m (with_pool m i y q) rs r at steps refl refl pool (length-set m.clients i y)
-    (each_set (λ (j : ℕ) (z : ClientState). IsClientAt o q j z (rs ++ r ∷ [])) m.clients i y (own_client o q i y rs r refl w.stands went.1 (omega arith))
-    (λ j z apart there. let was = at.each j z there in other_client o m.pool q j z rs r was (λ (s : suc i ≡ suc j). apart (omega arith)) (stands_on o i j z w.access w.entry m.pool q apart client w.moved was.stands) (w.moved.others j apart)))
+    (each_set (λ (j : ℕ) (z : ClientState). IsClientAt o q j z (rs ++ r ∷ [])) m.clients i y (own_client o q i y rs r refl w.stands went.1 (omega arith) cursors)
+    (λ j z apart there. let was = at.each j z there in other_client o m.pool q j z rs r was (λ (s : suc i ≡ suc j). apart (omega arith)) (stands_on o i j z w.access w.entry m.pool q apart client w.moved was.stands) (w.moved.others j apart)
+    (ended_more (suc j) rs r ∙ ended_other (suc j) (suc i) (doing (suc j) rs).task note w.access (ended (suc j) rs) answers (λ (s : suc i ≡ suc j). apart (omega arith)))))
     (λ d above h. absurd (let l = was.stands.seat in omega arith))
-    (subst (λ (l : List Entry). Legal finite.empty [] l) pool.entries legal)
-    (all_found_more o rs r at.found (λ call slot named.
-    subst (λ (ws : List ℕ). (tags : List ℕ) × (tail : ℕ) × (version : Option Value) × Finds o ws call tags tail version) pool.words (finds_now o q i y w.stands running call slot named)))
-    (all_alone_more o rs r at.alone (λ s now own. let g = gone o m rs at i x y q note here w s now own in (g.0, g.1, g.2)))
-    (all_underway_more o rs r q.words (set m.clients i y)
-    (λ s now own j z seat there. let g = gone o m rs at i x y q note here w s now own in (g.0, g.1, subst (λ (k : ClientState). EndsIn o.setup.pool q.words g.0 k.under) (client_set m i x y here j z (seat ∙ sym (own_client_is own.event)) there) g.3))
-    (λ c call tags tail version opens finds j z seat there. let e : Step (suc i) ≡ Begin c (ClientTask call opens.written) = opens.event in absurd cc))
+    (subst (λ (l : List Entry). Legal finite.empty [] l) pool.entries legal) alone
+  where
+    no_begin : (c : ℕ) (call : Call) → OpensCall c call (step_record i w.access w.entry note) → ⊥
+    no_begin c call opens = let e : Step (suc i) ≡ Begin c (ClientTask call opens.written) = opens.event in absurd cc

@@ -8,7 +8,8 @@ use Rattle.clover_script.specs.Form.{call_in}
 use Rattle.clover_script.specs.Lines.{takes}
 use Rattle.clover_script.specs.declared.line.Task.{Task}
 use Rattle.clover_script.specs.declared.line.Task.TheVariants.{Client as ClientTask}
-use Rattle.clover_sched.specs.Folds.{listed, accesses_in, entries_in, words_by, words_after, made_by, made_in, actor_of, does, does_of, doing}
+use Rattle.clover_sched.specs.Ends.{ended_by, ended_from, ended}
+use Rattle.clover_sched.specs.Folds.{Doing, nothing, along, listed, accesses_in, entries_in, words_by, words_after, made_by, made_in, actor_of, does, does_of, doing}
 use Rattle.clover_sched.specs.Machine.{asks, asked}
 use Rattle.clover_sched.specs.Record.{Record}
 use Rattle.clover_sched.specs.Run.{Opening, Follows, Goes}
@@ -61,3 +62,11 @@ asked_least a rs r = subst (λ (n : ℕ). asked a rs ≤ n) (sym (asked_more a r
 
 pub asked_own : (a : ℕ) (rs : List Record) (r : Record) (t : Task) → r.event ≡ Begin a t → asked a (rs ++ r ∷ []) ≡ asked a rs + takes (call_in t)
 asked_own a rs r t e = asked_more a rs r ∙ ap (asks a (asked a rs)) e ∙ asks_own a (asked a rs) t
+
+-- a client's answered calls: one more where the record answers its call
+ended_from_more : (c : ℕ) (d : Doing) (h : List (List ℕ × ℕ)) (rs : List Record) (r : Record) → ended_from c d h (rs ++ r ∷ []) ≡ ended_by c (along (does_of c) d rs).task r.note r.access (ended_from c d h rs)
+ended_from_more c d h [] r = refl
+ended_from_more c d h (x ∷ xs) r = ended_from_more c (does_of c d x) (ended_by c d.task x.note x.access h) xs r
+
+pub ended_more : (c : ℕ) (rs : List Record) (r : Record) → ended c (rs ++ r ∷ []) ≡ ended_by c (doing c rs).task r.note r.access (ended c rs)
+ended_more c rs r = ended_from_more c nothing [] rs r

@@ -1,6 +1,7 @@
--- The element at a place of a list, of a list with another one there, and of one by repetition.
-use Rattle.std.proofs.Common.{◌≡◌, ◌≢◌, ℕ, zero, suc, ◌<◌, ◌≤◌, List, [], ◌∷◌, length, set, get_or, replicate, refl, sym, ap, arith}
-use Rattle.std.specs.Prelude.{Some, None, slice_get}
+-- The element at a place of a list and of one by repetition, a list with an element put where it stands, and the last of a list.
+use Rattle.std.proofs.Common.{◌≡◌, ℕ, zero, suc, ◌<◌, List, [], ◌∷◌, ◌++◌, length, set, get_or, replicate, reverse, refl, sym, ap, ◌∙◌, arith}
+use Rattle.std.specs.Prelude.{Some, slice_get}
+use Rattle.std.proofs.lemmas.List.{reverse-append, reverse-reverse}
 use Rattle.clover_rule.specs.Lists.{nth}
 
 pub nth_get : {A : Type 0} (xs : List A) (i : ℕ) → slice_get xs i ≡ nth xs i
@@ -13,34 +14,6 @@ nth_here [] i x below is = absurd (omega arith)
 nth_here (y ∷ ys) zero x below is = ap Some (sym is)
 nth_here (y ∷ ys) (suc i) x below is = nth_here ys i x (omega arith) is
 
-pub nth_past : {A : Type 0} (xs : List A) (i : ℕ) → length xs ≤ i → nth xs i ≡ None
-nth_past [] i past = refl
-nth_past (y ∷ ys) zero past = absurd (omega arith)
-nth_past (y ∷ ys) (suc i) past = nth_past ys i (omega arith)
-
-pub nth_none : {A : Type 0} (xs : List A) (i : ℕ) → nth xs i ≡ None → length xs ≤ i
-nth_none [] i e = omega arith
-nth_none (y ∷ ys) zero e = absurd cc
-nth_none (y ∷ ys) (suc i) e = let l = nth_none ys i e in omega arith
-
-pub nth_within : {A : Type 0} (xs : List A) (i : ℕ) (x : A) → nth xs i ≡ Some x → i < length xs
-nth_within [] i x e = absurd cc
-nth_within (y ∷ ys) zero x e = omega arith
-nth_within (y ∷ ys) (suc i) x e = let l = nth_within ys i x e in omega arith
-
--- the element that was put there, and each other one
-pub nth_set : {A : Type 0} (xs : List A) (i : ℕ) (x : A) → i < length xs → nth (set xs i x) i ≡ Some x
-nth_set [] i x below = absurd (omega arith)
-nth_set (y ∷ ys) zero x below = refl
-nth_set (y ∷ ys) (suc i) x below = nth_set ys i x (omega arith)
-
-pub nth_other : {A : Type 0} (xs : List A) (i j : ℕ) (x : A) → j ≢ i → nth (set xs i x) j ≡ nth xs j
-nth_other [] i j x apart = refl
-nth_other (y ∷ ys) zero zero x apart = absurd (apart refl)
-nth_other (y ∷ ys) zero (suc j) x apart = refl
-nth_other (y ∷ ys) (suc i) zero x apart = refl
-nth_other (y ∷ ys) (suc i) (suc j) x apart = nth_other ys i j x (λ e. apart (ap suc e))
-
 pub nth_replicate : {A : Type 0} (n i : ℕ) (x y : A) → nth (replicate n x) i ≡ Some y → y ≡ x
 nth_replicate zero i x y e = absurd cc
 nth_replicate (suc n) zero x y e = cc
@@ -50,3 +23,10 @@ pub set_same : {A : Type 0} (xs : List A) (i : ℕ) (x : A) → nth xs i ≡ Som
 set_same [] i x e = absurd cc
 set_same (y ∷ ys) zero x e = let same : y ≡ x = cc in ap (λ z. z ∷ ys) (sym same)
 set_same (y ∷ ys) (suc i) x e = ap (λ zs. y ∷ zs) (set_same ys i x e)
+
+-- two lists that are one have the same elements before the last, and the same last
+pub same_snoc : {A : Type 0} (xs ys : List A) (a b : A) → xs ++ a ∷ [] ≡ ys ++ b ∷ [] → (xs ≡ ys) × (a ≡ b)
+same_snoc xs ys a b e =
+    let back : a ∷ reverse xs ≡ b ∷ reverse ys = sym (reverse-append xs (a ∷ [])) ∙ ap reverse e ∙ reverse-append ys (b ∷ []) in
+    let rest : reverse xs ≡ reverse ys = cc in
+    (sym (reverse-reverse xs) ∙ ap reverse rest ∙ reverse-reverse ys, cc)

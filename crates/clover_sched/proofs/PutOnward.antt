@@ -1,48 +1,24 @@
 -- How a call that writes goes on: what stays of it, and which accesses neither commit nor end it.
-use Rattle.std.proofs.Common.{◌≡◌, ℕ, ◌==◌, List, [], ◌∷◌, ◌++◌, Bool, true, false, cond, eqb, refl, sym, ap, ◌∙◌, subst, eqb-true, eq-eqb}
-use Rattle.std.specs.Prelude.{Option, Some, None}
+use Prim.Native.Nat.{zero, suc}
+use Rattle.std.proofs.Common.{◌≡◌, ℕ, ◌==◌, List, [], ◌∷◌, ◌++◌, Bool, true, false, cond, refl, sym, ap, ◌∙◌, subst, eqb-true, eq-eqb}
+use Rattle.clover_words.specs.declared.word.Side.{Side}
+use Rattle.clover_words.specs.declared.word.Side.TheVariants.{Current, Flushed}
 use Rattle.clover_map.specs.declared.call.Entry.{Entry}
 use Rattle.clover_map.specs.declared.call.Reply.TheVariants.{Absent, Differs}
-use Rattle.clover_rule.specs.Memory.{Next, word, age}
-use Rattle.clover_rule.specs.Steps.{ReadRoot, LoadNext, RaiseNext, DecideNext, act_of, next_view, next_history, unlinked}
-use Rattle.clover_rule.specs.Words.{next_of, root_of}
+use Rattle.clover_rule.specs.Memory.{home}
+use Rattle.clover_rule.specs.Steps.{LoadNext, DecideNext, act_of, next_view, next_history, unlinked}
+use Rattle.clover_rule.specs.Words.{content_at}
+use Rattle.clover_rule.specs.declared.access.Act.TheVariants.{Store}
 use Rattle.clover_rule.specs.declared.view.View.{View}
-use Rattle.clover_walk.specs.Walking.{Walking, Stand, AtRoot, AtTag, AtLink as OnLink, OnTail, Ended, goes_on, goes_from, followed, hops, turned, rooted, step_at}
-use Rattle.clover_put.specs.Answering.{IsBefore}
+use Rattle.clover_walk.specs.Walking.{Stand, AtShort as ToShort, AtRoot, AtTag, AtLink as OnLink, OnTail, Ended, goes_on, step_at}
+use Rattle.clover_put.specs.Answering.{IsBefore, Onward}
 use Rattle.clover_put.specs.Holding.{PutHolds, Fills, Looks}
-use Rattle.clover_put.specs.Putting.{Putting, Stage, Storing, Flushing, Seeking, AtMeta, AtLink, AtDead, AtOther, AtBad, AtRaise, Over, put_step, put_on, call_at, staged, walked, unless_left, reached, at_tail}
+use Rattle.clover_put.specs.Putting.{Putting, Stage, Storing, Flushing, Seeking, AtMeta, AtLink, AtDead, AtOther, AtBad, AtRaise, AtShort, Over, body_word, put_step, put_on, call_at, staged, walked, unless_left, reached, at_tail}
 use Rattle.clover_put.specs.declared.job.Job.{Job}
 use Rattle.clover_put.specs.declared.job.Job.TheVariants.{Put, Delete, Swap}
-use Rattle.clover_sched.specs.Run.{Wrote}
+use Rattle.clover_sched.specs.Run.{Wrote, Shortens}
 use Rattle.clover_sched.proofs.Moving.{stock_kept, stock_missed}
-
--- the walk keeps its pool and slot, and has made an access
-pub record OnWalk (w n : Walking) : Type 0 where
-  pub pool : n.pool ≡ w.pool
-  pub slot : n.slot ≡ w.slot
-  pub first : w.first ≡ false → n.first ≡ false
-
-hops_keep : (w : Walking) (t : ℕ) (l : Option ℕ) → OnWalk w (hops w t l)
-hops_keep w t None = record { pool = refl; slot = refl; first = λ e. refl }
-hops_keep w t (Some u) = record { pool = refl; slot = refl; first = λ e. refl }
-
-followed_keep : (w : Walking) (t : ℕ) (n : Next) → OnWalk w (followed w t n)
-followed_keep w t (word a l) = go (eqb a (age t))
-  where
-    go : (b : Bool) → OnWalk w (cond b (hops w t l) (turned w (Rattle.clover_walk.specs.Walking.next_start w.start) (Rattle.clover_walk.specs.Walking.begins (Rattle.clover_walk.specs.Walking.next_start w.start))))
-    go true = hops_keep w t l
-    go false = record { pool = refl; slot = refl; first = λ e. refl }
-
-rooted_keep : (w : Walking) (o : Option ℕ) → OnWalk w (rooted w o)
-rooted_keep w None = record { pool = refl; slot = refl; first = λ e. refl }
-rooted_keep w (Some t) = record { pool = refl; slot = refl; first = λ e. refl }
-
-goes_keep : (at : Stand) (w : Walking) (x : ℕ) → OnWalk w (goes_from at w x)
-goes_keep AtRoot w x = rooted_keep w (root_of x)
-goes_keep (AtTag t) w x = followed_keep w t (next_of x)
-goes_keep (OnLink t u) w x = record { pool = refl; slot = refl; first = λ e. refl }
-goes_keep (OnTail t) w x = followed_keep w t (next_of x)
-goes_keep Ended w x = record { pool = refl; slot = refl; first = λ e. e }
+use Rattle.clover_sched.proofs.Walks.{on_walk, walk_reads, walk_links, walk_quiet}
 
 -- what stays of a call over an access
 pub record SameCall (c n : Putting) : Type 0 where
@@ -53,7 +29,7 @@ pub record SameCall (c n : Putting) : Type 0 where
   pub value : n.value ≡ c.value
 
 walked_keep : (c : Putting) (x : ℕ) → SameCall c (walked c (goes_on c.walk x))
-walked_keep c x = let k = goes_keep c.walk.stand c.walk x in record { pool = k.pool; slot = k.slot; job = refl; own = refl; value = refl }
+walked_keep c x = let k = on_walk c.walk.stand c.walk x in record { pool = k.pool; slot = k.slot; job = refl; own = refl; value = refl }
 
 left_keep : (c : Putting) (u : ℕ) (at : Stage) (x : ℕ) → SameCall c (unless_left c u at x)
 left_keep c u at x = go (x == unlinked u)
@@ -72,13 +48,14 @@ on_keep (AtDead u) c x = left_keep c u Over x
 on_keep (AtOther u) c x = left_keep c u Over x
 on_keep (AtBad u) c x = walked_keep c x
 on_keep (AtRaise u) c x = record { pool = refl; slot = refl; job = refl; own = refl; value = refl }
+on_keep AtShort c x = record { pool = refl; slot = refl; job = refl; own = refl; value = refl }
 on_keep Over c x = record { pool = refl; slot = refl; job = refl; own = refl; value = refl }
 
 pub same_call : (c : Putting) (x : ℕ) → SameCall c (put_on c x)
 same_call c x = on_keep c.stage c x
 
 walked_later : (c : Putting) (x : ℕ) → c.walk.first ≡ false → (walked c (goes_on c.walk x)).walk.first ≡ false
-walked_later c x e = (goes_keep c.walk.stand c.walk x).first e
+walked_later c x e = (on_walk c.walk.stand c.walk x).first (λ q. e)
 
 left_later : (c : Putting) (u : ℕ) (at : Stage) (x : ℕ) → c.walk.first ≡ false → (unless_left c u at x).walk.first ≡ false
 left_later c u at x e = go (x == unlinked u)
@@ -97,6 +74,7 @@ on_later (AtDead u) c v x f = left_later c u Over x f.1
 on_later (AtOther u) c v x f = left_later c u Over x f.1
 on_later (AtBad u) c v x f = walked_later c x f.1
 on_later (AtRaise u) c v x f = f
+on_later AtShort c v x f = f
 on_later Over c v x f = absurd f
 
 -- a call that has made an access makes no first one
@@ -109,13 +87,6 @@ Misses (AtLink u) x = (x == unlinked u) ≡ false
 Misses (AtDead u) x = (x == unlinked u) ≡ false
 Misses (AtOther u) x = (x == unlinked u) ≡ false
 Misses _ x = Unit {0}
-
-walk_quiet : (s : ℕ) (at : Stand) (h : List Entry) (v : View) (x : ℕ) → next_history (step_at s at) h v x ≡ h
-walk_quiet s AtRoot h v x = refl
-walk_quiet s (AtTag t) h v x = refl
-walk_quiet s (OnLink t u) h v x = refl
-walk_quiet s (OnTail t) h v x = refl
-walk_quiet s Ended h v x = refl
 
 none_more : (b : Bool) (h : List Entry) (e : Entry) → b ≡ false → cond b (h ++ e ∷ []) h ≡ h
 none_more b h e m = ap (λ (z : Bool). cond z (h ++ e ∷ []) h) m
@@ -130,82 +101,102 @@ on_quiet (AtDead t) c u h v x m = none_more (x == unlinked t) h _ m
 on_quiet (AtOther t) c u h v x m = none_more (x == unlinked t) h _ m
 on_quiet (AtBad t) c u h v x m = refl
 on_quiet (AtRaise t) c u h v x m = refl
+on_quiet AtShort c u h v x m = refl
 on_quiet Over c u h v x m = walk_quiet c.walk.slot c.walk.stand h v x
 
 pub quiet_history : (c : Putting) (u : View) (h : List Entry) (v : View) (x : ℕ) → Misses c.stage x → next_history (put_step c u) h v x ≡ h
 quiet_history c u h v x m = on_quiet c.stage c u h v x m
 
-walk_stock : (s : ℕ) (at : Stand) (b : Bool) (h : List Entry) (v : View) (x : ℕ) → (next_view b (step_at s at) h v x).pass.stock ≡ v.pass.stock
-walk_stock s AtRoot b h v x = stock_kept (ReadRoot s) b h v x tt
-walk_stock s (AtTag t) b h v x = stock_kept (LoadNext s t) b h v x tt
-walk_stock s (OnLink t u) b h v x = stock_kept (RaiseNext (record { slot = s; from = t; to = u })) b h v x tt
-walk_stock s (OnTail t) b h v x = stock_kept (LoadNext s t) b h v x tt
-walk_stock s Ended b h v x = stock_kept (ReadRoot s) b h v x tt
-
 on_stock : (s : Stage) (c : Putting) (u : View) (b : Bool) (h : List Entry) (v : View) (x : ℕ) → Misses s x → (next_view b (put_step (record c { stage = s }) u) h v x).pass.stock ≡ v.pass.stock
 on_stock (Storing j) c u b h v x m = refl
 on_stock (Flushing j) c u b h v x m = refl
-on_stock Seeking c u b h v x m = walk_stock c.walk.slot c.walk.stand b h v x
+on_stock Seeking c u b h v x m = stock_kept (step_at c.walk.slot c.walk.stand) b h v x (walk_links c.walk.slot c.walk.stand)
 on_stock (AtMeta t) c u b h v x m = refl
 on_stock (AtLink t) c u b h v x m = stock_missed c.walk.slot t c.own (call_at c u) b h v x m
 on_stock (AtDead t) c u b h v x m = stock_kept (DecideNext c.walk.slot t (call_at c u) Absent) b h v x tt
 on_stock (AtOther t) c u b h v x m = stock_kept (DecideNext c.walk.slot t (call_at c u) (Differs t)) b h v x tt
 on_stock (AtBad t) c u b h v x m = stock_kept (LoadNext c.walk.slot t) b h v x tt
 on_stock (AtRaise t) c u b h v x m = refl
-on_stock Over c u b h v x m = walk_stock c.walk.slot c.walk.stand b h v x
+on_stock AtShort c u b h v x m = refl
+on_stock Over c u b h v x m = stock_kept (step_at c.walk.slot c.walk.stand) b h v x (walk_links c.walk.slot c.walk.stand)
 
 pub quiet_stock : (c : Putting) (u : View) (b : Bool) (h : List Entry) (v : View) (x : ℕ) → Misses c.stage x → (next_view b (put_step c u) h v x).pass.stock ≡ v.pass.stock
 quiet_stock c u b h v x m = on_stock c.stage c u b h v x m
 
-walk_writes : (s : ℕ) (at : Stand) (x : ℕ) → Wrote (act_of (step_at s at) x) → ⊥
-walk_writes s AtRoot x w = w
-walk_writes s (AtTag t) x w = w
-walk_writes s (OnLink t u) x w = w
-walk_writes s (OnTail t) x w = w
-walk_writes s Ended x w = w
-
 on_writes : (s : Stage) (c : Putting) (u : View) (x : ℕ) → Misses s x → Wrote (act_of (put_step (record c { stage = s }) u) x) → ⊥
 on_writes (Storing j) c u x m w = w
 on_writes (Flushing j) c u x m w = w
-on_writes Seeking c u x m w = walk_writes c.walk.slot c.walk.stand x w
+on_writes Seeking c u x m w = (walk_reads c.walk.slot c.walk.stand x).0 w
 on_writes (AtMeta t) c u x m w = w
 on_writes (AtLink t) c u x m w = absurd (let y = eq-eqb x (unlinked t) w in cc)
 on_writes (AtDead t) c u x m w = w
 on_writes (AtOther t) c u x m w = w
 on_writes (AtBad t) c u x m w = w
 on_writes (AtRaise t) c u x m w = w
-on_writes Over c u x m w = walk_writes c.walk.slot c.walk.stand x w
+on_writes AtShort c u x m w = w
+on_writes Over c u x m w = (walk_reads c.walk.slot c.walk.stand x).0 w
 
 pub quiet_writes : (c : Putting) (u : View) (x : ℕ) → Misses c.stage x → Wrote (act_of (put_step c u) x) → ⊥
 quiet_writes c u x m w = on_writes c.stage c u x m w
+
+content_shortens : (b j y : ℕ) (side : Side) → Shortens (Store (content_at b j) side y) → ⊥
+content_shortens b zero y side h = h
+content_shortens b (suc j) y side h = h
+
+on_shortens : (s : Stage) (c : Putting) (u : View) (x : ℕ) → IsBefore s → Shortens (act_of (put_step (record c { stage = s }) u) x) → ⊥
+on_shortens (Storing j) c u x b h = content_shortens (home c.own) j (body_word c.job c.value j) Current h
+on_shortens (Flushing j) c u x b h = content_shortens (home c.own) j (body_word c.job c.value j) Flushed h
+on_shortens Seeking c u x b h = (walk_reads c.walk.slot c.walk.stand x).1 h
+on_shortens (AtMeta t) c u x b h = h
+on_shortens (AtLink t) c u x b h = h
+on_shortens (AtDead t) c u x b h = h
+on_shortens (AtOther t) c u x b h = h
+on_shortens (AtBad t) c u x b h = h
+on_shortens (AtRaise t) c u x b h = absurd b
+on_shortens AtShort c u x b h = absurd b
+on_shortens Over c u x b h = absurd b
+
+-- a call stores no shortcut before its exchange, nor by that
+pub before_shortens : (c : Putting) (u : View) (x : ℕ) → IsBefore c.stage → Shortens (act_of (put_step c u) x) → ⊥
+before_shortens c u x b h = on_shortens c.stage c u x b h
+
+left_before : (k : Bool) (c : Putting) (x : ℕ) (at : Stage) → (IsBefore at → ⊥) → IsBefore (cond k (staged c at) (walked c (goes_on c.walk x))).stage → k ≡ false
+left_before true c x at past h = absurd (past h)
+left_before false c x at past h = refl
 
 on_before : (s : Stage) (c : Putting) (x : ℕ) → IsBefore (put_on (record c { stage = s }) x).stage → Misses s x
 on_before (Storing j) c x b = tt
 on_before (Flushing j) c x b = tt
 on_before Seeking c x b = tt
 on_before (AtMeta u) c x b = tt
-on_before (AtLink u) c x b = go (x == unlinked u) b
-  where
-    go : (k : Bool) → IsBefore (cond k (staged c (AtRaise u)) (walked c (goes_on c.walk x))).stage → k ≡ false
-    go true h = absurd h
-    go false h = refl
-on_before (AtDead u) c x b = go (x == unlinked u) b
-  where
-    go : (k : Bool) → IsBefore (cond k (staged c Over) (walked c (goes_on c.walk x))).stage → k ≡ false
-    go true h = absurd h
-    go false h = refl
-on_before (AtOther u) c x b = go (x == unlinked u) b
-  where
-    go : (k : Bool) → IsBefore (cond k (staged c Over) (walked c (goes_on c.walk x))).stage → k ≡ false
-    go true h = absurd h
-    go false h = refl
+on_before (AtLink u) c x b = left_before (x == unlinked u) c x (AtRaise u) (λ h. h) b
+on_before (AtDead u) c x b = left_before (x == unlinked u) c x Over (λ h. h) b
+on_before (AtOther u) c x b = left_before (x == unlinked u) c x Over (λ h. h) b
 on_before (AtBad u) c x b = tt
 on_before (AtRaise u) c x b = tt
+on_before AtShort c x b = tt
 on_before Over c x b = tt
 
 -- a call that goes on has found no tail unlinked
 pub before_misses : (c : Putting) (x : ℕ) → IsBefore (put_on c x).stage → Misses c.stage x
 before_misses c x b = on_before c.stage c x b
+
+on_onward : (s : Stage) (c n : Putting) → IsBefore s → Onward s c n → IsBefore n.stage
+on_onward (Storing j) c n b e = e
+on_onward (Flushing j) c n b e = e
+on_onward Seeking c n b e = e
+on_onward (AtMeta u) c n b e = e
+on_onward (AtLink u) c n b e = e
+on_onward (AtDead u) c n b e = e
+on_onward (AtOther u) c n b e = e
+on_onward (AtBad u) c n b e = e
+on_onward (AtRaise u) c n b e = absurd b
+on_onward AtShort c n b e = absurd b
+on_onward Over c n b e = absurd b
+
+-- a call that has committed nothing has not where it goes on
+pub onward_before : (c n : Putting) → IsBefore c.stage → Onward c.stage c n → IsBefore n.stage
+onward_before c n b e = on_onward c.stage c n b e
 
 abbrev IsTailOf : Stand → Type 0
 IsTailOf (OnTail t) = Unit {0}
@@ -214,28 +205,21 @@ IsTailOf _ = ⊥
 no_end : (at : Stand) (u : ℕ) → at ≡ OnTail u → at ≡ Ended → ⊥
 no_end at u e f = subst IsTailOf (sym e ∙ f) tt
 
+left_behind : (k : Bool) (c : Putting) (x u : ℕ) (at : Stage) → c.walk.stand ≡ OnTail u → (cond k (staged c at) (walked c (goes_on c.walk x))).walk.stand ≡ Ended → k ≡ false
+left_behind true c x u at on h = absurd (no_end c.walk.stand u on h)
+left_behind false c x u at on h = refl
+
 on_behind : (s : Stage) (c : Putting) (v : View) (x : ℕ) → Looks s c v → (put_on (record c { stage = s }) x).stage ≡ Over → (put_on (record c { stage = s }) x).walk.stand ≡ Ended → Misses s x
 on_behind (Storing j) c v x l o e = tt
 on_behind (Flushing j) c v x l o e = tt
 on_behind Seeking c v x l o e = tt
 on_behind (AtMeta u) c v x l o e = tt
-on_behind (AtLink u) c v x l o e = go (x == unlinked u) e
-  where
-    go : (k : Bool) → (cond k (staged c (AtRaise u)) (walked c (goes_on c.walk x))).walk.stand ≡ Ended → k ≡ false
-    go true h = absurd (no_end c.walk.stand u l.0.0 h)
-    go false h = refl
-on_behind (AtDead u) c v x l o e = go (x == unlinked u) e
-  where
-    go : (k : Bool) → (cond k (staged c Over) (walked c (goes_on c.walk x))).walk.stand ≡ Ended → k ≡ false
-    go true h = absurd (no_end c.walk.stand u l.0.0 h)
-    go false h = refl
-on_behind (AtOther u) c v x l o e = go (x == unlinked u) e
-  where
-    go : (k : Bool) → (cond k (staged c Over) (walked c (goes_on c.walk x))).walk.stand ≡ Ended → k ≡ false
-    go true h = absurd (no_end c.walk.stand u l.0.0 h)
-    go false h = refl
+on_behind (AtLink u) c v x l o e = left_behind (x == unlinked u) c x u (AtRaise u) l.0.0 e
+on_behind (AtDead u) c v x l o e = left_behind (x == unlinked u) c x u Over l.0.0 e
+on_behind (AtOther u) c v x l o e = left_behind (x == unlinked u) c x u Over l.0.0 e
 on_behind (AtBad u) c v x l o e = tt
 on_behind (AtRaise u) c v x l o e = tt
+on_behind AtShort c v x l o e = tt
 on_behind Over c v x l o e = tt
 
 -- nor has one that has fallen behind
@@ -252,6 +236,7 @@ tail_raises Delete t h = h
 tail_raises (Swap e) t h = h
 
 reached_raises : (j : Job) (at : Stand) → IsRaiseOf (reached j at) → ⊥
+reached_raises j ToShort h = h
 reached_raises j AtRoot h = h
 reached_raises j (AtTag t) h = h
 reached_raises j (OnLink t s) h = h
@@ -268,3 +253,22 @@ linked_hit c u x at e = go (x == unlinked u) refl (ap (λ (z : Putting). z.stage
     go : (b : Bool) → (x == unlinked u) ≡ b → AtRaise u ≡ (cond b (staged c (AtRaise u)) (walked c (goes_on c.walk x))).stage → x ≡ unlinked u
     go true q h = eqb-true x (unlinked u) q
     go false q h = absurd (no_raise c.job (goes_on c.walk x).stand u (sym h))
+
+abbrev IsOver : Stage → Type 0
+IsOver Over = Unit {0}
+IsOver _ = ⊥
+
+tail_over : (j : Job) (t : ℕ) → IsOver (at_tail j t) → ⊥
+tail_over Put t h = h
+tail_over Delete t h = h
+tail_over (Swap e) t h = h
+
+-- a call that is over at a tombstone found its tag unlinked
+pub dead_hit : (c : Putting) (u x : ℕ) → c.stage ≡ AtDead u → c.walk.stand ≡ OnTail u → staged c Over ≡ put_on c x → x ≡ unlinked u
+dead_hit c u x at on e = go (x == unlinked u) refl (e ∙ ap (λ (s : Stage). put_on (record c { stage = s }) x) at)
+  where
+    go : (b : Bool) → (x == unlinked u) ≡ b → staged c Over ≡ cond b (staged c Over) (walked c (goes_on c.walk x)) → x ≡ unlinked u
+    go true q h = eqb-true x (unlinked u) q
+    go false q h =
+        let stand : (goes_on c.walk x).stand ≡ OnTail u = ap (λ (z : Putting). z.walk.stand) (sym h) ∙ on in
+        absurd (tail_over c.job u (subst IsOver (ap (λ (z : Putting). z.stage) h ∙ ap (reached c.job) stand) tt))

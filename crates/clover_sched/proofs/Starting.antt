@@ -1,7 +1,6 @@
 -- A call that begins where its slot's chain leads over some tags to a tail: it ends in as many accesses as it costs, if it runs alone.
-use Prim.Native.Nat.{suc}
-use Rattle.std.proofs.Common.{◌≡◌, ◌≢◌, ℕ, ◌+◌, ◌*◌, ◌<◌, ◌≤◌, List, [], ◌∷◌, ◌++◌, length, Bool, cond, eqb, refl, sym, ap, ◌∙◌, subst, arith, inl, inr, eq-eqb}
-use Rattle.std.specs.Prelude.{Option, Some, None}
+use Rattle.std.proofs.Common.{◌≡◌, ◌≢◌, ℕ, ◌+◌, ◌*◌, ◌<◌, ◌≤◌, List, [], ◌∷◌, ◌++◌, length, Bool, cond, eqb, refl, sym, ap, ◌∙◌, subst, arith, eq-eqb}
+use Rattle.std.specs.Prelude.{Option, Some, None, IfSome}
 use Rattle.clover_words.specs.declared.bytes.ValueBuf.{ValueBuf}
 use Rattle.clover_words.specs.declared.pool.Pool.{Pool}
 use Rattle.clover_words.specs.declared.setup.Setup.{Setup}
@@ -12,61 +11,65 @@ use Rattle.clover_map.specs.declared.call.Call.{Call}
 use Rattle.clover_map.specs.declared.call.Call.TheVariants.{Get as GetOf, Put as PutOf, Delete as DeleteOf, Swap as SwapOf}
 use Rattle.clover_script.specs.Lines.{takes}
 use Rattle.clover_rule.specs.Content.{InRange}
-use Rattle.clover_rule.specs.Lists.{Each, nth, Within}
+use Rattle.clover_rule.specs.Lists.{Each}
 use Rattle.clover_rule.specs.Memory.{home}
-use Rattle.clover_rule.specs.Parts.{Walk}
 use Rattle.clover_rule.specs.Steps.{Step, turn_at, turn_of, unlinked}
-use Rattle.clover_rule.specs.Story.{Chained, Stocked}
 use Rattle.clover_rule.specs.Words.{mem_of}
 use Rattle.clover_rule.specs.declared.view.View.{View}
-use Rattle.clover_plain.specs.Plain.{Plain, Running, view_at, outset}
 use Rattle.clover_plain.specs.Preset.{tag_at}
 use Rattle.clover_plain.proofs.Dealing.{tag_young, tag_inside}
-use Rattle.clover_plain.proofs.Stepping.{nth_default}
-use Rattle.clover_walk.specs.Alone.{LeadsOver, HasVersion, raised, version_words}
-use Rattle.clover_walk.specs.Walking.{made_walk}
+use Rattle.clover_walk.specs.Alone.{Way, way_from, LeadsOver, ComesBy, HasVersion, raised, version_words}
+use Rattle.clover_walk.specs.Walking.{Walking, made_walk}
 use Rattle.clover_get.specs.Alone.{EndsAfter as GetEndsAfter}
 use Rattle.clover_get.specs.Getting.{getting, Seeking}
 use Rattle.clover_get.proofs.Alone.{get_law}
 use Rattle.clover_put.specs.Alone.{tail_accesses, last_stage, EndsAfter}
-use Rattle.clover_put.specs.Putting.{commits, made_put}
+use Rattle.clover_put.specs.Putting.{Putting, commits, made_put}
 use Rattle.clover_put.specs.declared.job.Job.{Job}
 use Rattle.clover_put.specs.declared.job.Job.TheVariants.{Put, Delete, Swap}
 use Rattle.clover_put.proofs.Alone.{put_law}
-use Rattle.clover_sched.specs.declared.client.ClientState.{ClientState}
 use Rattle.clover_sched.specs.declared.client.Underway.{Underway}
 use Rattle.clover_sched.specs.Alone.{GetEnds, PutEnds, EndsIn, cost}
 use Rattle.clover_sched.specs.Beginning.{IsBegun, no_value}
-use Rattle.clover_sched.specs.Client.{Stands, size_of}
-use Rattle.clover_sched.specs.Run.{Opening, room}
-use Rattle.clover_sched.proofs.Beginning.{stock_first}
-use Rattle.clover_sched.proofs.Chains.{one_walk, few_links}
+use Rattle.clover_sched.specs.Client.{size_of}
+use Rattle.clover_sched.specs.Run.{room}
+use Rattle.clover_sched.proofs.Beginning.{made_pool}
+use Rattle.clover_sched.proofs.Chains.{few_links}
 
 -- a load that shows the tail unlinked makes no turn
 no_turn : (a b : Step) (u x : ℕ) → turn_of b x ≡ turn_at u x → a ≡ b → x ≡ unlinked u → turn_of a x ≡ 0
 no_turn a b u x t e f = ap (λ (s : Step). turn_of s x) e ∙ t ∙ ap (λ (c : Bool). cond c 0 1) (eq-eqb x (unlinked u) f)
 
-module _ (p : Pool) (ws : List ℕ) (slot : ℕ) (low : slot < p.slots) (ts : List ℕ) (u : ℕ) (x : Option Value) (leads : LeadsOver p ws ((mem_of p ws).root slot) ts u) (has : HasVersion p ws u x) where
-  get_starts : (into : ValueBuf) → GetEnds p (2 * length ts + 3 + version_words x) (record { words = ws; call = getting (made_walk p slot None) Seeking; room = into })
-  get_starts into = record {
-    before = λ v k b l r. (law v).before k b l r;
-    last = λ v k b w e r. let z = (law v).last k b w e r in no_turn _ _ u _ refl z.0 z.1;
-    over = λ v b r. ((law v).over b r).0;
-  }
-    where
-      law : (v : ℕ → View) → GetEndsAfter (2 * length ts + 3 + version_words x) v (record { words = ws; call = getting (made_walk p slot None) Seeking; room = into }) u x (raised p slot (ts ++ u ∷ []) ws)
-      law v = get_law v ws (made_walk p slot None) into ts u x refl low leads (few_links p ws ((mem_of p ws).root slot) ts u leads) has
+-- a walk that was just made comes on its way
+pub comes_made : (p : Pool) (ws : List ℕ) (slot : ℕ) (known : Option ℕ) (y : Way) (ts : List ℕ) (u : ℕ) → slot < p.slots → IfSome known (InRange p) → IfSome ((mem_of p ws).short slot) (InRange p) → y ≡ way_from (mem_of p ws) slot known → LeadsOver p ws y.from ts u → y.stale ≤ 2
+    → ComesBy ws (made_walk p slot known) known y ts u
+comes_made p ws slot None y ts u low cursor short way leads few = record { start = refl; stand = refl; slot = low; cursor = cursor; short = short; way = way; leads = leads; below = (let l = few_links p ws y.from ts u leads in omega arith) }
+comes_made p ws slot (Some t) y ts u low cursor short way leads few = record { start = refl; stand = refl; slot = low; cursor = cursor; short = short; way = way; leads = leads; below = (let l = few_links p ws y.from ts u leads in omega arith) }
 
-  put_starts : (job : Job) (own : ℕ) (value : Value) → InRange p own → Each (λ (t : ℕ). home t ≢ home own) (ts ++ u ∷ []) → version_words (commits job value) ≤ p.words + 1
-      → PutEnds p (2 * version_words (commits job value) + 2 * length ts + 2 + tail_accesses job u x) ws (made_put (made_walk p slot None) job own value)
-  put_starts job own value range apart fits = record {
+module _ (p : Pool) (ws : List ℕ) (w : Walking) (pool : w.pool ≡ p) (known : Option ℕ) (y : Way) (ts : List ℕ) (u : ℕ) (x : Option Value) (comes : ComesBy ws w known y ts u) (has : HasVersion p ws u x) where
+  has_there : HasVersion w.pool ws u x
+  has_there = subst (λ (q : Pool). HasVersion q ws u x) (sym pool) has
+
+  get_ends : (into : ValueBuf) → GetEnds p (y.loads + 2 * length ts + 2 + version_words x) (record { words = ws; call = getting w Seeking; room = into })
+  get_ends into = subst (λ (q : Pool). GetEnds q (y.loads + 2 * length ts + 2 + version_words x) (record { words = ws; call = getting w Seeking; room = into })) pool (record {
+    before = λ v k b l r. (law v).before k b l r;
+    last = λ v k b z e r. let q = (law v).last k b z e r in no_turn _ _ u _ refl q.0 q.1;
+    over = λ v b r. ((law v).over b r).0;
+  })
+    where
+      law : (v : ℕ → View) → GetEndsAfter (y.loads + 2 * length ts + 2 + version_words x) v (record { words = ws; call = getting w Seeking; room = into }) u x (raised w.pool w.slot (ts ++ u ∷ []) ws)
+      law v = get_law v ws w into known y ts u x comes has_there
+
+  put_ends : (job : Job) (own : ℕ) (value : Value) → InRange p own → Each (λ (t : ℕ). home t ≢ home own) (ts ++ u ∷ []) → version_words (commits job value) ≤ p.words + 1
+      → PutEnds p (2 * version_words (commits job value) + y.loads + 2 * length ts + 1 + tail_accesses job u x) ws (made_put w job own value)
+  put_ends job own value range apart fits = subst (λ (q : Pool). PutEnds q (2 * version_words (commits job value) + y.loads + 2 * length ts + 1 + tail_accesses job u x) ws (made_put w job own value)) pool (record {
     before = λ v. (law v).before;
     last = λ v. (law v).still;
     over = λ v. (law v).over;
-  }
+  })
     where
-      law : (v : ℕ → View) → EndsAfter p (2 * version_words (commits job value) + 2 * length ts + 2 + tail_accesses job u x) v ws (made_put (made_walk p slot None) job own value) (last_stage job u x)
-      law v = put_law v ws (made_put (made_walk p slot None) job own value) ts u x refl refl low leads (few_links p ws ((mem_of p ws).root slot) ts u leads) has range apart fits
+      law : (v : ℕ → View) → EndsAfter w.pool (2 * version_words (commits job value) + y.loads + 2 * length ts + 1 + tail_accesses job u x) v ws (made_put w job own value) (last_stage job u x)
+      law v = put_law v ws (made_put w job own value) known y ts u x refl comes has_there (subst (λ (q : Pool). InRange q own) (sym pool) range) apart (subst (λ (q : Pool). version_words (commits job value) ≤ q.words + 1) (sym pool) fits)
 
 -- a value that the room is enough for
 pub value_fits : (p : Pool) (x : Value) → length x.bytes ≤ 8 * p.words → version_words (Some x) ≤ p.words + 1
@@ -82,53 +85,38 @@ own_range s c n h =
     let wear = s.pool.some_wear in
     (tag_inside s.pool (dealt_number s c n) below, subst (λ (y : ℕ). y < s.pool.wear) (sym (tag_young s.pool (dealt_number s c n) below)) (omega arith))
 
-pub each_of : {A : Type 0} (P : A → Type 0) (xs : List A) → ((x : A) → Within x xs → P x) → Each P xs
-each_of P [] h = tt
-each_of P (x ∷ xs) h = (h x (inl refl), each_of P xs (λ y w. h y (inr w)))
-
-module _ (o : Opening) (p : Plain) (i : ℕ) (x : ClientState) (st : Stands o p i x) (running : Running p) where
+-- a call that client c begins, having committed n buffers, and whose walk comes on the way y over the tags ts to the tail u, is over after its cost
+module _ (s : Setup) (c n : ℕ) (ws : List ℕ) (slot : ℕ) (known : Option ℕ) (y : Way) (ts : List ℕ) (u : ℕ) (x : Option Value) (comes : ComesBy ws (made_walk s.pool slot known) known y ts u) (has : HasVersion s.pool ws u x) where
   abbrev own_tag : ℕ
-  own_tag = tag_at o.setup.pool (dealt_number o.setup (suc i) x.taken)
+  own_tag = tag_at s.pool (dealt_number s c n)
 
-  -- the buffer of the client's next put is on no chain
-  off_chain : HasDealt o.setup (suc i) x.taken → (slot u : ℕ) (ts : List ℕ) → LeadsOver o.setup.pool p.words ((mem_of o.setup.pool p.words).root slot) ts u → Each (λ (t : ℕ). home t ≢ home own_tag) (ts ++ u ∷ [])
-  off_chain d slot u ts l =
-      let r = running.rule in
-      let b = r.buffers_in_one_place in
-      let v = view_at p i in
-      let seats = st.seats in let seat = st.seat in
-      let here : nth p.views i ≡ Some v = nth_default p.views i (outset p.setup) (omega arith) in
-      let first = stock_first o.setup (suc i) x.taken d in
-      let held = subst (Each (λ (t : ℕ). r.place (home t) ≡ Stocked i)) (st.stock ∙ first.1) (b.stocked i v here).0 in
-      let walk = subst (λ (s : Setup). Walk (mem_of s.pool p.words) ((mem_of s.pool p.words).root slot) (r.chain slot)) st.setup (r.chains_and_contents.chains.walk slot) in
-      let same : r.chain slot ≡ ts ++ u ∷ [] = one_walk (mem_of o.setup.pool p.words) ((mem_of o.setup.pool p.words).root slot) (r.chain slot) (ts ++ u ∷ []) walk l.walk in
-      each_of (λ (t : ℕ). home t ≢ home own_tag) (ts ++ u ∷ []) (λ t w e. absurd
-      (let c : r.place (home t) ≡ Chained slot = b.chained slot t (subst (Within t) (sym same) w) in
-      let k : Chained slot ≡ Stocked i = sym c ∙ ap r.place e ∙ held.0 in cc))
+  abbrev put_of : Job → Value → Putting
+  put_of job value = made_put (made_walk s.pool slot known) job own_tag value
 
-  module _ (slot : ℕ) (low : slot < o.setup.pool.slots) (ts : List ℕ) (u : ℕ) (y : Option Value) (l : LeadsOver o.setup.pool p.words ((mem_of o.setup.pool p.words).root slot) ts u) (has : HasVersion o.setup.pool p.words u y) where
-    puts : (job : Job) (value : Value) → HasDealt o.setup (suc i) x.taken → version_words (commits job value) ≤ o.setup.pool.words + 1
-        → PutEnds o.setup.pool (2 * version_words (commits job value) + 2 * length ts + 2 + tail_accesses job u y) p.words (made_put (made_walk o.setup.pool slot None) job own_tag value)
-    puts job value d fits = put_starts o.setup.pool p.words slot low ts u y l has job own_tag value (own_range o.setup (suc i) x.taken d) (off_chain d slot u ts l) fits
+  module _ (apart : HasDealt s c n → Each (λ (t : ℕ). home t ≢ home own_tag) (ts ++ u ∷ [])) where
+    puts : (job : Job) (value : Value) → HasDealt s c n → version_words (commits job value) ≤ s.pool.words + 1
+        → PutEnds s.pool (2 * version_words (commits job value) + y.loads + 2 * length ts + 1 + tail_accesses job u x) ws (put_of job value)
+    puts job value d fits = put_ends s.pool ws (made_walk s.pool slot known) (made_pool s.pool slot known) known y ts u x comes has job own_tag value (own_range s c n d) (apart d) fits
 
-    deletes : (z : Option Value) → PutEnds o.setup.pool (2 * version_words None + 2 * length ts + 2 + tail_accesses Delete u z) p.words (made_put (made_walk o.setup.pool slot None) Delete own_tag no_value) → (key : List ℕ)
-        → PutEnds o.setup.pool (cost (DeleteOf key) (length ts) u z) p.words (made_put (made_walk o.setup.pool slot None) Delete own_tag no_value)
+    deletes : (z : Option Value) → PutEnds s.pool (2 * version_words None + y.loads + 2 * length ts + 1 + tail_accesses Delete u z) ws (put_of Delete no_value) → (key : List ℕ)
+        → PutEnds s.pool (cost (DeleteOf key) y.loads (length ts) u z) ws (put_of Delete no_value)
     deletes None h key = h
     deletes (Some z) h key = h
 
     swaps : (t : TagParts) (expected : ℕ) (value : Value) → tag_number t ≡ expected → (z : Option Value)
-        → PutEnds o.setup.pool (2 * version_words (Some value) + 2 * length ts + 2 + tail_accesses (Swap t) u z) p.words (made_put (made_walk o.setup.pool slot None) (Swap t) own_tag value) → (key : List ℕ)
-        → PutEnds o.setup.pool (cost (SwapOf key expected value) (length ts) u z) p.words (made_put (made_walk o.setup.pool slot None) (Swap t) own_tag value)
+        → PutEnds s.pool (2 * version_words (Some value) + y.loads + 2 * length ts + 1 + tail_accesses (Swap t) u z) ws (put_of (Swap t) value) → (key : List ℕ)
+        → PutEnds s.pool (cost (SwapOf key expected value) y.loads (length ts) u z) ws (put_of (Swap t) value)
     swaps t expected value e None h key = h
-    swaps t expected value e (Some z) h key = subst (λ (n : ℕ). PutEnds o.setup.pool (2 * version_words (Some value) + 2 * length ts + 2 + cond (eqb n u) 3 2) p.words (made_put (made_walk o.setup.pool slot None) (Swap t) own_tag value)) e h
+    swaps t expected value e (Some z) h key = subst (λ (k : ℕ). PutEnds s.pool (2 * version_words (Some value) + y.loads + 2 * length ts + 1 + cond (eqb k u) 4 2) ws (put_of (Swap t) value)) e h
 
-    pub starts : (call : Call) (under : Underway) → IsBegun o.setup slot (suc i) x.taken call under → size_of call ≤ room o.setup → (takes call ≡ 1 → HasDealt o.setup (suc i) x.taken) → EndsIn o.setup.pool p.words (cost call (length ts) u y) under
+    pub starts : (call : Call) (under : Underway) → IsBegun s slot known c n call under → size_of call ≤ room s → (takes call ≡ 1 → HasDealt s c n) → EndsIn s.pool ws (cost call y.loads (length ts) u x) under
     starts (GetOf key) under b fits dealt =
-        let n : 2 * length ts + 3 + version_words y ≡ cost (GetOf key) (length ts) u y = omega arith in
-        subst (EndsIn o.setup.pool p.words (cost (GetOf key) (length ts) u y)) (sym b.1) (subst (λ (k : ℕ). GetEnds o.setup.pool k (record { words = p.words; call = getting (made_walk o.setup.pool slot None) Seeking; room = b.0 })) n (get_starts o.setup.pool p.words slot low ts u y l has b.0))
+        let k : y.loads + 2 * length ts + 2 + version_words x ≡ cost (GetOf key) y.loads (length ts) u x = omega arith in
+        subst (EndsIn s.pool ws (cost (GetOf key) y.loads (length ts) u x)) (sym b.1)
+        (subst (λ (j : ℕ). GetEnds s.pool j (record { words = ws; call = getting (made_walk s.pool slot known) Seeking; room = b.0 })) k (get_ends s.pool ws (made_walk s.pool slot known) (made_pool s.pool slot known) known y ts u x comes has b.0))
     starts (PutOf key value) under b fits dealt =
-        subst (EndsIn o.setup.pool p.words (cost (PutOf key value) (length ts) u y)) (sym b) (puts Put value (dealt refl) (value_fits o.setup.pool value fits))
+        subst (EndsIn s.pool ws (cost (PutOf key value) y.loads (length ts) u x)) (sym b) (puts Put value (dealt refl) (value_fits s.pool value fits))
     starts (DeleteOf key) under b fits dealt =
-        subst (EndsIn o.setup.pool p.words (cost (DeleteOf key) (length ts) u y)) (sym b) (deletes y (puts Delete no_value (dealt refl) (dead_fits o.setup.pool)) key)
+        subst (EndsIn s.pool ws (cost (DeleteOf key) y.loads (length ts) u x)) (sym b) (deletes x (puts Delete no_value (dealt refl) (dead_fits s.pool)) key)
     starts (SwapOf key expected value) under b fits dealt =
-        subst (EndsIn o.setup.pool p.words (cost (SwapOf key expected value) (length ts) u y)) (sym b.2) (swaps b.0 expected value b.1 y (puts (Swap b.0) value (dealt refl) (value_fits o.setup.pool value fits)) key)
+        subst (EndsIn s.pool ws (cost (SwapOf key expected value) y.loads (length ts) u x)) (sym b.2) (swaps b.0 expected value b.1 x (puts (Swap b.0) value (dealt refl) (value_fits s.pool value fits)) key)

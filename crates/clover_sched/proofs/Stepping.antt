@@ -2,10 +2,10 @@
 use Rattle.std.proofs.Common.{◌≡◌, inl, inr, ℕ, suc, ◌+◌, ◌==◌, List, [], ◌∷◌, ◌++◌, length, get_or, Bool, true, false, cond, if◌then◌else◌, refl, sym, ap, ◌∙◌, subst, eq-eqb}
 use Rattle.std.specs.Prelude.{Option, Some, None, IfSome, IsSome}
 use Rattle.std.proofs.lemmas.List.Elements.{filter-append}
+use Rattle.std.proofs.lemmas.Option.{same_Some}
 use Rattle.std.proofs.Math.ListN.{length-append}
 use Rattle.clover_map.specs.History.{own}
 use Rattle.clover_map.specs.declared.call.Entry.{Entry}
-use Rattle.clover_map.specs.declared.call.Reply.{Reply}
 use Rattle.clover_script.specs.declared.line.Task.{Task}
 use Rattle.clover_rule.specs.Accesses.{CameBack}
 use Rattle.clover_rule.specs.Rule.{longest}
@@ -14,18 +14,14 @@ use Rattle.clover_rule.specs.declared.access.Access.{Access}
 use Rattle.clover_rule.specs.declared.access.Act.{Act}
 use Rattle.clover_rule.specs.declared.view.View.{View}
 use Rattle.clover_plain.specs.Plain.{Plain, Accessed, Kept, KeptButEntries, outset, view_at, history, access}
+use Rattle.clover_plain.proofs.Learned.{role_kept}
 use Rattle.clover_sched.specs.declared.client.ClientState.{ClientState}
-use Rattle.clover_sched.specs.declared.event.CallRefusal.TheVariants.{Unreached}
 use Rattle.clover_sched.specs.declared.event.Note.{Note}
-use Rattle.clover_sched.specs.declared.event.Note.TheVariants.{Refused}
 use Rattle.clover_sched.specs.Alone.{EndsIn}
-use Rattle.clover_sched.specs.Client.{stock_at, Stands, Moved, Went, Matches, IsUnder, since_of, step_record}
+use Rattle.clover_sched.specs.Client.{stock_at, Stands, Moved, Went, Matches, IsUnder, AreCursors, since_of, step_record}
 use Rattle.clover_sched.specs.Folds.{Doing, listed, words_by, made_by}
-use Rattle.clover_sched.specs.Run.{Opening, IsStep, IsEntry, IsCause, IsBlank, Wrote, lost}
-use Rattle.clover_sched.proofs.Moving.{MadeSo, RefusedSo, IsNoLink, role_kept, names_kept, stock_kept}
-
-pub some_is : {A : Type 0} (y z : A) → Some y ≡ Some z → y ≡ z
-some_is y z e = cc
+use Rattle.clover_sched.specs.Run.{Opening, IsStep, IsEntry, IsCause, Wrote}
+use Rattle.clover_sched.proofs.Moving.{MadeSo, RefusedSo, IsNoLink, names_kept, stock_kept}
 
 -- a call under way is none at rest
 pub task_there : (o : Option Task) (t : Task) → o ≡ Some t → o ≡ None → ⊥
@@ -50,6 +46,7 @@ stands_kept o p q i x k s =
       stock = ap (λ (v : View). v.pass.stock) e ∙ s.stock;
       number = s.number ∙ ap (λ (h : List Entry). length (own h (suc i))) (sym k.entries);
       under = subst (λ (v : View). IsUnder o.setup.pool v x.under) (sym e) s.under;
+      cursors = subst (λ (v : View). AreCursors o.setup.pool v x.cursors) (sym e) s.cursors;
     }
 
 moved_kept : (i : ℕ) (a : Access) (e : Option Entry) (p p1 q : Plain) → Kept p p1 → Moved i a e p1 q → Moved i a e p q
@@ -84,6 +81,7 @@ went_kept o i x y p p1 q note k w =
           );
       longer = λ n. w.longer n ∙ ap (λ (v : View). suc (length (since_of x.under v))) e;
       spent = w.spent;
+      cursor = w.cursor;
       alone = λ n free h. w.alone n free (subst (λ (ws : List ℕ). EndsIn o.setup.pool ws n x.under) (sym k.words) h);
     }
 
@@ -101,34 +99,22 @@ own_more h e c is =
 module _ (o : Opening) (i : ℕ) (d : Doing) (ws : List ℕ) (n : ℕ) (t : Task) (task : d.task ≡ Some t) (act : Act) where
   -- an access that was made is a step
   pub made_step : (e : Option Entry) (note : Note) → d.refusing ≡ false → CameBack o.setup.pool ws act → IfSome e (IsEntry o (suc i) d ws n (step_record i (access i act false) e note))
-      → (Wrote act → IsSome e) → IsCause o.setup.pool (suc i) d e act note → IsStep o (suc i) d ws n (step_record i (access i act false) e note)
+      → (Wrote act → IsSome e) → IsCause o (suc i) d e act note → IsStep o (suc i) d ws n (step_record i (access i act false) e note)
   made_step e note free came entry commits cause = record {
     idle = λ q. absurd (task_there d.task t task q);
     one = λ s q. refl;
     access = record { actor = refl; refused = sym free; blank = λ q. absurd cc; replays = λ q. came };
     entry = entry;
-    commits = λ z q r w. commits (subst (λ (y : Access). Wrote y.act) (sym (some_is _ _ q)) w);
-    unreached = λ z q r. (let k : false ≡ true = ap (λ (y : Access). y.refused) (some_is _ _ q) ∙ r in absurd cc);
-    cause = λ z q r. subst (λ (y : Access). IsCause o.setup.pool (suc i) d e y.act note) (some_is _ _ q) cause;
-  }
-
-  -- an access that was refused before the call had changed anything is a step
-  pub refused_step : d.refusing ≡ true → IsBlank act → d.decided ≡ None → IsStep o (suc i) d ws n (step_record i (access i act true) None (Refused (suc i) Unreached))
-  refused_step asked blank none = record {
-    idle = λ q. absurd (task_there d.task t task q);
-    one = λ s q. refl;
-    access = record { actor = refl; refused = sym asked; blank = λ q. blank; replays = λ q. absurd cc };
-    entry = tt;
-    commits = λ z q r w. (let k : true ≡ false = ap (λ (y : Access). y.refused) (some_is _ _ q) ∙ r in absurd cc);
-    unreached = λ z q r. (refl, ap (λ (y : Option Reply). Refused (suc i) (lost y)) (sym none));
-    cause = λ z q r. (let k : true ≡ false = ap (λ (y : Access). y.refused) (some_is _ _ q) ∙ r in absurd cc);
+    commits = λ z q r w. commits (subst (λ (y : Access). Wrote y.act) (sym (same_Some _ _ q)) w);
+    unreached = λ z q r. (let k : false ≡ true = ap (λ (y : Access). y.refused) (same_Some _ _ q) ∙ r in absurd cc);
+    cause = λ z q r. subst (λ (y : Access). IsCause o (suc i) d e y.act note) (same_Some _ _ q) cause;
   }
 
 module _ (o : Opening) (i : ℕ) (p : Plain) (x y : ClientState) (s : Stands o p i x) where
   -- where the client stands behind an access that added no entry
   pub stands_made : (q : Plain) (a : Step) (b : Bool) (n : ℕ) → MadeSo i p q a b n → IsNoLink a → next_history a (history p) (view_at p i) n ≡ history p
-      → y.taken ≡ x.taken → y.number ≡ x.number → IsUnder o.setup.pool (view_at q i) y.under → Stands o q i y
-  stands_made q a b n m free same taken number under = record {
+      → y.taken ≡ x.taken → y.number ≡ x.number → IsUnder o.setup.pool (view_at q i) y.under → AreCursors o.setup.pool (view_at q i) y.cursors → Stands o q i y
+  stands_made q a b n m free same taken number under cursors = record {
     setup = m.setup ∙ s.setup;
     opened = m.opened ∙ s.opened;
     entered = m.entries ∙ s.entered ∙ sym same ∙ sym m.history;
@@ -140,12 +126,13 @@ module _ (o : Opening) (i : ℕ) (p : Plain) (x y : ClientState) (s : Stands o p
     stock = ap (λ (v : View). v.pass.stock) m.view ∙ stock_kept a b (history p) (view_at p i) n free ∙ s.stock ∙ ap (stock_at o.setup (suc i)) (sym taken);
     number = number ∙ s.number ∙ ap (λ (h : List Entry). length (own h (suc i))) (sym m.entries);
     under = under;
+    cursors = cursors;
   }
 
   -- where it stands behind one that decided its call, whose entry was then entered
   pub stands_entered : (q r : Plain) (a : Step) (b : Bool) (n : ℕ) (e : Entry) → MadeSo i p q a b n → IsNoLink a → Moved i (access i (act_of a n) false) (Some e) p r → KeptButEntries q r
-      → e.client ≡ suc i → y.taken ≡ x.taken → y.number ≡ x.number + 1 → IsUnder o.setup.pool (view_at r i) y.under → Stands o r i y
-  stands_entered q r a b n e m free moved k client taken number under =
+      → e.client ≡ suc i → y.taken ≡ x.taken → y.number ≡ x.number + 1 → IsUnder o.setup.pool (view_at r i) y.under → AreCursors o.setup.pool (view_at r i) y.cursors → Stands o r i y
+  stands_entered q r a b n e m free moved k client taken number under cursors =
       let there : view_at r i ≡ view_at q i = λ z. get_or (k.views z) i (outset (k.setup z)) in
       record {
         setup = moved.setup ∙ s.setup;
@@ -159,11 +146,12 @@ module _ (o : Opening) (i : ℕ) (p : Plain) (x y : ClientState) (s : Stands o p
         stock = ap (λ (v : View). v.pass.stock) (there ∙ m.view) ∙ stock_kept a b (history p) (view_at p i) n free ∙ s.stock ∙ ap (stock_at o.setup (suc i)) (sym taken);
         number = number ∙ ap (λ (k1 : ℕ). k1 + 1) s.number ∙ sym (own_more p.entries e (suc i) client) ∙ ap (λ (h : List Entry). length (own h (suc i))) (sym moved.entries);
         under = under;
+        cursors = cursors;
       }
 
   -- where it stands behind a refused access
-  pub stands_refused : (q : Plain) → RefusedSo i p q → y.taken ≡ x.taken → y.number ≡ x.number → IsUnder o.setup.pool (view_at q i) y.under → Stands o q i y
-  stands_refused q r taken number under =
+  pub stands_refused : (q : Plain) → RefusedSo i p q → y.taken ≡ x.taken → y.number ≡ x.number → IsUnder o.setup.pool (view_at q i) y.under → y.cursors ≡ x.cursors → Stands o q i y
+  stands_refused q r taken number under cursors =
       let there : view_at q i ≡ view_at p i = λ z. get_or (r.views z) i (outset (r.setup z)) in
       record {
         setup = r.setup ∙ s.setup;
@@ -177,4 +165,5 @@ module _ (o : Opening) (i : ℕ) (p : Plain) (x y : ClientState) (s : Stands o p
         stock = ap (λ (v : View). v.pass.stock) there ∙ s.stock ∙ ap (stock_at o.setup (suc i)) (sym taken);
         number = number ∙ s.number ∙ ap (λ (h : List Entry). length (own h (suc i))) (sym r.entries);
         under = under;
+        cursors = subst (AreCursors o.setup.pool (view_at q i)) (sym cursors) (subst (λ (v : View). AreCursors o.setup.pool v x.cursors) (sym there) s.cursors);
       }

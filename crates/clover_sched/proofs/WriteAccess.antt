@@ -59,12 +59,12 @@ seated i k z y c d n p q r s e f h =
     subst (λ (j : ℕ). PutAccess j y d n p q r) l (subst (λ (b : Bool). PutAccess (k - 1) b d n p q r) e (subst (λ (w : Putting). PutAccess (k - 1) z w n p q r) f h))
 
 pub wrote_so : (x : ClientState) (c d n : Putting) (a b : Call) (z f : Bool) (i k : ℕ) (p q : Plain) (r : PutTurn) → x.under ≡ Write c a → z ≡ x.refusing → f ≡ false → PutAccess (k - 1) z c n p q r → x.under ≡ Write d b → suc i ≡ k
-    → (m : Putting) × (◌≡◌ {A = ClientState} (record { under = Write n a; refusing = f; taken = x.taken; number = x.number }) (record { under = Write m b; refusing = false; taken = x.taken; number = x.number })) × PutAccess i x.refusing d m p q r
+    → (m : Putting) × (◌≡◌ {A = ClientState} (record x { under = Write n a; refusing = f }) (record x { under = Write m b; refusing = false })) × PutAccess i x.refusing d m p q r
 wrote_so x c d n a b z f i k p q r e ez ef h e1 s =
     let w : Write c a ≡ Write d b = sym e ∙ e1 in
-    (n, λ j. record { under = Write n (same_asked c d a b w j); refusing = ef j; taken = x.taken; number = x.number }, seated i k z x.refusing c d n p q r s ez (same_put c d a b w) h)
+    (n, λ j. record x { under = Write n (same_asked c d a b w j); refusing = ef j }, seated i k z x.refusing c d n p q r s ez (same_put c d a b w) h)
 
 pub raised_so : (x : ClientState) (c d n : Putting) (z f : Bool) (i k : ℕ) (p q : Plain) (r : PutTurn) → x.under ≡ Raise c → z ≡ x.refusing → f ≡ false → PutAccess (k - 1) z c n p q r → x.under ≡ Raise d → suc i ≡ k
-    → (m : Putting) × (◌≡◌ {A = ClientState} (record { under = Raise n; refusing = f; taken = x.taken; number = x.number }) (record { under = Raise m; refusing = false; taken = x.taken; number = x.number })) × PutAccess i x.refusing d m p q r
+    → (m : Putting) × (◌≡◌ {A = ClientState} (record x { under = Raise n; refusing = f }) (record x { under = Raise m; refusing = false })) × PutAccess i x.refusing d m p q r
 raised_so x c d n z f i k p q r e ez ef h e1 s =
-    (n, λ j. record { under = Raise n; refusing = ef j; taken = x.taken; number = x.number }, seated i k z x.refusing c d n p q r s ez (same_raise c d (sym e ∙ e1)) h)
+    (n, λ j. record x { under = Raise n; refusing = ef j }, seated i k z x.refusing c d n p q r s ez (same_raise c d (sym e ∙ e1)) h)

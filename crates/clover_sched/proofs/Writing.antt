@@ -3,9 +3,10 @@ use Prim.Native.Nat.{zero, suc}
 use Rattle.std.proofs.Common.{◌≡◌, ◌≢◌, ℕ, nat_lt, ◌+◌, ◌-◌, ◌*◌, ◌^◌, ◌<◌, ◌≤◌, List, [], ◌∷◌, ◌++◌, length, get_or, Bool, true, false, cond, refl, sym, ap, ◌∙◌, subst, arith, eq-eqb}
 use Rattle.std.specs.Prelude.{Some, None}
 use Rattle.clover_words.specs.Tag.{TagParts, tag_number}
+use Rattle.clover_words.specs.declared.pool.Pool.{Pool}
 use Rattle.clover_words.specs.declared.setup.Setup.{Setup}
 use Rattle.clover_words.specs.Preset.{buffers_total, dealt_number}
-use Rattle.clover_map.specs.History.{own}
+use Rattle.clover_map.specs.History.{own, key_of}
 use Rattle.clover_map.specs.declared.call.Call.TheVariants.{Get as GetCall, Put as PutCall, Delete as DeleteCall, Swap as SwapCall}
 use Rattle.clover_plain.specs.Preset.{dealt_from, tag_at}
 use Rattle.clover_map.specs.declared.bytes.Value.{Value}
@@ -15,24 +16,28 @@ use Rattle.clover_map.specs.declared.call.Reply.{Reply}
 use Rattle.clover_map.specs.declared.call.Reply.TheVariants.{Stored as StoredAs, Deleted as DeletedAs}
 use Rattle.clover_script.specs.declared.line.Task.TheVariants.{Client as ClientTask}
 use Rattle.clover_rule.specs.Accesses.{CameBack, Decides, wrote_link}
+use Rattle.clover_rule.specs.Content.{InRange}
 use Rattle.clover_rule.specs.Lists.{Within}
-use Rattle.clover_rule.specs.Steps.{Step, DecideNext, LinkNext, RaiseNext, act_of, found, turn_of, words_after_step, next_view, next_history, unlinked, reply_of, client, number_of, rest_of, seen}
+use Rattle.clover_rule.specs.Steps.{Step, DecideNext, LinkNext, RaiseNext, StoreShort, act_of, found, turn_of, words_after_step, next_view, next_history, unlinked, reply_of, client, number_of, rest_of, seen}
 use Rattle.clover_rule.specs.Words.{next_of}
 use Rattle.clover_rule.specs.Knowing.{link_entry, link_view}
 use Rattle.clover_rule.specs.declared.access.Act.{Act}
 use Rattle.clover_rule.specs.declared.view.View.{View}
+use Rattle.clover_rule.proofs.Steps.{within_last}
+use Rattle.clover_rule.proofs.Tools.{length_snoc}
 use Rattle.clover_port.specs.Told.{Open, Made}
 use Rattle.clover_plain.specs.Plain.{Plain, Accessed, KeptButEntries, view_at, history, open_of, access, outset}
+use Rattle.clover_plain.proofs.Learned.{role_kept}
+use Rattle.clover_cache.specs.Node.{Known, IsSet}
 use Rattle.clover_walk.specs.Ending.{Ended}
 use Rattle.clover_walk.specs.Walking.{key_at, budget}
 use Rattle.clover_walk.proofs.Endings.{stepped}
 use Rattle.clover_put.specs.Alone.{IsOpen as IsPutOpen}
 use Rattle.clover_put.specs.Answering.{IsBefore, Stores, Deletes, ExactPut, OnReached, OnRefused}
 use Rattle.clover_put.specs.Holding.{PutHolds}
-use Rattle.clover_put.specs.Putting.{Putting, Stage, Storing, Flushing, Seeking, AtMeta, AtLink, AtDead, AtOther, AtBad, AtRaise, Over, call_of, call_at, put_step, put_on, staged}
+use Rattle.clover_put.specs.Putting.{Putting, Stage, Storing, Flushing, Seeking, AtMeta, AtLink, AtDead, AtOther, AtBad, AtRaise, AtShort, Over, call_of, call_at, put_step, put_on, staged}
 use Rattle.clover_put.specs.declared.job.Job.{Job}
 use Rattle.clover_put.specs.declared.job.Job.TheVariants.{Put, Delete, Swap}
-use Rattle.clover_put.proofs.Known.{length_more, within_last}
 use Rattle.clover_put.proofs.Done.{at_stage, at_step}
 use Rattle.clover_put.specs.declared.turn.PutTurn.{PutTurn}
 use Rattle.clover_put.specs.declared.turn.PutTurn.TheVariants.{More, Decided, Behind, Unreached}
@@ -43,19 +48,35 @@ use Rattle.clover_sched.specs.declared.event.CallRefusal.TheVariants as why
 use Rattle.clover_sched.specs.declared.event.Note.{Note}
 use Rattle.clover_sched.specs.declared.event.Note.TheVariants.{Quiet, Answered, Refused}
 use Rattle.clover_sched.specs.Alone.{PutEnds, EndsIn, Advances}
-use Rattle.clover_sched.specs.Client.{Stands, Moved, Matches, UnderMatches, Went, IsUnder, stock_at, step_record, since_of, spent_by}
+use Rattle.clover_sched.specs.Client.{Stands, Moved, Matches, UnderMatches, Went, IsUnder, HasLinked, IsCursor, AreCursors, SetsCursor, stock_at, step_record, since_of, slot_of, spent_by}
 use Rattle.clover_sched.specs.Folds.{Doing}
-use Rattle.clover_sched.specs.Run.{Opening, IsStep, IsCause, IsAnswer, IsCommit, Flushes, lost}
+use Rattle.clover_sched.specs.Ends.{end_tag}
+use Rattle.clover_sched.specs.Run.{Opening, IsStep, IsCause, IsAnswer, IsCommit, Flushes, Shortens, EndsCommit, lost}
 use Rattle.clover_sched.specs.Writing.{PutAccess, next_entry}
 use Rattle.clover_sched.proofs.Advancing.{put_goes_on, put_commits, put_answers, put_stays_ahead}
-use Rattle.clover_sched.proofs.Stepping.{made_step}
+use Rattle.clover_sched.proofs.Cursoring.{KnowsMore, knows_more, cursors_kept, cursors_set}
+use Rattle.clover_sched.proofs.Stepping.{made_step, stands_refused}
 use Rattle.clover_sched.proofs.Going.{step_refused, seat_below, stands_moved, number_same, number_more}
-use Rattle.clover_sched.proofs.Moving.{MadeSo, made_so, RefusedSo, refused_so, role_kept, names_kept, stock_kept, moved_quiet, moved_entered, moved_refused}
-use Rattle.clover_sched.proofs.PutOnward.{SameCall, same_call, later_call, Misses, quiet_history, quiet_stock, quiet_writes, before_misses, behind_misses, linked_hit}
+use Rattle.clover_sched.proofs.Moving.{MadeSo, made_so, RefusedSo, refused_so, names_kept, stock_kept, moved_quiet, moved_entered, moved_refused}
+use Rattle.clover_sched.proofs.Places.{same_snoc}
+use Rattle.clover_sched.proofs.PutOnward.{SameCall, same_call, later_call, Misses, quiet_history, quiet_stock, quiet_writes, before_shortens, before_misses, onward_before, behind_misses, linked_hit}
+use Rattle.clover_sched.proofs.Remembering.{key_of_call}
 
 -- the client with this under way, and as it was but for the refusal to come
 abbrev pub with_under : ClientState → Underway → ClientState
-with_under x u = record { under = u; refusing = false; taken = x.taken; number = x.number }
+with_under x u = record x { under = u; refusing = false }
+
+-- the client behind the answer to a call that did not commit
+abbrev pub answered : ClientState → Known → ClientState
+answered x known = record x { under = Nothing; refusing = false; number = suc x.number; cursors = known }
+
+-- the client behind the exchange of its call
+abbrev pub linked_to : ClientState → Putting → ClientState
+linked_to x n = record x { under = Raise n; refusing = false; taken = suc x.taken; number = suc x.number }
+
+-- the client behind the answer to a call that committed
+abbrev pub shortened : ClientState → Known → ClientState
+shortened x known = record x { under = Nothing; refusing = false; cursors = known }
 
 -- the call keeps its name over an access
 call_stays : (c n : Putting) (v w : View) → SameCall c n → w.pass.names ≡ v.pass.names → call_at n w ≡ call_at c v
@@ -104,11 +125,54 @@ before_open (AtDead u) h = tt
 before_open (AtOther u) h = tt
 before_open (AtBad u) h = tt
 before_open (AtRaise u) h = absurd h
+before_open AtShort h = absurd h
 before_open Over h = absurd h
 
--- the raise is its last one
-raise_over : (c : Putting) (u a : ℕ) → c.stage ≡ AtRaise u → (put_on c a).stage ≡ Over
-raise_over c u a e = subst (λ (s : Stage). (put_on (record c { stage = s }) a).stage ≡ Over) (sym e) refl
+-- An access of a call that writes that was made.
+module _ (o : Opening) (i : ℕ) (x : ClientState) (c n : Putting) (p q : Plain) (st : Stands o p i x) (few : p.made < 2 ^ 64 - 1)
+    (made : (a : ℕ) × Made p.setup.pool (put_step c (view_at p i)) c.walk.first (view_at p i) (Some (open_of p)) a (view_at q i) (Some (open_of q)) × (n ≡ put_on c a)) (acc : Accessed i true p q) where
+  abbrev v0 : View
+  v0 = view_at p i
+
+  abbrev w0 : View
+  w0 = view_at q i
+
+  made_it : MadeSo i p q (put_step c v0) c.walk.first made.0
+  made_it = made_so i p q (put_step c v0) c.walk.first made.0 few (seat_below o p i x st) st.role st.entered made.1 acc
+
+  words_then : q.words ≡ words_after_step o.setup.pool (put_step c v0) p.words
+  words_then = made_it.after ∙ ap (λ (z : Setup). words_after_step z.pool (put_step c v0) p.words) st.setup
+
+  found_here : made.0 ≡ found o.setup.pool (put_step c v0) p.words
+  found_here = made_it.here ∙ ap (λ (z : Setup). found z.pool (put_step c v0) p.words) st.setup
+
+  call_then : n ≡ put_on c (found o.setup.pool (put_step c v0) p.words)
+  call_then = made.2 ∙ ap (put_on c) found_here
+
+  knows : KnowsMore v0 w0
+  knows = knows_more i p q (put_step c v0) c.walk.first made.0 made_it
+
+  names : w0.pass.names ≡ v0.pass.names
+  names = ap (λ (z : View). z.pass.names) made_it.view ∙ names_kept (put_step c v0) c.walk.first (history p) v0 made.0
+
+  -- it found no end
+  module _ (miss : Misses c.stage made.0) where
+    moved : Moved i (access i (act_of (put_step c v0) made.0) false) None p q
+    moved = moved_quiet i p q (put_step c v0) c.walk.first made.0 made_it st.entered (quiet_history c v0 (history p) v0 made.0 miss)
+
+    role : w0.pass.role ≡ v0.pass.role
+    role = ap (λ (z : View). z.pass.role) made_it.view ∙ role_kept (put_step c v0) c.walk.first (history p) v0 made.0
+
+    stock : w0.pass.stock ≡ stock_at o.setup (suc i) x.taken
+    stock = ap (λ (z : View). z.pass.stock) made_it.view ∙ quiet_stock c v0 c.walk.first (history p) v0 made.0 miss ∙ st.stock
+
+    stands : (u : Underway) (k : Known) → IsUnder o.setup.pool w0 u → AreCursors o.setup.pool w0 k → Stands o q i (record x { under = u; refusing = false; cursors = k })
+    stands u k h cursors = stands_moved o i x (record x { under = u; refusing = false; cursors = k }) p q _ None st moved made_it.pool role names stock (number_same x.number (suc i) p.entries q.entries st.number moved.entries) h cursors
+
+    step : (d : Doing) (call : Call) (m : ℕ) (note : Note) → d.task ≡ Some (ClientTask call m) → x.refusing ≡ d.refusing → x.refusing ≡ false → IsCause o (suc i) d None (act_of (put_step c v0) made.0) note
+        → IsStep o (suc i) d p.words (length (own p.entries (suc i))) (step_record i (access i (act_of (put_step c v0) made.0) false) None note)
+    step d call m note task refusing going cause =
+        made_step o i d p.words (length (own p.entries (suc i))) (ClientTask call m) task (act_of (put_step c v0) made.0) None note (sym refusing ∙ going) (subst (λ (z : Setup). CameBack z.pool p.words (act_of (put_step c v0) made.0)) st.setup made_it.came) tt (λ h. absurd (quiet_writes c v0 made.0 miss h)) cause
 
 -- The accesses of a call that writes, before its exchange.
 module _ (o : Opening) (i : ℕ) (x : ClientState) (c n : Putting) (call : Call) (p q : Plain) (k : ℕ) (seat : suc i ≡ k) (is : x.under ≡ Write c call) (st : Stands o p i x) (few : p.made < 2 ^ 64 - 1) where
@@ -129,26 +193,20 @@ module _ (o : Opening) (i : ℕ) (x : ClientState) (c n : Putting) (call : Call)
 
   -- an access that was made is one of a call that is made alone
   module _ (made : (a : ℕ) × Made p.setup.pool (put_step c v) c.walk.first v (Some (open_of p)) a w (Some (open_of q)) × (n ≡ put_on c a)) (acc : Accessed i true p q) where
-    made_it : MadeSo i p q (put_step c v) c.walk.first made.0
-    made_it = made_so i p q (put_step c v) c.walk.first made.0 few (seat_below o p i x st) st.role st.entered made.1 acc
+    words_now : q.words ≡ words_after_step o.setup.pool (put_step c v) p.words
+    words_now = words_then o i x c n p q st few made acc
 
-    words_then : q.words ≡ words_after_step o.setup.pool (put_step c v) p.words
-    words_then = made_it.after ∙ ap (λ (z : Setup). words_after_step z.pool (put_step c v) p.words) st.setup
-
-    found_here : made.0 ≡ found o.setup.pool (put_step c v) p.words
-    found_here = made_it.here ∙ ap (λ (z : Setup). found z.pool (put_step c v) p.words) st.setup
-
-    call_then : n ≡ put_on c (found o.setup.pool (put_step c v) p.words)
-    call_then = made.2 ∙ ap (put_on c) found_here
+    call_now : n ≡ put_on c (found o.setup.pool (put_step c v) p.words)
+    call_now = call_then o i x c n p q st few made acc
 
     more_alone : (j : ℕ) → EndsIn o.setup.pool p.words j x.under → IsBefore n.stage → Advances (suc i) o.setup.pool j q.words (Write n call) Quiet
-    more_alone j h e = put_goes_on (suc i) o.setup.pool j v p.words q.words c n (ends j h) way words_then call_then call (before_open n.stage e)
+    more_alone j h e = put_goes_on (suc i) o.setup.pool j v p.words q.words c n (ends j h) way words_now call_now call (before_open n.stage e)
 
     commits_alone : (j u : ℕ) → EndsIn o.setup.pool p.words j x.under → n.stage ≡ AtRaise u → Advances (suc i) o.setup.pool j q.words (Raise n) Quiet
-    commits_alone j u h e = put_commits (suc i) o.setup.pool j v p.words q.words c n (ends j h) way words_then call_then (subst IsPutOpen (sym e) tt)
+    commits_alone j u h e = put_commits (suc i) o.setup.pool j v p.words q.words c n (ends j h) way words_now call_now (subst IsPutOpen (sym e) tt)
 
     answered_alone : (j : ℕ) (ws : List ℕ) (r : Reply) → EndsIn o.setup.pool p.words j x.under → n.stage ≡ Over → Advances (suc i) o.setup.pool j ws Nothing (Answered k r)
-    answered_alone j ws r h e = subst (λ (m : ℕ). Advances (suc i) o.setup.pool j ws Nothing (Answered m r)) seat (put_answers (suc i) o.setup.pool j v p.words q.words c n (ends j h) way words_then call_then ws r e)
+    answered_alone j ws r h e = subst (λ (m : ℕ). Advances (suc i) o.setup.pool j ws Nothing (Answered m r)) seat (put_answers (suc i) o.setup.pool j v p.words q.words c n (ends j h) way words_now call_now ws r e)
 
     ahead_alone : (j : ℕ) → EndsIn o.setup.pool p.words j x.under → n.stage ≡ Over → w.pass.turns ≡ budget p.setup.pool → ⊥
     ahead_alone j h e all =
@@ -157,54 +215,34 @@ module _ (o : Opening) (i : ℕ) (x : ClientState) (c n : Putting) (call : Call)
         let few_turns = under.2.walk.below in
         let counted = under.2.walk.turns in
         let turned : turn_of (put_step c v) made.0 ≢ 0 = λ z. omega arith in
-        put_stays_ahead (suc i) o.setup.pool j v p.words q.words c n (ends j h) way words_then call_then e (subst (λ (y : ℕ). turn_of (put_step c v) y ≢ 0) found_here turned)
+        put_stays_ahead (suc i) o.setup.pool j v p.words q.words c n (ends j h) way words_now call_now e (subst (λ (y : ℕ). turn_of (put_step c v) y ≢ 0) (found_here o i x c n p q st few made acc) turned)
 
-  -- an access that was made and found no end
-  module _ (a : ℕ) (made : Made p.setup.pool (put_step c v) c.walk.first v (Some (open_of p)) a w (Some (open_of q))) (on : n ≡ put_on c a) (acc : Accessed i true p q) (miss : Misses c.stage a) where
-    so : MadeSo i p q (put_step c v) c.walk.first a
-    so = made_so i p q (put_step c v) c.walk.first a few (seat_below o p i x st) st.role st.entered made acc
-
-    moved : Moved i (access i (act_of (put_step c v) a) false) None p q
-    moved = moved_quiet i p q (put_step c v) c.walk.first a so st.entered (quiet_history c v (history p) v a miss)
-
-    names : w.pass.names ≡ v.pass.names
-    names = ap (λ (z : View). z.pass.names) so.view ∙ names_kept (put_step c v) c.walk.first (history p) v a
-
-    role : w.pass.role ≡ v.pass.role
-    role = ap (λ (z : View). z.pass.role) so.view ∙ role_kept (put_step c v) c.walk.first (history p) v a
-
-    stock : w.pass.stock ≡ stock_at o.setup (suc i) x.taken
-    stock = ap (λ (z : View). z.pass.stock) so.view ∙ quiet_stock c v c.walk.first (history p) v a miss ∙ st.stock
-
-    stands : (u : Underway) → IsUnder o.setup.pool w u → Stands o q i (with_under x u)
-    stands u h = stands_moved o i x (with_under x u) p q _ None st moved (stepped p.setup.pool (put_step c v) c.walk.first v _ a w _ made).pool role names stock (number_same x.number (suc i) p.entries q.entries st.number moved.entries) h
-
-    step : (d : Doing) (note : Note) → Matches x v d → x.refusing ≡ false → IsCause o.setup.pool (suc i) d None (act_of (put_step c v) a) note
-        → IsStep o (suc i) d p.words (length (own p.entries (suc i))) (step_record i (access i (act_of (put_step c v) a) false) None note)
-    step d note m going cause =
-        let u : UnderMatches (Write c call) v d = subst (λ (z : Underway). UnderMatches z v d) is m.under in
-        made_step o i d p.words (length (own p.entries (suc i))) (ClientTask call u.0.0) u.0.1 (act_of (put_step c v) a) None note (sym m.refusing ∙ going) (subst (λ (z : Setup). CameBack z.pool p.words (act_of (put_step c v) a)) st.setup so.came) tt (λ h. absurd (quiet_writes c v a miss h)) cause
+    cursors : AreCursors o.setup.pool w x.cursors
+    cursors = cursors_kept o.setup.pool v w x.cursors (knows o i x c n p q st few made acc) st.cursors
 
   pub went_more : PutAccess i x.refusing c n p q More → Went o i x (with_under x (Write n call)) p q Quiet
   went_more f =
       let m = f.step.made in
-      let miss : Misses c.stage m.0 = before_misses c m.0 (subst (λ (z : Putting). IsBefore z.stage) m.2 f.step.answer.1) in
-      let so1 = so m.0 m.1 m.2 f.accessed miss in
+      let before : IsBefore n.stage = onward_before c n under.0 f.step.answer in
+      let miss : Misses c.stage m.0 = before_misses c m.0 (subst (λ (z : Putting). IsBefore z.stage) m.2 before) in
       let same : SameCall c n = subst (SameCall c) (sym m.2) (same_call c m.0) in
       let later : n.walk.first ≡ false = ap (λ (z : Putting). z.walk.first) m.2 ∙ later_call c v m.0 under.2 in
-      let since : since_of (Write n call) w ≡ since_of (Write c call) v ++ act_of (put_step c v) m.0 ∷ [] = ap (λ (b : Bool). cond b [] w.pass.since) later ∙ so1.since in
+      let since : since_of (Write n call) w ≡ since_of (Write c call) v ++ act_of (put_step c v) m.0 ∷ [] = ap (λ (b : Bool). cond b [] w.pass.since) later ∙ (made_it o i x c n p q st few m f.accessed).since in
       let is_since : since_of x.under v ≡ since_of (Write c call) v = ap (λ (u : Underway). since_of u v) is in
       record {
         access = access i (act_of (put_step c v) m.0) false;
         entry = None;
-        moved = moved m.0 m.1 m.2 f.accessed miss;
-        stands = stands m.0 m.1 m.2 f.accessed miss (Write n call) (f.step.answer.1, same.pool ∙ under.1, f.step.stands, under.3 ∙ sym (call_stays c n v w same (names m.0 m.1 m.2 f.accessed miss)));
+        moved = moved o i x c n p q st few m f.accessed miss;
+        stands = stands o i x c n p q st few m f.accessed miss (Write n call) x.cursors (before, same.pool ∙ under.1, f.step.stands, under.3 ∙ sym (call_stays c n v w same (names o i x c n p q st few m f.accessed))) (cursors m f.accessed);
         follows = λ d h.
-            let u : UnderMatches (Write c call) v d = subst (λ (z : Underway). UnderMatches z v d) is h.under in
-            (step m.0 m.1 m.2 f.accessed miss d Quiet h (exact_made x.refusing More f.exact (λ z. z)) tt, record { refusing = refl; under = (u.0, u.1, ap (λ (l : List Act). l ++ act_of (put_step c v) m.0 ∷ []) u.2 ∙ sym since) });
-        longer = λ b. ap length since ∙ length_more (act_of (put_step c v) m.0) (since_of (Write c call) v) ∙ ap (λ (l : List Act). suc (length l)) (sym is_since);
+            let u : UnderMatches (Write c call) v d = subst (λ (z : Underway). UnderMatches z v d) is h.under in (
+              step o i x c n p q st few m f.accessed miss d call u.0.0 Quiet u.0.1 h.refusing (exact_made x.refusing More f.exact (λ z. z)) (tt, before_shortens c v m.0 under.0),
+              record { refusing = refl; under = (u.0, u.1, ap (λ (l : List Act). l ++ act_of (put_step c v) m.0 ∷ []) u.2 ∙ sym since) },
+            );
+        longer = λ b. ap length since ∙ length_snoc (act_of (put_step c v) m.0) (since_of (Write c call) v) ∙ ap (λ (l : List Act). suc (length l)) (sym is_since);
         spent = subst (λ (u : Underway). suc x.taken ≤ spent_by u x.taken) (sym is) (omega arith);
-        alone = λ j free h. more_alone m f.accessed j h f.step.answer.1;
+        cursor = refl;
+        alone = λ j free h. more_alone m f.accessed j h before;
       }
 
   pub went_behind : (turns : ℕ) → PutAccess i x.refusing c n p q (Behind turns) → Went o i x (with_under x Nothing) p q (Refused k (why.Behind turns))
@@ -215,11 +253,16 @@ module _ (o : Opening) (i : ℕ) (x : ClientState) (c n : Putting) (call : Call)
       record {
         access = access i (act_of (put_step c v) m.0) false;
         entry = None;
-        moved = moved m.0 m.1 m.2 f.accessed miss;
-        stands = stands m.0 m.1 m.2 f.accessed miss Nothing tt;
-        follows = λ d h. (step m.0 m.1 m.2 f.accessed miss d (Refused k (why.Behind turns)) h (exact_made x.refusing (Behind turns) f.exact (λ z. z)) (sym seat, count, refl), record { refusing = refl; under = refl });
+        moved = moved o i x c n p q st few m f.accessed miss;
+        stands = stands o i x c n p q st few m f.accessed miss Nothing x.cursors tt (cursors m f.accessed);
+        follows = λ d h.
+            let u : UnderMatches (Write c call) v d = subst (λ (z : Underway). UnderMatches z v d) is h.under in (
+              step o i x c n p q st few m f.accessed miss d call u.0.0 (Refused k (why.Behind turns)) u.0.1 h.refusing (exact_made x.refusing (Behind turns) f.exact (λ z. z)) (sym seat, count, refl, before_shortens c v m.0 under.0),
+              record { refusing = refl; under = refl },
+            );
         longer = λ b. absurd (b refl);
         spent = subst (λ (u : Underway). x.taken ≤ spent_by u x.taken) (sym is) (omega arith);
+        cursor = refl;
         alone = λ j free h. absurd (ahead_alone m f.accessed j h f.step.answer.1 f.step.behind.1);
       }
 
@@ -227,17 +270,17 @@ module _ (o : Opening) (i : ℕ) (x : ClientState) (c n : Putting) (call : Call)
   went_unreached f =
       let same : w ≡ v = f.step.refused.1 in
       let so1 : RefusedSo i p q = refused_so i p q (seat_below o p i x st) same f.accessed in
-      let moved1 = moved_refused i p q so1 st.entered in
       record {
         access = access i so1.act true;
         entry = None;
-        moved = moved1;
-        stands = stands_moved o i x (with_under x Nothing) p q _ None st moved1 (ap (λ (z : View). z.pass.pool) same) (ap (λ (z : View). z.pass.role) same) (ap (λ (z : View). z.pass.names) same) (ap (λ (z : View). z.pass.stock) same ∙ st.stock) (number_same x.number (suc i) p.entries q.entries st.number moved1.entries) tt;
+        moved = moved_refused i p q so1 st.entered;
+        stands = stands_refused o i p x (with_under x Nothing) st q so1 refl refl tt refl;
         follows = λ d h.
             let u : UnderMatches (Write c call) v d = subst (λ (z : Underway). UnderMatches z v d) is h.under in
             (step_refused o i d p.words (length (own p.entries (suc i))) so1.act (Refused k why.Unreached) (ClientTask call u.0.0) u.0.1 (sym h.refusing ∙ exact_refused x.refusing Unreached f.exact (λ z. z)) so1.blank (λ j. Refused (sym seat j) (lost (sym u.1 j))), record { refusing = refl; under = refl });
         longer = λ b. absurd (b refl);
         spent = subst (λ (u : Underway). x.taken ≤ spent_by u x.taken) (sym is) (omega arith);
+        cursor = refl;
         alone = λ j free h. absurd (let z : true ≡ false = free in cc);
       }
 
@@ -279,10 +322,13 @@ module _ (o : Opening) (i : ℕ) (x : ClientState) (c n : Putting) (call : Call)
       since2 : (view_at z i).pass.since ≡ since_of (Write c call) v ++ act_of a found ∷ []
       since2 = ap (λ (y : View). y.pass.since) view2 ∙ so2.since ∙ ap (λ (b : Bool). cond b [] v.pass.since ++ act_of a found ∷ []) (sym later)
 
-      stands2 : (y : ClientState) → y.number ≡ suc x.number → (view_at z i).pass.stock ≡ stock_at o.setup (suc i) y.taken → IsUnder o.setup.pool (view_at z i) y.under → Stands o z i y
-      stands2 y number stock h = stands_moved o i x y p z _ (Some entry) st moved2 (ap (λ (s : View). s.pass.pool) view2 ∙ (stepped p.setup.pool a false v _ found w _ made).pool) role2 names2 stock (number ∙ number_more x.number (suc i) p.entries z.entries entry st.number (sym seat) moved2.entries) h
+      knows2 : KnowsMore v (view_at z i)
+      knows2 = subst (KnowsMore v) (sym view2) (knows_more i p q a false found so2)
 
-      step2 : (d : Doing) (note : Note) → Matches x v d → x.refusing ≡ false → IsCause o.setup.pool (suc i) d (Some entry) (act_of a found) note
+      stands2 : (y : ClientState) → y.number ≡ suc x.number → (view_at z i).pass.stock ≡ stock_at o.setup (suc i) y.taken → IsUnder o.setup.pool (view_at z i) y.under → AreCursors o.setup.pool (view_at z i) y.cursors → Stands o z i y
+      stands2 y number stock h cursors = stands_moved o i x y p z _ (Some entry) st moved2 (ap (λ (s : View). s.pass.pool) view2 ∙ (stepped p.setup.pool a false v _ found w _ made).pool) role2 names2 stock (number ∙ number_more x.number (suc i) p.entries z.entries entry st.number (sym seat) moved2.entries) h cursors
+
+      step2 : (d : Doing) (note : Note) → Matches x v d → x.refusing ≡ false → IsCause o (suc i) d (Some entry) (act_of a found) note
           → IsStep o (suc i) d p.words (length (own p.entries (suc i))) (step_record i (access i (act_of a found) false) (Some entry) note)
       step2 d note m going cause =
           let u : UnderMatches (Write c call) v d = subst (λ (y : Underway). UnderMatches y v d) is m.under in
@@ -320,20 +366,26 @@ module _ (o : Opening) (i : ℕ) (x : ClientState) (c n : Putting) (call : Call)
     last_enters = (to_enter last (unlinked ended.tag) r ended.made acc later last_adds ended.made.now.words last_words ended.decides, open_still last (unlinked ended.tag) r ended.made acc later last_adds ended.made.now.words last_words ended.decides)
 
     pub went_answered : (z : Plain) → z.entries ≡ q.entries ++ next_entry k x.number call r ∷ [] → KeptButEntries q z → x.refusing ≡ false
-        → (a : ℕ) × Made p.setup.pool (put_step c v) c.walk.first v (Some (open_of p)) a w (Some (open_of q)) × (n ≡ put_on c a) → n.stage ≡ Over
-        → Went o i x (record { under = Nothing; refusing = false; taken = x.taken; number = suc x.number }) p z (Answered k r)
-    went_answered z more kept going made over =
-        let y : ClientState = record { under = Nothing; refusing = false; taken = x.taken; number = suc x.number } in
+        → (made : (a : ℕ) × Made p.setup.pool (put_step c v) c.walk.first v (Some (open_of p)) a w (Some (open_of q)) × (n ≡ put_on c a)) → n.stage ≡ Over
+        → (known : Known) (t : TagParts) → end_tag r (act_of (put_step c v) made.0) ≡ tag_number t → InRange c.walk.pool (tag_number t) × Within (c.walk.slot, tag_number t) w.pass.durable → IsSet c.walk.slot t x.cursors known
+        → Went o i x (answered x known) p z (Answered k r)
+    went_answered z more kept going made over known t tells durable is_set =
+        let y : ClientState = answered x known in
         let so3 = so2 last (unlinked ended.tag) r ended.made acc later last_adds ended.made.now.words last_words ended.decides in
         let stock : (view_at z i).pass.stock ≡ stock_at o.setup (suc i) x.taken = ap (λ (s : View). s.pass.stock) (view2 last (unlinked ended.tag) r ended.made acc later last_adds ended.made.now.words last_words ended.decides z more kept ∙ so3.view) ∙ stock_kept last false (history p) v (unlinked ended.tag) tt ∙ st.stock in
+        let there = view2 last (unlinked ended.tag) r ended.made acc later last_adds ended.made.now.words last_words ended.decides z more kept in
+        let new : IsCursor o.setup.pool (view_at z i) (c.walk.slot, t) = (subst (λ (l : Pool). InRange l (tag_number t)) under.1 durable.0, subst (λ (s : View). Within (c.walk.slot, tag_number t) s.pass.durable) (sym there) durable.1) in
+        let same : act_of last (unlinked ended.tag) ≡ act_of (put_step c v) made.0 = (same_snoc v.pass.since (cond c.walk.first [] v.pass.since) _ _ (sym so3.since ∙ (made_it o i x c n p q st few made acc).since)).1 in
         record {
           access = access i (act_of last (unlinked ended.tag)) false;
           entry = Some (next_entry k x.number call r);
           moved = moved2 last (unlinked ended.tag) r ended.made acc later last_adds ended.made.now.words last_words ended.decides z more kept;
-          stands = stands2 last (unlinked ended.tag) r ended.made acc later last_adds ended.made.now.words last_words ended.decides z more kept y refl stock tt;
+          stands = stands2 last (unlinked ended.tag) r ended.made acc later last_adds ended.made.now.words last_words ended.decides z more kept y refl stock tt
+              (cursors_set o.setup.pool v (view_at z i) c.walk.slot t x.cursors known (knows2 last (unlinked ended.tag) r ended.made acc later last_adds ended.made.now.words last_words ended.decides z more kept) st.cursors new is_set);
           follows = λ d h. (step2 last (unlinked ended.tag) r ended.made acc later last_adds ended.made.now.words last_words ended.decides z more kept d (Answered k r) h going (sym seat, (plain, refl)), record { refusing = refl; under = refl });
           longer = λ b. absurd (b refl);
           spent = subst (λ (u : Underway). x.taken ≤ spent_by u x.taken) (sym is) (omega arith);
+          cursor = subst (λ (u : Underway). SetsCursor (slot_of u) (act_of last (unlinked ended.tag)) (Answered k r) x.cursors known) (sym is) (t, ap (end_tag r) same ∙ tells, is_set);
           alone = λ j free h. answered_alone made acc j z.words r h over;
         }
 
@@ -421,25 +473,27 @@ module _ (o : Opening) (i : ℕ) (x : ClientState) (c n : Putting) (call : Call)
       own4 : n.own ≡ c.own
       own4 = ap (λ (m : Putting). m.own) stage_is
 
-      pub went_decided : Went o i x (record { under = Raise n; refusing = false; taken = suc x.taken; number = suc x.number }) p z Quiet
+      pub went_decided : Went o i x (linked_to x n) p z Quiet
       went_decided =
-          let y : ClientState = record { under = Raise n; refusing = false; taken = suc x.taken; number = suc x.number } in
+          let at : n.stage ≡ AtRaise tail = ap (λ (m : Putting). m.stage) stage_is in
           let wrote : Within (wrote_link tail n.own) (view_at z i).pass.since = subst (λ (s : ℕ). Within (wrote_link tail s) (view_at z i).pass.since) (sym own4) (subst (Within (wrote_link tail c.own)) (sym since3) (within_last (wrote_link tail c.own) (since_of (Write c call) v))) in
           let is_since : since_of x.under v ≡ since_of (Write c call) v = ap (λ (u : Underway). since_of u v) is in
           record {
             access = access i (act_of link (unlinked tail)) false;
             entry = Some (next_entry k x.number call reply);
             moved = moved2 link (unlinked tail) reply made3 f.accessed later3 link_adds f.step.decided.made.now.words link_words f.step.decided.decides z more3 kept;
-            stands = stands2 link (unlinked tail) reply made3 f.accessed later3 link_adds f.step.decided.made.now.words link_words f.step.decided.decides z more3 kept y refl stock3
-                (tail, ap (λ (m : Putting). m.stage) stage_is, ap (λ (m : Putting). m.walk.pool) stage_is ∙ under.1, subst (PutHolds n) (sym view3) f.step.stands, wrote);
+            stands = stands2 link (unlinked tail) reply made3 f.accessed later3 link_adds f.step.decided.made.now.words link_words f.step.decided.decides z more3 kept (linked_to x n) refl stock3
+                (ap (λ (m : Putting). m.walk.pool) stage_is ∙ under.1, subst (PutHolds n) (sym view3) f.step.stands, subst (λ (s : Stage). HasLinked s n.own (view_at z i).pass.since) (sym at) wrote)
+                (cursors_kept o.setup.pool v (view_at z i) x.cursors (knows2 link (unlinked tail) reply made3 f.accessed later3 link_adds f.step.decided.made.now.words link_words f.step.decided.decides z more3 kept) st.cursors);
             follows = λ d h.
                 let u : UnderMatches (Write c call) v d = subst (λ (s : Underway). UnderMatches s v d) is h.under in (
-                  step2 link (unlinked tail) reply made3 f.accessed later3 link_adds f.step.decided.made.now.words link_words f.step.decided.decides z more3 kept d Quiet h (exact_made x.refusing (Decided t) f.exact (λ s. s)) (commits_always c.own (call_at c v)),
+                  step2 link (unlinked tail) reply made3 f.accessed later3 link_adds f.step.decided.made.now.words link_words f.step.decided.decides z more3 kept d Quiet h (exact_made x.refusing (Decided t) f.exact (λ s. s)) (commits_always c.own (call_at c v), λ s. s),
                   record { refusing = refl; under = ((u.0.0, u.0.1 ∙ ap (λ (s : Call). Some (ClientTask s u.0.0)) (sym name4)), (λ j. Some (reply_of (sym own4 j) ((sym under.3 ∙ sym name4) j))), ap (λ (l : List Act). l ++ wrote_link tail c.own ∷ []) u.2 ∙ sym since4) },
                 );
-            longer = λ b. ap length since4 ∙ length_more (wrote_link tail c.own) (since_of (Write c call) v) ∙ ap (λ (l : List Act). suc (length l)) (sym is_since);
+            longer = λ b. ap length since4 ∙ length_snoc (wrote_link tail c.own) (since_of (Write c call) v) ∙ ap (λ (l : List Act). suc (length l)) (sym is_since);
             spent = subst (λ (u : Underway). suc x.taken ≤ spent_by u x.taken) (sym is) (omega arith);
-            alone = λ j free h. subst (λ (ws : List ℕ). Advances (suc i) o.setup.pool j ws (Raise n) Quiet) (sym kept.words) (commits_alone f.step.made f.accessed j tail h (ap (λ (m : Putting). m.stage) stage_is));
+            cursor = refl;
+            alone = λ j free h. subst (λ (ws : List ℕ). Advances (suc i) o.setup.pool j ws (Raise n) Quiet) (sym kept.words) (commits_alone f.step.made f.accessed j tail h at);
           }
 
 -- the reply of a commit by its job
@@ -459,7 +513,7 @@ lost_commit t (PutCall key x) = refl
 lost_commit t (DeleteCall key) = refl
 lost_commit t (SwapCall key e x) = refl
 
--- The access of a call that writes, behind its exchange.
+-- The accesses of a call that writes, behind its exchange.
 module _ (o : Opening) (i : ℕ) (x : ClientState) (c n : Putting) (p q : Plain) (k : ℕ) (seat : suc i ≡ k) (is : x.under ≡ Raise c) (st : Stands o p i x) (few : p.made < 2 ^ 64 - 1) where
   abbrev v5 : View
   v5 = view_at p i
@@ -467,81 +521,126 @@ module _ (o : Opening) (i : ℕ) (x : ClientState) (c n : Putting) (p q : Plain)
   abbrev w5 : View
   w5 = view_at q i
 
-  under5 : (u : ℕ) × (c.stage ≡ AtRaise u) × (c.walk.pool ≡ o.setup.pool) × PutHolds c v5 × Within (wrote_link u c.own) v5.pass.since
+  under5 : (c.walk.pool ≡ o.setup.pool) × PutHolds c v5 × HasLinked c.stage c.own v5.pass.since
   under5 = subst (IsUnder o.setup.pool v5) is st.under
 
-  abbrev raise : Step
-  raise = RaiseNext (record { slot = c.walk.slot; from = under5.0; to = c.own })
+  doing5 : (d : Doing) → Matches x v5 d → UnderMatches (Raise c) v5 d
+  doing5 d h = subst (λ (u : Underway). UnderMatches u v5 d) is h.under
 
-  later5 : c.walk.first ≡ false
-  later5 = (at_stage c (AtRaise under5.0) v5 under5.1 under5.3).1
+  ends5 : (j : ℕ) → EndsIn o.setup.pool p.words j x.under → PutEnds o.setup.pool j p.words c
+  ends5 j h = subst (λ (u : Underway). EndsIn o.setup.pool p.words j u) is h
 
-  -- the raise was made, and the answer is that of the reply that was decided
+  spends : x.taken ≤ spent_by x.under x.taken
+  spends = subst (λ (u : Underway). x.taken ≤ spent_by u x.taken) (sym is) (omega arith)
+
+  -- an access that was made
   module _ (m : (a : ℕ) × Made p.setup.pool (put_step c v5) c.walk.first v5 (Some (open_of p)) a w5 (Some (open_of q)) × (n ≡ put_on c a)) (acc : Accessed i true p q) (going : x.refusing ≡ false) where
-    made5 : Made p.setup.pool raise false v5 (Some (open_of p)) m.0 w5 (Some (open_of q))
-    made5 =
-        subst (λ (b : Bool). Made p.setup.pool raise b v5 (Some (open_of p)) m.0 w5 (Some (open_of q))) later5
-        (subst (λ (a : Step). Made p.setup.pool a c.walk.first v5 (Some (open_of p)) m.0 w5 (Some (open_of q))) (at_step c (AtRaise under5.0) v5 under5.1) m.1)
+    -- the raise of its link
+    module _ (u : ℕ) (at : c.stage ≡ AtRaise u) (after : n ≡ staged c AtShort) where
+      abbrev raise : Act
+      raise = act_of (RaiseNext (record { slot = c.walk.slot; from = u; to = c.own })) m.0
 
-    so5 : MadeSo i p q raise false m.0
-    so5 = made_so i p q raise false m.0 few (seat_below o p i x st) st.role st.entered made5 acc
+      is_raise : act_of (put_step c v5) m.0 ≡ raise
+      is_raise = ap (λ (a : Step). act_of a m.0) (at_step c (AtRaise u) v5 at)
 
-    made_it5 : MadeSo i p q (put_step c v5) c.walk.first m.0
-    made_it5 = made_so i p q (put_step c v5) c.walk.first m.0 few (seat_below o p i x st) st.role st.entered m.1 acc
+      miss5 : Misses c.stage m.0
+      miss5 = subst (λ (s : Stage). Misses s m.0) (sym at) tt
 
-    moved5 : Moved i (access i (act_of raise m.0) false) None p q
-    moved5 = moved_quiet i p q raise false m.0 so5 st.entered refl
+      later5 : c.walk.first ≡ false
+      later5 = (at_stage c (AtRaise u) v5 at under5.1).1
 
-    flushes : (d : Doing) → d.since ≡ since_of (Raise c) v5 → Flushes c.own (d.since ++ act_of raise m.0 ∷ [])
-    flushes d e = record {
-      from = under5.0;
-      old = m.0;
-      before = d.since;
-      after = [];
-      all = refl;
-      wrote = subst (Within (wrote_link under5.0 c.own)) (sym (e ∙ ap (λ (b : Bool). cond b [] v5.pass.since) later5)) under5.4;
-    }
+      since5 : w5.pass.since ≡ v5.pass.since ++ raise ∷ []
+      since5 = (made_it o i x c n p q st few m acc).since ∙ (λ j. cond (later5 j) [] v5.pass.since ++ is_raise j ∷ [])
 
-    went_raised : (r : Reply) → ((d : Doing) → UnderMatches (Raise c) v5 d → IsAnswer d None (act_of raise m.0) r) → Went o i x (with_under x Nothing) p q (Answered k r)
-    went_raised r answers = record {
-      access = access i (act_of raise m.0) false;
-      entry = None;
-      moved = moved5;
-      stands = stands_moved o i x (with_under x Nothing) p q _ None st moved5 (stepped p.setup.pool raise false v5 _ m.0 w5 _ made5).pool (ap (λ (y : View). y.pass.role) so5.view ∙ role_kept raise false (history p) v5 m.0) (ap (λ (y : View). y.pass.names) so5.view ∙ names_kept raise false (history p) v5 m.0)
-          (ap (λ (y : View). y.pass.stock) so5.view ∙ stock_kept raise false (history p) v5 m.0 tt ∙ st.stock) (number_same x.number (suc i) p.entries q.entries st.number moved5.entries) tt;
-      follows = λ d h.
-          let u : UnderMatches (Raise c) v5 d = subst (λ (y : Underway). UnderMatches y v5 d) is h.under in
-          (made_step o i d p.words (length (own p.entries (suc i))) (ClientTask (call_at c v5) u.0.0) u.0.1 (act_of raise m.0) None (Answered k r) (sym h.refusing ∙ going) (subst (λ (y : Setup). CameBack y.pool p.words (act_of raise m.0)) st.setup so5.came) tt (λ z. absurd z) (sym seat, answers d u), record { refusing = refl; under = refl });
-      longer = λ b. absurd (b refl);
-      spent = subst (λ (u : Underway). x.taken ≤ spent_by u x.taken) (sym is) (omega arith);
-      alone = λ j free h. subst (λ (s : ℕ). Advances (suc i) o.setup.pool j q.words Nothing (Answered s r)) seat
-          (put_answers (suc i) o.setup.pool j v5 p.words q.words c n (subst (λ (u : Underway). EndsIn o.setup.pool p.words j u) is h) (subst IsPutOpen (sym under5.1) tt)
-          (made_it5.after ∙ ap (λ (z : Setup). words_after_step z.pool (put_step c v5) p.words) st.setup)
-          (m.2 ∙ ap (put_on c) (made_it5.here ∙ ap (λ (z : Setup). found z.pool (put_step c v5) p.words) st.setup))
-          q.words r (ap (λ (z : Putting). z.stage) m.2 ∙ raise_over c under5.0 m.0 under5.1));
-    }
+      flushes : Flushes c.own w5.pass.since
+      flushes = record { from = u; old = m.0; before = v5.pass.since; all = since5; wrote = subst (λ (s : Stage). HasLinked s c.own v5.pass.since) at under5.2 }
 
-    pub went_stored : (t : ℕ) → t ≡ c.own → Stores c.job → Went o i x (with_under x Nothing) p q (Answered k (StoredAs t))
-    went_stored t e j = subst (λ (s : ℕ). Went o i x (with_under x Nothing) p q (Answered k (StoredAs s))) (sym e) (went_raised (StoredAs c.own) (λ d u. (u.1 ∙ ap (λ (r : Reply). Some r) (stores_reply c.job c.own (key_at v5.pass.names c.walk.slot) c.value j), flushes d u.2)))
+      since6 : since_of (Raise n) w5 ≡ since_of (Raise c) v5 ++ act_of (put_step c v5) m.0 ∷ []
+      since6 = ap (λ (b : Bool). cond b [] w5.pass.since) (ap (λ (z : Putting). z.walk.first) after ∙ later5) ∙ since5 ∙ (λ j. cond (sym later5 j) [] v5.pass.since ++ sym is_raise j ∷ [])
 
-    pub went_deleted : (t : ℕ) → t ≡ c.own → Deletes c.job → Went o i x (with_under x Nothing) p q (Answered k (DeletedAs t))
-    went_deleted t e j = subst (λ (s : ℕ). Went o i x (with_under x Nothing) p q (Answered k (DeletedAs s))) (sym e) (went_raised (DeletedAs c.own) (λ d u. (u.1 ∙ ap (λ (r : Reply). Some r) (deletes_reply c.job c.own (key_at v5.pass.names c.walk.slot) c.value j), flushes d u.2)))
+      name6 : call_at n w5 ≡ call_at c v5
+      name6 = (λ j. call_at (after j) w5) ∙ ap (λ (l : List (ℕ × List ℕ)). call_of c.job (key_at l c.walk.slot) c.value) (names o i x c n p q st few m acc)
 
-  -- the raise was refused
+      pub went_raised : PutHolds n w5 → Went o i x (with_under x (Raise n)) p q Quiet
+      went_raised holds =
+          let linked6 : HasLinked n.stage n.own w5.pass.since = subst (λ (z : Putting). HasLinked z.stage z.own w5.pass.since) (sym after) flushes in
+          let is_since : since_of x.under v5 ≡ since_of (Raise c) v5 = ap (λ (z : Underway). since_of z v5) is in
+          record {
+            access = access i (act_of (put_step c v5) m.0) false;
+            entry = None;
+            moved = moved o i x c n p q st few m acc miss5;
+            stands = stands o i x c n p q st few m acc miss5 (Raise n) x.cursors (ap (λ (z : Putting). z.walk.pool) after ∙ under5.0, holds, linked6) (cursors_kept o.setup.pool v5 w5 x.cursors (knows o i x c n p q st few m acc) st.cursors);
+            follows = λ d h.
+                let g = doing5 d h in (
+                  step o i x c n p q st few m acc miss5 d (call_at c v5) g.0.0 Quiet g.0.1 h.refusing going (tt, λ s. subst Shortens is_raise s),
+                  record { refusing = refl; under = ((g.0.0, g.0.1 ∙ ap (λ (s : Call). Some (ClientTask s g.0.0)) (sym name6)), g.1 ∙ (λ j. Some (reply_of (sym after j).own (sym name6 j))), ap (λ (l : List Act). l ++ act_of (put_step c v5) m.0 ∷ []) g.2 ∙ sym since6) },
+                );
+            longer = λ b. ap length since6 ∙ length_snoc (act_of (put_step c v5) m.0) (since_of (Raise c) v5) ∙ ap (λ (l : List Act). suc (length l)) (sym is_since);
+            spent = spends;
+            cursor = refl;
+            alone = λ j free h. put_commits (suc i) o.setup.pool j v5 p.words q.words c n (ends5 j h) (subst IsPutOpen (sym at) tt) (words_then o i x c n p q st few m acc) (call_then o i x c n p q st few m acc) (subst (λ (z : Putting). IsPutOpen z.stage) (sym after) tt);
+          }
+
+    -- the store of the slot's shortcut, and the answer is that of the reply that was decided
+    module _ (at : c.stage ≡ AtShort) (after : n ≡ staged c Over) (known : Known) (t : TagParts) (own_is : tag_number t ≡ c.own) (durable : InRange c.walk.pool (tag_number t) × Within (c.walk.slot, tag_number t) w5.pass.durable) (is_set : IsSet c.walk.slot t x.cursors known) where
+      abbrev store : Act
+      store = act_of (StoreShort c.walk.slot c.own) m.0
+
+      is_store : act_of (put_step c v5) m.0 ≡ store
+      is_store = ap (λ (a : Step). act_of a m.0) (at_step c AtShort v5 at)
+
+      miss7 : Misses c.stage m.0
+      miss7 = subst (λ (s : Stage). Misses s m.0) (sym at) tt
+
+      ends_commit : (d : Doing) → UnderMatches (Raise c) v5 d → EndsCommit o d (act_of (put_step c v5) m.0) c.own
+      ends_commit d g = record {
+        call = call_at c v5;
+        written = g.0.0;
+        task = g.0.1;
+        slot = c.walk.slot;
+        named = subst (λ (l : List (ℕ × List ℕ)). Within (c.walk.slot, key_of (call_at c v5)) l) st.names (subst (λ (key : List ℕ). Within (c.walk.slot, key) v5.pass.names) (sym (key_of_call c.job (key_at v5.pass.names c.walk.slot) c.value)) under5.1.walk.named);
+        stores = is_store;
+        flushed = subst (Flushes c.own) (sym (g.2 ∙ ap (λ (b : Bool). cond b [] v5.pass.since) (at_stage c AtShort v5 at under5.1).1)) (subst (λ (s : Stage). HasLinked s c.own v5.pass.since) at under5.2);
+      }
+
+      new_cursors : AreCursors o.setup.pool w5 known
+      new_cursors = cursors_set o.setup.pool v5 w5 c.walk.slot t x.cursors known (knows o i x c n p q st few m acc) st.cursors (subst (λ (l : Pool). InRange l (tag_number t)) under5.0 durable.0, durable.1) is_set
+
+      went_ended : (r : Reply) → end_tag r (act_of (put_step c v5) m.0) ≡ tag_number t → ((d : Doing) → UnderMatches (Raise c) v5 d → IsAnswer o d None (act_of (put_step c v5) m.0) r) → Went o i x (shortened x known) p q (Answered k r)
+      went_ended r tells answers = record {
+        access = access i (act_of (put_step c v5) m.0) false;
+        entry = None;
+        moved = moved o i x c n p q st few m acc miss7;
+        stands = stands o i x c n p q st few m acc miss7 Nothing known tt new_cursors;
+        follows = λ d h. let g = doing5 d h in (step o i x c n p q st few m acc miss7 d (call_at c v5) g.0.0 (Answered k r) g.0.1 h.refusing going (sym seat, answers d g), record { refusing = refl; under = refl });
+        longer = λ b. absurd (b refl);
+        spent = spends;
+        cursor = subst (λ (u : Underway). SetsCursor (slot_of u) (act_of (put_step c v5) m.0) (Answered k r) x.cursors known) (sym is) (t, tells, is_set);
+        alone = λ j free h. subst (λ (s : ℕ). Advances (suc i) o.setup.pool j q.words Nothing (Answered s r)) seat
+            (put_answers (suc i) o.setup.pool j v5 p.words q.words c n (ends5 j h) (subst IsPutOpen (sym at) tt) (words_then o i x c n p q st few m acc) (call_then o i x c n p q st few m acc) q.words r (ap (λ (z : Putting). z.stage) after));
+      }
+
+      pub went_stored : Stores c.job → Went o i x (shortened x known) p q (Answered k (StoredAs (tag_number t)))
+      went_stored j = subst (λ (s : ℕ). Went o i x (shortened x known) p q (Answered k (StoredAs s))) (sym own_is) (went_ended (StoredAs c.own) (sym own_is) (λ d g. (g.1 ∙ ap (λ (r : Reply). Some r) (stores_reply c.job c.own (key_at v5.pass.names c.walk.slot) c.value j), ends_commit d g)))
+
+      pub went_deleted : Deletes c.job → Went o i x (shortened x known) p q (Answered k (DeletedAs (tag_number t)))
+      went_deleted j = subst (λ (s : ℕ). Went o i x (shortened x known) p q (Answered k (DeletedAs s))) (sym own_is) (went_ended (DeletedAs c.own) (sym own_is) (λ d g. (g.1 ∙ ap (λ (r : Reply). Some r) (deletes_reply c.job c.own (key_at v5.pass.names c.walk.slot) c.value j), ends_commit d g)))
+
+  -- the access was refused
   pub went_linked : (t : ℕ) → t ≡ c.own → w5 ≡ v5 → Accessed i true p q → x.refusing ≡ true → Went o i x (with_under x Nothing) p q (Refused k (why.Linked t))
   went_linked t e same acc refused =
       let so6 : RefusedSo i p q = refused_so i p q (seat_below o p i x st) same acc in
-      let moved6 = moved_refused i p q so6 st.entered in
       record {
         access = access i so6.act true;
         entry = None;
-        moved = moved6;
-        stands = stands_moved o i x (with_under x Nothing) p q _ None st moved6 (ap (λ (z : View). z.pass.pool) same) (ap (λ (z : View). z.pass.role) same) (ap (λ (z : View). z.pass.names) same) (ap (λ (z : View). z.pass.stock) same ∙ st.stock) (number_same x.number (suc i) p.entries q.entries st.number moved6.entries) tt;
+        moved = moved_refused i p q so6 st.entered;
+        stands = stands_refused o i p x (with_under x Nothing) st q so6 refl refl tt refl;
         follows = λ d h.
-            let u : UnderMatches (Raise c) v5 d = subst (λ (z : Underway). UnderMatches z v5 d) is h.under in
+            let u = doing5 d h in
             let told : why.Linked t ≡ lost d.decided = ap why.Linked e ∙ sym (lost_commit c.own (call_at c v5)) ∙ sym (ap lost u.1) in
             (step_refused o i d p.words (length (own p.entries (suc i))) so6.act (Refused k (why.Linked t)) (ClientTask (call_at c v5) u.0.0) u.0.1 (sym h.refusing ∙ refused) so6.blank (λ j. Refused (sym seat j) (told j)), record { refusing = refl; under = refl });
         longer = λ b. absurd (b refl);
-        spent = subst (λ (u : Underway). x.taken ≤ spent_by u x.taken) (sym is) (omega arith);
+        spent = spends;
+        cursor = refl;
         alone = λ j free h. absurd (let z : true ≡ false = free in cc);
       }

@@ -12,7 +12,7 @@ use Rattle.clover_rule.specs.Steps.{found, turn_of}
 use Rattle.clover_rule.specs.Words.{mem_of}
 use Rattle.clover_rule.specs.declared.access.Access.{Access}
 use Rattle.clover_rule.specs.declared.view.View.{View}
-use Rattle.clover_walk.specs.Alone.{LeadsOver, HasVersion, version_words}
+use Rattle.clover_walk.specs.Alone.{Way, way_from, LeadsOver, HasVersion, version_words}
 use Rattle.clover_get.specs.Alone.{Moment, LeadsAlone, next_step}
 use Rattle.clover_get.specs.Getting.{IsOpen, Over}
 use Rattle.clover_put.specs.Alone.{alone, IsOpen as IsPutOpen}
@@ -23,6 +23,7 @@ use Rattle.clover_sched.specs.declared.client.Underway.TheVariants.{Nothing, Get
 use Rattle.clover_sched.specs.declared.event.Event.TheVariants.{Begin, Step}
 use Rattle.clover_sched.specs.declared.event.Note.{Note}
 use Rattle.clover_sched.specs.declared.event.Note.TheVariants.{Quiet, Answered}
+use Rattle.clover_sched.specs.Ends.{ended, MayBegin}
 use Rattle.clover_sched.specs.Folds.{words_after}
 use Rattle.clover_sched.specs.Record.{Record}
 use Rattle.clover_sched.specs.Run.{Opening}
@@ -40,12 +41,19 @@ pub record IsOwnStep (c : ℕ) (r : Record) : Type 0 where
   pub is : r.access ≡ Some access
   pub made : access.refused ≡ false
 
--- what a call finds where it begins in these words: its key's slot, whose chain leads over these tags to the tail, and the tail's version
-pub record Finds (o : Opening) (ws : List ℕ) (call : Call) (tags : List ℕ) (tail : ℕ) (version : Option Value) : Type 0 where
+-- what a call of the client finds where it begins behind these records: its key's slot, the cursor that it has for it or none, the tags behind the one at which its walk goes on, the tail and the tail's version
+pub record Finds (o : Opening) (c : ℕ) (before : List Record) (call : Call) : Type 0 where
   pub slot : ℕ
   pub named : Within (slot, key_of call) o.names
-  pub leads : LeadsOver o.setup.pool ws ((mem_of o.setup.pool ws).root slot) tags tail
-  pub has : HasVersion o.setup.pool ws tail version
+  pub cursor : Option ℕ
+  pub may : MayBegin (ended c before) (key_of call) cursor
+  pub way : Way
+  pub is : way ≡ way_from (mem_of o.setup.pool (words_after o.setup.pool o.words before)) slot cursor
+  pub tags : List ℕ
+  pub tail : ℕ
+  pub leads : LeadsOver o.setup.pool (words_after o.setup.pool o.words before) way.from tags tail
+  pub version : Option Value
+  pub has : HasVersion o.setup.pool (words_after o.setup.pool o.words before) tail version
 
 -- somewhere in the records a client begins a call, and from there on makes these steps alone
 pub record RunsAlone (o : Opening) (rs : List Record) : Type 0 where
@@ -58,10 +66,6 @@ pub record RunsAlone (o : Opening) (rs : List Record) : Type 0 where
   pub call : Call
   pub opens : OpensCall client call begin
   pub own : Each (IsOwnStep client) steps
-  pub tags : List ℕ
-  pub tail : ℕ
-  pub version : Option Value
-  pub finds : Finds o (words_after o.setup.pool o.words before) call tags tail version
 
 -- the stores and flushes of the words of a call's own version
 abbrev pub own_accesses : Call → ℕ
@@ -70,21 +74,21 @@ own_accesses (PutCall k x) = 2 * version_words (Some x)
 own_accesses (DeleteCall k) = 2 * version_words None
 own_accesses (SwapCall k t x) = 2 * version_words (Some x)
 
--- the accesses at the tail: a get loads the words of its version and then its link again; the others look at its meta word, but for a put, and then exchange its link and raise that, or load it again where there is nothing to commit
+-- the accesses at the tail: a get loads the words of its version and then its link again; the others look at its meta word, but for a put, and then exchange its link, raise that and store the shortcut, or load it again where there is nothing to commit
 abbrev pub tail_accesses : Call → ℕ → Option Value → ℕ
 tail_accesses (GetCall k) u o = version_words o + 1
-tail_accesses (PutCall k x) u o = 2
-tail_accesses (DeleteCall k) u (Some y) = 3
+tail_accesses (PutCall k x) u o = 3
+tail_accesses (DeleteCall k) u (Some y) = 4
 tail_accesses (DeleteCall k) u None = 2
-tail_accesses (SwapCall k t x) u (Some y) = cond (eqb t u) 3 2
+tail_accesses (SwapCall k t x) u (Some y) = cond (eqb t u) 4 2
 tail_accesses (SwapCall k t x) u None = 2
 
--- how many accesses a call costs that runs alone, with so many links before the tail: two for each link, and two to begin and end the walk
-abbrev pub cost : Call → ℕ → ℕ → Option Value → ℕ
-cost call links tail version = own_accesses call + 2 * links + 2 + tail_accesses call tail version
+-- how many accesses a call costs that runs alone, with so many loads on the way to a live tag and so many links from there to the tail: two for each link, and one that shows the tail
+abbrev pub cost : Call → ℕ → ℕ → ℕ → Option Value → ℕ
+cost call loads links tail version = own_accesses call + loads + 2 * links + 1 + tail_accesses call tail version
 
-abbrev pub cost_of : (o : Opening) (rs : List Record) → RunsAlone o rs → ℕ
-cost_of o rs x = cost x.call (length x.tags) x.tail x.version
+abbrev pub cost_of : (o : Opening) (c : ℕ) (before : List Record) (call : Call) → Finds o c before call → ℕ
+cost_of o c before call f = cost call f.way.loads (length f.tags) f.tail f.version
 
 -- an answer to this client
 abbrev pub IsAnswered : ℕ → Note → Type 0
@@ -97,13 +101,9 @@ pub record IsAnsweredAt (c n : ℕ) (steps : List Record) : Type 0 where
   pub quiet : (k : ℕ) (r : Record) → nth steps k ≡ Some r → suc k < n → r.note ≡ Quiet
   pub answered : (k : ℕ) (r : Record) → nth steps k ≡ Some r → suc k ≡ n → IsAnswered c r.note
 
--- each call that runs alone makes at most as many accesses as it costs, and is answered by the last of them
+-- each call that runs alone finds its way to a tail where it begins, makes at most as many accesses as it then costs, and is answered by the last of them
 abbrev pub AllAlone : Opening → List Record → Type 0
-AllAlone o rs = (x : RunsAlone o rs) → IsAnsweredAt x.client (cost_of o rs x) x.steps
-
--- between any two records, before the first and behind the last, a call on a key that has a slot finds its chain and its version
-abbrev pub AllFound : Opening → List Record → Type 0
-AllFound o rs = (before after : List Record) (call : Call) (slot : ℕ) → rs ≡ before ++ after → Within (slot, key_of call) o.names → (tags : List ℕ) × (tail : ℕ) × (version : Option Value) × Finds o (words_after o.setup.pool o.words before) call tags tail version
+AllAlone o rs = (x : RunsAlone o rs) → (f : Finds o x.client x.before x.call) × IsAnsweredAt x.client (cost_of o x.client x.before x.call f) x.steps
 
 -- a get that is made alone from there on is over after exactly so many accesses, of which the last makes no turn
 pub record GetEnds (p : Pool) (n : ℕ) (a : Moment) : Type 0 where
@@ -137,5 +137,10 @@ pub record Advances (c : ℕ) (p : Pool) (n : ℕ) (ws : List ℕ) (u : Underway
   pub notes : NotesWith c left note
 
 -- each client with a call that has run alone up to the present will be answered after the accesses that are left of its cost
-abbrev pub AllUnderway : Opening → List ℕ → List ClientState → List Record → Type 0
-AllUnderway o ws clients rs = (x : RunsAlone o rs) → x.after ≡ [] → (i : ℕ) (y : ClientState) → suc i ≡ x.client → nth clients i ≡ Some y → (n : ℕ) × (length x.steps + n ≡ cost_of o rs x) × EndsIn o.setup.pool ws n y.under
+abbrev pub AllUnderway : (o : Opening) → List ℕ → List ClientState → (rs : List Record) → AllAlone o rs → Type 0
+AllUnderway o ws clients rs all = (x : RunsAlone o rs) → x.after ≡ [] → (i : ℕ) (y : ClientState) → suc i ≡ x.client → nth clients i ≡ Some y → (n : ℕ) × (length x.steps + n ≡ cost_of o x.client x.before x.call (all x).0) × EndsIn o.setup.pool ws n y.under
+
+-- Each call that runs alone is answered at its cost, and one under way will be.
+pub record AloneSoFar (o : Opening) (ws : List ℕ) (clients : List ClientState) (rs : List Record) : Type 0 where
+  pub all : AllAlone o rs
+  pub underway : AllUnderway o ws clients rs all

@@ -1,9 +1,10 @@
 -- A client of the machine: what it has under way and what it knows, that this is what the records say of it, and what one step of it does.
 use Prim.Native.Nat.{suc}
-use Rattle.std.specs.Prelude.{◌≡◌, ◌≢◌, ℕ, ◌+◌, ◌-◌, ◌*◌, ◌≤◌, ◌<◌, ◌^◌, min, List, [], ◌∷◌, ◌++◌, length, true, false, cond, if◌then◌else◌, Option, Some, None}
+use Rattle.std.specs.Prelude.{◌≡◌, ◌≢◌, ◌⊎◌, ℕ, ◌+◌, ◌-◌, ◌*◌, ◌≤◌, ◌<◌, ◌^◌, min, List, [], ◌∷◌, ◌++◌, length, true, false, cond, if◌then◌else◌, All, Option, Some, None, IfSome}
 use Rattle.clover_words.specs.declared.pool.Pool.{Pool}
 use Rattle.clover_words.specs.declared.setup.Setup.{Setup}
 use Rattle.clover_words.specs.Preset.{buffers_total, HasDealt}
+use Rattle.clover_words.specs.Tag.{TagParts, tag_number}
 use Rattle.clover_map.specs.History.{own, key_of}
 use Rattle.clover_map.specs.declared.call.Call.{Call}
 use Rattle.clover_map.specs.declared.call.Call.TheVariants.{Get as GetCall, Put as PutCall, Delete as DeleteCall, Swap as SwapCall}
@@ -13,6 +14,7 @@ use Rattle.clover_script.specs.Lines.{takes}
 use Rattle.clover_script.specs.declared.line.Task.{Task}
 use Rattle.clover_script.specs.declared.line.Task.TheVariants.{Client as ClientTask}
 use Rattle.clover_rule.specs.Accesses.{wrote_link}
+use Rattle.clover_rule.specs.Content.{InRange}
 use Rattle.clover_rule.specs.Lists.{Within}
 use Rattle.clover_rule.specs.Steps.{reply_of}
 use Rattle.clover_rule.specs.declared.access.Access.{Access}
@@ -21,23 +23,30 @@ use Rattle.clover_rule.specs.declared.view.Role.TheVariants.{Client as ClientRol
 use Rattle.clover_rule.specs.declared.view.View.{View}
 use Rattle.clover_plain.specs.Plain.{Plain, view_at, history}
 use Rattle.clover_plain.specs.Preset.{dealt_from}
+use Rattle.clover_cache.specs.Node.{Known, cursor_at, asked, IsSet}
+use Rattle.clover_walk.specs.Standing.{number_of}
 use Rattle.clover_walk.specs.Walking.{key_at, budget}
 use Rattle.clover_get.specs.Getting.{IsOpen}
 use Rattle.clover_get.specs.Holding.{GetHolds}
 use Rattle.clover_put.specs.Answering.{IsBefore}
 use Rattle.clover_put.specs.Holding.{PutHolds}
-use Rattle.clover_put.specs.Putting.{AtRaise, call_at}
+use Rattle.clover_put.specs.Putting.{Stage, AtRaise, AtShort, call_at}
 use Rattle.clover_sched.specs.declared.client.ClientState.{ClientState}
 use Rattle.clover_sched.specs.declared.client.Underway.{Underway}
 use Rattle.clover_sched.specs.declared.client.Underway.TheVariants.{Nothing, Get, Write, Raise}
 use Rattle.clover_sched.specs.declared.event.Event.TheVariants.{Step}
 use Rattle.clover_sched.specs.declared.event.Note.{Note}
-use Rattle.clover_sched.specs.declared.event.Note.TheVariants.{Quiet}
+use Rattle.clover_sched.specs.declared.event.Note.TheVariants.{Quiet, Answered}
 use Rattle.clover_sched.specs.Alone.{EndsIn, Advances}
 use Rattle.clover_sched.specs.Beginning.{IsBegun}
+use Rattle.clover_sched.specs.Ends.{end_tag}
 use Rattle.clover_sched.specs.Folds.{Doing, listed, words_by, made_by, begun, stepped}
 use Rattle.clover_sched.specs.Record.{Record}
-use Rattle.clover_sched.specs.Run.{Opening, IsStep, begin_note, room}
+use Rattle.clover_sched.specs.Run.{Opening, Flushes, IsStep, begin_note, room}
+
+-- a client that has done nothing
+abbrev pub idle_client : ClientState
+idle_client = record { under = Nothing; refusing = false; taken = 0; number = 0; cursors = record { last = None; list = [] } }
 
 -- the stock of a client that has committed so often
 abbrev pub stock_at : Setup → ℕ → ℕ → List ℕ
@@ -50,14 +59,28 @@ since_of (Get g into call) v = cond g.walk.first [] v.pass.since
 since_of (Write c call) v = cond c.walk.first [] v.pass.since
 since_of (Raise c) v = cond c.walk.first [] v.pass.since
 
+-- behind its exchange a call has written its link, and once it has raised that it is to store its shortcut
+abbrev pub HasLinked : Stage → ℕ → List Act → Type 0
+HasLinked (AtRaise u) t acts = Within (wrote_link u t) acts
+HasLinked AtShort t acts = Flushes t acts
+HasLinked at t acts = ⊥
+
 -- what the client must know where its call stands; the call asked for is that of the step machine
 abbrev pub IsUnder : Pool → View → Underway → Type 0
 IsUnder p v Nothing = Unit {0}
 IsUnder p v (Get g into call) = IsOpen g.stage × (g.walk.pool ≡ p) × GetHolds g v into × (call ≡ GetCall (key_at v.pass.names g.walk.slot))
 IsUnder p v (Write c call) = IsBefore c.stage × (c.walk.pool ≡ p) × PutHolds c v × (call ≡ call_at c v)
-IsUnder p v (Raise c) = (u : ℕ) × (c.stage ≡ AtRaise u) × (c.walk.pool ≡ p) × PutHolds c v × Within (wrote_link u c.own) v.pass.since
+IsUnder p v (Raise c) = (c.walk.pool ≡ p) × PutHolds c v × HasLinked c.stage c.own v.pass.since
 
--- The client of seat i stands in the pool: it knows the bindings and what is left of its stock, and what its call needs; each entry was entered.
+-- a cursor of the slot is a tag of the pool that the client knows to be durable there
+abbrev pub IsCursor : Pool → View → ℕ × TagParts → Type 0
+IsCursor p v q = InRange p (tag_number q.1) × Within (q.0, tag_number q.1) v.pass.durable
+
+pub record AreCursors (p : Pool) (v : View) (k : Known) : Type 0 where
+  pub last : IfSome k.last (IsCursor p v)
+  pub list : All (IsCursor p v) k.list
+
+-- The client of seat i stands in the pool: it knows the bindings and what is left of its stock, what its call needs, and its cursors; each entry was entered.
 pub record Stands (o : Opening) (p : Plain) (i : ℕ) (x : ClientState) : Type 0 where
   pub setup : p.setup ≡ o.setup
   pub opened : p.opened ≡ true
@@ -70,6 +93,7 @@ pub record Stands (o : Opening) (p : Plain) (i : ℕ) (x : ClientState) : Type 0
   pub stock : (view_at p i).pass.stock ≡ stock_at o.setup (suc i) x.taken
   pub number : x.number ≡ length (own p.entries (suc i))
   pub under : IsUnder o.setup.pool (view_at p i) x.under
+  pub cursors : AreCursors o.setup.pool (view_at p i) x.cursors
 
 -- what the client has under way is what the records say
 abbrev pub UnderMatches : Underway → View → Doing → Type 0
@@ -112,6 +136,18 @@ pub record Moved (i : ℕ) (x : Access) (e : Option Entry) (p q : Plain) : Type 
 abbrev pub step_record : ℕ → Access → Option Entry → Note → Record
 step_record i x e note = record { event = Step (suc i); access = Some x; note = note; entry = e }
 
+-- the slot of what is under way
+abbrev pub slot_of : Underway → ℕ
+slot_of Nothing = 0
+slot_of (Get g into call) = g.walk.slot
+slot_of (Write c call) = c.walk.slot
+slot_of (Raise c) = c.walk.slot
+
+-- an answer sets the cursor of the call's slot to the tag at which it ended, and nothing else sets a cursor
+abbrev pub SetsCursor : ℕ → Act → Note → Known → Known → Type 0
+SetsCursor s act (Answered c reply) k n = (t : TagParts) × (end_tag reply act ≡ tag_number t) × IsSet s t k n
+SetsCursor s act note k n = n ≡ k
+
 -- The client of seat i made the next access of its call, which came to this note: in any run that leads to where it stood this is a step, and it stands where that leads.
 pub record Went (o : Opening) (i : ℕ) (x y : ClientState) (p q : Plain) (note : Note) : Type 0 where
   pub access : Access
@@ -123,6 +159,7 @@ pub record Went (o : Opening) (i : ℕ) (x y : ClientState) (p q : Plain) (note 
   -- a call that goes on has made one access more
   pub longer : y.under ≢ Nothing → length (since_of y.under (view_at q i)) ≡ suc (length (since_of x.under (view_at p i)))
   pub spent : spent y ≤ spent x
+  pub cursor : SetsCursor (slot_of x.under) access.act note x.cursors y.cursors
   -- where its call is to end in so many accesses made alone, this one was one of them
   pub alone : (n : ℕ) → access.refused ≡ false → EndsIn o.setup.pool p.words n x.under → Advances (suc i) o.setup.pool n q.words y.under note
 
@@ -133,11 +170,11 @@ size_of (PutCall k v) = length v.bytes
 size_of (DeleteCall k) = 0
 size_of (SwapCall k t v) = length v.bytes
 
--- a client that has committed so often begins this call: on a slot of its key, with a value that a buffer has room for, and where it writes with the next buffer that it was dealt
-pub record Starts (o : Opening) (c n : ℕ) (call : Call) (u : Underway) : Type 0 where
+-- a client that has committed so often begins this call: on a slot of its key, at its cursor of that slot where it has one, with a value that a buffer has room for, and where it writes with the next buffer that it was dealt
+pub record Starts (o : Opening) (c n : ℕ) (known : Known) (call : Call) (u : Underway) : Type 0 where
   pub slot : ℕ
   pub named : Within (slot, key_of call) o.names
-  pub begun : IsBegun o.setup slot c n call u
+  pub begun : IsBegun o.setup slot (number_of (cursor_at slot known)) c n call u
   pub fits : size_of call ≤ room o.setup
   pub dealt : takes call ≡ 1 → HasDealt o.setup c n
 
@@ -147,7 +184,9 @@ pub record Begins (o : Opening) (p : Plain) (i : ℕ) (x y : ClientState) (t : T
   pub says : (d : Doing) → d.task ≡ None → note ≡ begin_note o.setup d (suc i) t
   pub matches : (d : Doing) → Matches x (view_at p i) d → Matches y (view_at p i) (begun d t note)
   pub spent : spent y ≤ spent x + takes (call_in t)
-  pub starts : note ≡ Quiet → Starts o (suc i) x.taken (call_in t) y.under
+  pub starts : note ≡ Quiet → Starts o (suc i) x.taken x.cursors (call_in t) y.under
+  -- it may have looked up a slot's cursor
+  pub asks : (y.cursors ≡ x.cursors) ⊎ ((s : ℕ) × (y.cursors ≡ asked s x.cursors))
 
 -- the number of an expected tag is one
 abbrev pub ExpectsTag : Call → Type 0

@@ -1,5 +1,6 @@
 pub mod Record
 pub mod Folds
+pub mod Ends
 pub mod Run
 pub mod Lines
 pub mod Text

@@ -1,18 +1,21 @@
 -- What contracts see of a machine, and that it stands where some records lead.
 use Prim.Native.Nat.{suc}
-use Rattle.std.specs.Prelude.{◌≡◌, ◌≢◌, ℕ, ◌+◌, ◌-◌, ◌<◌, ◌≤◌, ◌==◌, List, [], length, Contains, true, if◌then◌else◌, Option, Some, None}
+use Rattle.std.specs.Prelude.{◌≡◌, ◌≢◌, ℕ, ◌+◌, ◌-◌, ◌<◌, ◌≤◌, ◌==◌, List, [], ◌∷◌, length, Contains, true, if◌then◌else◌, All, Option, Some, None, MatchOption}
 use Rattle.std.specs.FinMap as finite
 use Rattle.clover_words.specs.declared.pool.Pool.{Pool}
 use Rattle.clover_words.specs.declared.setup.Setup.{Setup}
 use Rattle.clover_words.specs.Preset.{HasDealt}
+use Rattle.clover_words.specs.Tag.{tag_number}
 use Rattle.clover_map.specs.Legal.{Legal}
 use Rattle.clover_map.specs.History.{key_of}
 use Rattle.clover_map.specs.declared.call.Call.{Call}
 use Rattle.clover_script.specs.Lines.{takes}
 use Rattle.clover_script.specs.declared.line.Task.TheVariants.{Client as ClientTask}
-use Rattle.clover_rule.specs.Lists.{nth}
+use Rattle.clover_rule.specs.Lists.{nth, Within}
 use Rattle.clover_rule.specs.Preset.{bindings_from}
 use Rattle.clover_rule.specs.declared.view.View.{View}
+use Rattle.clover_walk.specs.Walking.{key_at}
+use Rattle.clover_cache.specs.Node.{Known}
 use Rattle.clover_put.specs.Putting.{body}
 use Rattle.clover_plain.specs.Plain.{Plain, Kept, history, view_at}
 use Rattle.clover_plain.specs.Preset.{IsPreset, AreDistinct}
@@ -21,8 +24,9 @@ use Rattle.clover_sched.specs.declared.client.Underway.{Underway}
 use Rattle.clover_sched.specs.declared.client.Underway.TheVariants.{Nothing, Write, Raise}
 use Rattle.clover_sched.specs.declared.event.Event.{Event}
 use Rattle.clover_sched.specs.declared.event.Event.TheVariants.{Begin, Step, Refuse}
-use Rattle.clover_sched.specs.Alone.{AllFound, AllAlone, AllUnderway}
+use Rattle.clover_sched.specs.Alone.{AloneSoFar}
 use Rattle.clover_sched.specs.Client.{Stands, Matches, IsTask, spent, since_of, most_made}
+use Rattle.clover_sched.specs.Ends.{ended, IsLatest}
 use Rattle.clover_sched.specs.Folds.{entries_in, accesses_in, words_after, made_in, doing, along}
 use Rattle.clover_sched.specs.Record.{Record}
 use Rattle.clover_sched.specs.Run.{Opening, IsRun}
@@ -57,11 +61,17 @@ pub record IsPoolAt (o : Opening) (p : Plain) (rs : List Record) : Type 0 where
   pub made : p.made ≡ made_in rs
   pub seats : length p.views ≡ o.setup.clients
 
+-- A client's cursors are tags at which its answered calls ended, of keys that have slots: the one set last that of the latest call of all, and each of the list that of the latest one on its key.
+pub record Remembers (names : List (ℕ × List ℕ)) (k : Known) (h : List (List ℕ × ℕ)) : Type 0 where
+  pub last : MatchOption k.last (h ≡ []) (λ q. (rest : List (List ℕ × ℕ)) × (h ≡ (key_at names q.0, tag_number q.1) ∷ rest) × Within (q.0, key_at names q.0) names)
+  pub list : All (λ q. IsLatest (key_at names q.0) (tag_number q.1) h × Within (q.0, key_at names q.0) names) k.list
+
 -- The client of seat i is as these records left it.
 pub record IsClientAt (o : Opening) (p : Plain) (i : ℕ) (x : ClientState) (rs : List Record) : Type 0 where
   pub stands : Stands o p i x
   pub matches : Matches x (view_at p i) (doing (suc i) rs)
   pub spent : spent x ≤ asked (suc i) rs
+  pub cursors : Remembers o.names x.cursors (ended (suc i) rs)
 
 -- The machine stands where these records lead.
 pub record IsAt (o : Opening) (m : Parts) (rs : List Record) : Type 0 where
@@ -76,9 +86,7 @@ pub record IsAt (o : Opening) (m : Parts) (rs : List Record) : Type 0 where
   -- a client that there is not has no task
   pub far : (a : ℕ) → o.setup.clients < a → (doing a rs).task ≡ None
   pub legal : Legal finite.empty [] (entries_in rs)
-  pub found : AllFound o rs
-  pub alone : AllAlone o rs
-  pub underway : AllUnderway o m.pool.words m.clients rs
+  pub alone : AloneSoFar o m.pool.words m.clients rs
 
 abbrev pub IsBehind : Parts → Type 0
 IsBehind m = (o : Opening) × (rs : List Record) × IsAt o m rs

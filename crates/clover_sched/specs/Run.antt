@@ -3,8 +3,10 @@ use Prim.Native.Nat.{suc}
 use Rattle.std.specs.Prelude.{◌≡◌, ℕ, ◌+◌, ◌*◌, ltb, List, [], ◌∷◌, ◌++◌, length, Bool, true, false, if◌then◌else◌, Option, Some, None, IfSome, IsSome}
 use Rattle.clover_words.specs.declared.pool.Pool.{Pool}
 use Rattle.clover_words.specs.declared.setup.Setup.{Setup}
-use Rattle.clover_words.specs.declared.word.Word.TheVariants.{Next as NextOf}
-use Rattle.clover_map.specs.History.{own}
+use Rattle.clover_words.specs.declared.word.Word.TheVariants.{Next as NextOf, Short}
+use Rattle.clover_words.specs.declared.word.Side.TheVariants.{Current}
+use Rattle.clover_map.specs.History.{own, key_of}
+use Rattle.clover_map.specs.declared.call.Call.{Call}
 use Rattle.clover_map.specs.declared.call.Entry.{Entry}
 use Rattle.clover_map.specs.declared.call.Reply.{Reply}
 use Rattle.clover_map.specs.declared.call.Reply.TheVariants.{Stored, Deleted}
@@ -14,7 +16,7 @@ use Rattle.clover_rule.specs.Accesses.{CameBack, Decides, wrote_link}
 use Rattle.clover_rule.specs.Lists.{Within}
 use Rattle.clover_rule.specs.Memory.{home}
 use Rattle.clover_rule.specs.Steps.{linked}
-use Rattle.clover_rule.specs.Words.{buffer_at}
+use Rattle.clover_rule.specs.Words.{buffer_at, root_code}
 use Rattle.clover_rule.specs.declared.access.Access.{Access}
 use Rattle.clover_rule.specs.declared.access.Act.{Act}
 use Rattle.clover_rule.specs.declared.access.Act.TheVariants.{Load, Store, Exchange, Raise}
@@ -87,14 +89,28 @@ abbrev pub Wrote : Act → Type 0
 Wrote (Exchange w expected new old) = old ≡ expected
 Wrote act = ⊥
 
--- among these acts is a raise of the flushed copy of the link to t, behind the exchange by which the call wrote that link
+-- the last of these acts is the raise of the flushed copy of the link to t, behind the exchange by which the call wrote that link
 pub record Flushes (t : ℕ) (acts : List Act) : Type 0 where
   pub from : ℕ
   pub old : ℕ
   pub before : List Act
-  pub after : List Act
-  pub all : acts ≡ before ++ Raise (NextOf (buffer_at (home from))) (linked from t) old ∷ after
+  pub all : acts ≡ before ++ Raise (NextOf (buffer_at (home from))) (linked from t) old ∷ []
   pub wrote : Within (wrote_link from t) before
+
+-- the act stores a slot's shortcut
+abbrev pub Shortens : Act → Type 0
+Shortens (Store (Short s) side x) = Unit {0}
+Shortens act = ⊥
+
+-- the call under way stores the tag that it committed in the shortcut of its key's slot, right behind the raise of its link
+pub record EndsCommit (o : Opening) (d : Doing) (act : Act) (t : ℕ) : Type 0 where
+  pub call : Call
+  pub written : ℕ
+  pub task : d.task ≡ Some (ClientTask call written)
+  pub slot : ℕ
+  pub named : Within (slot, key_of call) o.names
+  pub stores : act ≡ Store (Short slot) Current (root_code (Some t))
+  pub flushed : Flushes t d.since
 
 -- what a call whose access was refused is answered: it had changed nothing, or its link stands
 abbrev pub lost : Option Reply → CallRefusal
@@ -102,19 +118,19 @@ lost (Some (Stored t)) = Linked t
 lost (Some (Deleted t)) = Linked t
 lost o = Unreached
 
--- a commit's answer comes where its link is flushed; any other answer at the access that decides it
-abbrev pub IsAnswer : Doing → Option Entry → Act → Reply → Type 0
-IsAnswer d None act (Stored t) = (d.decided ≡ Some (Stored t)) × Flushes t (d.since ++ act ∷ [])
-IsAnswer d None act (Deleted t) = (d.decided ≡ Some (Deleted t)) × Flushes t (d.since ++ act ∷ [])
-IsAnswer d None act r = ⊥
-IsAnswer d (Some e) act r = (IsCommit r ≡ false) × (e.reply ≡ r)
+-- a commit's answer comes at the store of its shortcut; any other answer at the access that decides it
+abbrev pub IsAnswer : Opening → Doing → Option Entry → Act → Reply → Type 0
+IsAnswer o d None act (Stored t) = (d.decided ≡ Some (Stored t)) × EndsCommit o d act t
+IsAnswer o d None act (Deleted t) = (d.decided ≡ Some (Deleted t)) × EndsCommit o d act t
+IsAnswer o d None act r = ⊥
+IsAnswer o d (Some e) act r = (IsCommit r ≡ false) × (e.reply ≡ r)
 
--- the cause of a note of a step whose access was made
-abbrev pub IsCause : Pool → ℕ → Doing → Option Entry → Act → Note → Type 0
-IsCause p a d e act Quiet = IfSome e (λ (x : Entry). IsCommit x.reply ≡ true)
-IsCause p a d e act (Answered c r) = (c ≡ a) × IsAnswer d e act r
-IsCause p a d e act (Refused c (Behind n)) = (c ≡ a) × (n ≡ p.nodes * p.buffers + 2) × (e ≡ None)
-IsCause p a d e act note = ⊥
+-- the cause of a note of a step whose access was made; each store of a shortcut answers
+abbrev pub IsCause : Opening → ℕ → Doing → Option Entry → Act → Note → Type 0
+IsCause o a d e act Quiet = IfSome e (λ (x : Entry). IsCommit x.reply ≡ true) × (Shortens act → ⊥)
+IsCause o a d e act (Answered c r) = (c ≡ a) × IsAnswer o d e act r
+IsCause o a d e act (Refused c (Behind n)) = (c ≡ a) × (n ≡ o.setup.pool.nodes * o.setup.pool.buffers + 2) × (e ≡ None) × (Shortens act → ⊥)
+IsCause o a d e act note = ⊥
 
 -- A step: an actor without a task does nothing; one with a task makes one access, and no exchange writes but a commit's.
 pub record IsStep (o : Opening) (a : ℕ) (d : Doing) (ws : List ℕ) (n : ℕ) (r : Record) : Type 0 where
@@ -124,7 +140,7 @@ pub record IsStep (o : Opening) (a : ℕ) (d : Doing) (ws : List ℕ) (n : ℕ) 
   pub entry : IfSome r.entry (IsEntry o a d ws n r)
   pub commits : (x : Access) → r.access ≡ Some x → x.refused ≡ false → Wrote x.act → IsSome r.entry
   pub unreached : (x : Access) → r.access ≡ Some x → x.refused ≡ true → (r.entry ≡ None) × (r.note ≡ Refused a (lost d.decided))
-  pub cause : (x : Access) → r.access ≡ Some x → x.refused ≡ false → IsCause o.setup.pool a d r.entry x.act r.note
+  pub cause : (x : Access) → r.access ≡ Some x → x.refused ≡ false → IsCause o a d r.entry x.act r.note
 
 -- the record fits behind those before it
 abbrev pub Fits : Opening → List Record → Record → Event → Type 0

@@ -1,13 +1,13 @@
 // The machine: a pool and its clients, one event at a time.
-ghost use Rattle.std.specs.Prelude.{◌≡◌, ◌<◌, ◌≤◌, ◌++◌, ◌∷◌, [], ◌↔◌, ℕ, List, length, replicate, true, false, IsTrue, IfOk, OnErr};
+ghost use Rattle.std.specs.Prelude.{◌≡◌, ◌<◌, ◌≤◌, ◌++◌, ◌∷◌, [], ◌↔◌, ℕ, List, length, replicate, true, IsTrue, IfOk, OnErr};
 ghost use Rattle.clover_words.specs.Preset.{buffers_total};
 ghost use Rattle.clover_map.specs.History.{key_of};
 ghost use Rattle.clover_script.specs.Form.{call_in};
+ghost use Rattle.clover_sched.specs.Client.{idle_client};
 ghost use Rattle.clover_sched.specs.Folds.{entries_in, accesses_in, made_in};
 ghost use Rattle.clover_sched.specs.Machine.{IsAt, IsOpening, IsSame, MayCome, IsBusy, IsFitting, left};
 ghost use Rattle.clover_sched.specs.Record.{Record};
 ghost use Rattle.clover_sched.specs.Run.{Opening};
-ghost use Rattle.clover_sched.specs.declared.client.Underway.TheVariants.{Nothing as IsNothing};
 ghost use Rattle.clover_sched.specs.declared.event.Event.TheVariants.{Begin as BeginOf, Step as StepOf, Refuse as RefuseOf};
 ghost use Rattle.clover_sched.specs.declared.event.Note.TheVariants.{Quiet as IsQuiet};
 
@@ -49,11 +49,11 @@ impl Model for Machine {
 
 // So many clients that have done nothing.
 fn idle_clients(alloc: Global, count: u32) -> Result<Vec<ClientState>, OutOfMemory>
-    ensures { IfOk result (λ clients. clients.items ≡ replicate count (record { under = IsNothing; refusing = false; taken = 0; number = 0 })) }
+    ensures { IfOk result (λ clients. clients.items ≡ replicate count idle_client) }
 {
     let mut clients = Vec::new(alloc);
     for _ in 0..count {
-        clients.push(ClientState::idle())?;
+        clients.push(ClientState::idle(alloc)?)?;
     }
     Ok(clients)
 }
@@ -95,7 +95,6 @@ impl Machine {
     {
         let mut pool = PlainPool::make(alloc, setup, trace)?;
         pool.preset(names.keys());
-        pool.stands();
         let clients = idle_clients(alloc, setup.clients)?;
         Ok(Machine {
             setup,

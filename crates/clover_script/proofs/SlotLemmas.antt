@@ -1,20 +1,17 @@
 -- keys and their slots
 use Rattle.std.proofs.Common.{zero, suc, ◌≡◌, ◌<◌, ℕ, Bool, true, false, Option, Some, None, List, [], ◌∷◌, ◌++◌, length, cond, refl, sym, ap, inl, inr, ◌⊎◌, ◌∙◌, arith}
 use Rattle.std.specs.List.{slice_get, Contains}
+use Rattle.std.specs.Cmp.{Equal-is}
 use Rattle.std.specs.Ordering.{nat_cmp, is_eq, ordering_reverse}
 use Rattle.std.specs.declared.cmp.Ordering.{Ordering}
 use Rattle.std.specs.declared.cmp.Ordering.TheVariants.{Less, Equal, Greater}
 use Rattle.std.specs.Prelude.{IfSome, IfNone}
 use Rattle.std.proofs.lemmas.Bool.{false≢true}
+use Rattle.std.proofs.lemmas.Option.{slice_get_within}
 use Rattle.std.specs.Cmp.Lexicographic.{slice_cmp, nat_list_cmp_total}
 use Rattle.std.specs.BTreeMap.{is_at}
 use Rattle.std.proofs.lemmas.Map.Lookups.{exact_bytes}
 use Rattle.clover_script.specs.Slots.{slot_in, HasSlots}
-
-pub get_within : {A : Type 0} (xs : List A) (i : ℕ) (x : A) → slice_get xs i ≡ Some x → i < length xs
-get_within [] i x e = absurd (cc)
-get_within (y ∷ ys) zero x e = omega arith
-get_within (y ∷ ys) (suc i) x e = let h = get_within ys i x e in omega arith
 
 -- what a list contains stands at a place
 pub place_in : {A : Type 0} (xs : List A) (x : A) → Contains xs x → (i : ℕ) × (slice_get xs i ≡ Some x)
@@ -43,11 +40,6 @@ get_push [] x (suc i) y e = absurd (cc)
 get_push (z ∷ xs) x zero y e = inl e
 get_push (z ∷ xs) x (suc i) y e = elim (get_push xs x i y e) [ inl h ↦ inl h | inr h ↦ inr (ap suc h.0, h.1) ]
 
-is_equal : (r : Ordering) → is_eq r ≡ true → r ≡ Equal
-is_equal Less e = absurd (cc)
-is_equal Equal e = refl
-is_equal Greater e = absurd (cc)
-
 own_reverse : (r : Ordering) → r ≡ ordering_reverse r → is_eq r ≡ true
 own_reverse Less e = absurd (cc)
 own_reverse Equal e = refl
@@ -58,7 +50,7 @@ is_own : (k : List ℕ) → is_at (slice_cmp nat_cmp k) k ≡ true
 is_own k = own_reverse (slice_cmp nat_cmp k k) (nat_list_cmp_total.antisymm k k)
 
 one_key : (k q : List ℕ) → is_at (slice_cmp nat_cmp k) q ≡ true → k ≡ q
-one_key k q e = exact_bytes k q (is_equal (slice_cmp nat_cmp k q) e)
+one_key k q e = exact_bytes k q ((Equal-is (slice_cmp nat_cmp k q)).0 e)
 
 -- a slot that is in the entries with one key more
 slot_back : (b : Bool) (keys : List (List ℕ)) (es fs : List (List ℕ × ℕ)) (key k : List ℕ) (s : ℕ) → HasSlots keys es → is_at (slice_cmp nat_cmp key) k ≡ b
@@ -97,7 +89,7 @@ one_place keys es has i j k p q =
 
 pub found_within : (keys : List (List ℕ)) (es : List (List ℕ × ℕ)) (k : List ℕ) (o : Option ℕ) → HasSlots keys es → o ≡ slot_in es k → IfSome o (λ s. s < length keys)
 found_within keys es k None has is = tt
-found_within keys es k (Some s) has is = get_within keys s k ((has k s).0 (sym is))
+found_within keys es k (Some s) has is = slice_get_within keys s k ((has k s).0 (sym is))
 
 pub found_none : (keys : List (List ℕ)) (es : List (List ℕ × ℕ)) (k : List ℕ) (o : Option ℕ) → HasSlots keys es → o ≡ slot_in es k → IfNone o (Contains keys k → ⊥)
 found_none keys es k None has is = λ h.

@@ -1,8 +1,8 @@
 -- A walk that is made alone: what each of its accesses finds, and how many bring it to the tail.
 use Prim.Native.Nat.{zero, suc}
-use Rattle.std.proofs.Common.{◌≡◌, ℕ, ◌+◌, ◌*◌, ◌<◌, List, [], ◌∷◌, ◌++◌, length, Bool, true, false, cond, ltb, refl, sym, ap, ◌∙◌, arith, subst, eq-eqb}
-use Rattle.std.specs.Prelude.{Option, Some, None, slice_set}
-use Rattle.std.proofs.lemmas.Bool.Decides.{nat_tests}
+use Rattle.std.proofs.Common.{◌≡◌, ℕ, ◌+◌, ◌*◌, ◌<◌, List, [], ◌∷◌, ◌++◌, length, Bool, true, false, cond, eqb, refl, sym, ap, ◌∙◌, arith, subst, eq-eqb}
+use Rattle.std.specs.Prelude.{Option, Some, None, IfSome, slice_set}
+use Rattle.std.proofs.lemmas.Bool.{lt-ltb}
 use Rattle.std.proofs.lemmas.List.{set-get_or}
 use Rattle.clover_words.specs.declared.pool.Pool.{Pool}
 use Rattle.clover_words.specs.declared.word.Word.{Word}
@@ -15,14 +15,17 @@ use Rattle.clover_rule.specs.Content.{content, inside, words_from, Fits, InRange
 use Rattle.clover_rule.specs.Lists.{Each, nth}
 use Rattle.clover_rule.specs.Memory.{Mem, Next, word, gen, link, home, age}
 use Rattle.clover_rule.specs.Parts.{Walk}
-use Rattle.clover_rule.specs.Steps.{Step, LoadNext, RaiseNext, ReadRoot, word_of, side_of, becomes, found, words_after_step}
+use Rattle.clover_rule.specs.Steps.{Step, LoadNext, RaiseNext, ReadRoot, ReadShort, word_of, side_of, becomes, found, words_after_step}
 use Rattle.clover_rule.specs.Words.{next_of, buffer_at, content_at, mem_of}
-use Rattle.clover_rule.proofs.Keeping.{read_next, read_root}
+use Rattle.clover_rule.proofs.Keeping.{read_next, read_root, read_short}
+use Rattle.clover_rule.proofs.Spelling.{length_words}
+use Rattle.clover_rule.proofs.Standings.{word_is}
 use Rattle.clover_rule.proofs.Ties.{buffer_in, content_in, guard}
 use Rattle.clover_words.specs.Pack.{words_of}
-use Rattle.clover_walk.specs.Alone.{after_alone, alone, LeadsOver, HasVersion, raised_from, raised, version_words, ReachesAfter, TagLaw, RootLaw, RaisedLaw}
-use Rattle.clover_walk.specs.Walking.{Walking, Stand, AtRoot, AtTag, AtLink, OnTail, Ended, IsOnWay, budget, turned, hops, followed, rooted, next_start, begins, walk_step, goes_on}
+use Rattle.clover_walk.specs.Alone.{after_alone, alone, LeadsOver, HasVersion, raised_from, raised, version_words, Way, way_from_short, way_from, is_live, ReachesAfter, TagLaw, StartLaw, RaisedLaw}
+use Rattle.clover_walk.specs.Walking.{Walking, Stand, AtShort, AtRoot, AtTag, AtLink, OnTail, Ended, IsOnWay, budget, made_walk, turned, hops, followed, shortened, rooted, next_start, begins, step_at, walk_step, goes_on}
 use Rattle.clover_walk.specs.declared.start.Start.{Start}
+use Rattle.clover_walk.specs.declared.start.Start.TheVariants.{FromCursor, FromShort, FromRoot}
 
 -- one access of a call that runs alone
 pub one_alone : {S : Type 0} (p : Pool) (step : ℕ → S → Step) (on : S → ℕ → S) (n : ℕ) (ws : List ℕ) (c : S) (ws1 : List ℕ) (c1 : S) → words_after_step p (step 0 c) ws ≡ ws1 → on c (found p (step 0 c) ws) ≡ c1
@@ -32,9 +35,6 @@ one_alone p step on n ws c ws1 c1 e f = λ i. after_alone p (λ (j : ℕ). step 
 -- an access that leaves each number as it is leaves the words
 pub load_leaves : (p : Pool) (a : Step) (ws : List ℕ) → ((x : ℕ) → becomes a x ≡ x) → words_after_step p a ws ≡ ws
 load_leaves p a ws h = ap (λ (y : ℕ). slice_set ws (address_of p (word_of a) (side_of a)) y) (h (found p a ws)) ∙ set-get_or ws (address_of p (word_of a) (side_of a)) 0
-
-next_parts : (n : Next) (a : ℕ) (l : Option ℕ) → gen n ≡ a → link n ≡ l → n ≡ word a l
-next_parts (word b k) a l e f = λ i. word (e i) (f i)
 
 -- the last of these tags
 abbrev pub last_tag : ℕ → List ℕ → ℕ
@@ -61,7 +61,7 @@ module _ (p : Pool) (s : ℕ) where
 
   -- what a load of a tag's next word finds
   pub next_found : (t : ℕ) (l : Option ℕ) (ws : List ℕ) → InRange p t → gen ((mem_of p ws).next (home t)) ≡ age t → link ((mem_of p ws).next (home t)) ≡ l → next_of (copy_in p ws (NextOf (buffer_at (home t))) Current) ≡ word (age t) l
-  next_found t l ws r e f = sym (read_next p ws (home t) r.0) ∙ next_parts ((mem_of p ws).next (home t)) (age t) l e f
+  next_found t l ws r e f = sym (read_next p ws (home t) r.0) ∙ word_is ((mem_of p ws).next (home t)) (age t) l e f
 
   abbrev pub here : ℕ → Bool → Start → Stand → Walking
   here n b f at = record { pool = p; slot = s; turns = n; first = b; start = f; stand = at }
@@ -69,11 +69,8 @@ module _ (p : Pool) (s : ℕ) where
   follow_own : (w : Walking) (t : ℕ) (l : Option ℕ) → followed w t (word (age t) l) ≡ hops w t l
   follow_own w t l = ap (λ (b : Bool). cond b (hops w t l) (turned w (next_start w.start) (begins (next_start w.start)))) (eq-eqb (age t) (age t) refl)
 
-  below_test : (a b : ℕ) → a < b → ltb a b ≡ true
-  below_test a b h = grind (arith, nat_tests)
-
-  turn_below : (n : ℕ) (b : Bool) (f : Start) (at to : Stand) → suc n < budget p → turned (here n b f at) f to ≡ here (suc n) false f to
-  turn_below n b f at to h = ap (λ (c : Bool). here (suc n) false f (cond c to Ended)) (below_test (suc n) (budget p) h)
+  turn_below : (n : ℕ) (b : Bool) (f g : Start) (at to : Stand) → suc n < budget p → turned (here n b f at) g to ≡ here (suc n) false g to
+  turn_below n b f g at to h = ap (λ (c : Bool). here (suc n) false g (cond c to Ended)) (lt-ltb (suc n) (budget p) h)
 
   walk_one : (k : ℕ) (ws : List ℕ) (w : Walking) (ws1 : List ℕ) (w1 : Walking) → words_after_step p (walk_step w) ws ≡ ws1 → goes_on w (found p (walk_step w) ws) ≡ w1 → alone p (suc k) ws w ≡ alone p k ws1 w1
   walk_one k ws w ws1 w1 e h = one_alone p (λ (i : ℕ) (x : Walking). walk_step x) (λ (x : Walking) (y : ℕ). goes_on x y) k ws w ws1 w1 e h
@@ -83,10 +80,23 @@ module _ (p : Pool) (s : ℕ) where
     goes_tail t r w = ap (followed (here n b f (AtTag t)) t) (next_found t None ws r w.1 w.2) ∙ follow_own (here n b f (AtTag t)) t None
 
     goes_link : (t u : ℕ) (us : List ℕ) → InRange p t → Walk (mem_of p ws) (Some t) (t ∷ u ∷ us) → suc n < budget p → goes_on (here n b f (AtTag t)) (found p (LoadNext s t) ws) ≡ here (suc n) false f (AtLink t u)
-    goes_link t u us r w h = ap (followed (here n b f (AtTag t)) t) (next_found t (Some u) ws r w.1 w.2.0) ∙ follow_own (here n b f (AtTag t)) t (Some u) ∙ turn_below n b f (AtTag t) (AtLink t u) h
+    goes_link t u us r w h = ap (followed (here n b f (AtTag t)) t) (next_found t (Some u) ws r w.1 w.2.0) ∙ follow_own (here n b f (AtTag t)) t (Some u) ∙ turn_below n b f f (AtTag t) (AtLink t u) h
 
     goes_root : (t : ℕ) → s < p.slots → (mem_of p ws).root s ≡ Some t → goes_on (here n b f AtRoot) (found p (ReadRoot s) ws) ≡ here n false f (AtTag t)
     goes_root t h e = ap (rooted (here n b f AtRoot)) (sym (read_root p ws s h) ∙ e)
+
+    goes_short : (t : ℕ) → s < p.slots → (mem_of p ws).short s ≡ Some t → goes_on (here n b f AtShort) (found p (ReadShort s) ws) ≡ here n false f (AtTag t)
+    goes_short t h e = ap (shortened (here n b f AtShort)) (sym (read_short p ws s h) ∙ e)
+
+    goes_empty : s < p.slots → (mem_of p ws).short s ≡ None → goes_on (here n b f AtShort) (found p (ReadShort s) ws) ≡ here n false FromRoot AtRoot
+    goes_empty h e = ap (shortened (here n b f AtShort)) (sym (read_short p ws s h) ∙ e)
+
+    goes_stale : (t : ℕ) → InRange p t → is_live (mem_of p ws) t ≡ false → suc n < budget p → goes_on (here n b f (AtTag t)) (found p (LoadNext s t) ws) ≡ here (suc n) false (next_start f) (begins (next_start f))
+    goes_stale t r e h =
+        let x : ℕ = copy_in p ws (NextOf (buffer_at (home t))) Current in
+        let q : eqb (gen (next_of x)) (age t) ≡ false = subst (λ (y : Next). eqb (gen y) (age t) ≡ false) (read_next p ws (home t) r.0) e in
+        ap (λ (c : Bool). cond c (hops (here n b f (AtTag t)) t (link (next_of x))) (turned (here n b f (AtTag t)) (next_start f) (begins (next_start f)))) q
+        ∙ turn_below n b f (next_start f) (AtTag t) (begins (next_start f)) h
 
     one_link : (k t u : ℕ) (us : List ℕ) → InRange p t → Walk (mem_of p ws) (Some t) (t ∷ u ∷ us) → suc n < budget p
         → alone p (suc (suc k)) ws (here n b f (AtTag t)) ≡ alone p k (words_after_step p (RaiseNext (record { slot = s; from = t; to = u })) ws) (here (suc n) false f (AtTag u))
@@ -119,7 +129,7 @@ module _ (p : Pool) (s : ℕ) where
   raised_leaves t [] ws r v h = refl
   raised_leaves t (u ∷ us) ws r v h = raised_leaves u us _ r.1 v h ∙ raise_leaves t u ws r.0 v h
 
-  from_tag : (ws : List ℕ) (n : ℕ) (b : Bool) (f : Start) (t : ℕ) (ts : List ℕ) (u : ℕ) → LeadsOver p ws (Some t) ts u → n + length ts < budget p → ReachesAfter (2 * length ts + 1) ws (here n b f (AtTag t)) ts u
+  from_tag : (ws : List ℕ) (n : ℕ) (b : Bool) (f : Start) (t : ℕ) (ts : List ℕ) (u : ℕ) → LeadsOver p ws (Some t) ts u → n + length ts < budget p → ReachesAfter (2 * length ts + 1) ws (here n b f (AtTag t)) (length ts) f ts u
   from_tag ws n b f t ts u l h =
       let q = split_first ts u in
       let w = subst (Walk (mem_of p ws) (Some t)) q.2 l.walk in
@@ -136,29 +146,110 @@ module _ (p : Pool) (s : ℕ) where
         words = ap (λ (x : List ℕ × Walking). x.0) path ∙ ap (λ (x : List ℕ). raised p s x ws) (sym q.2);
       }
 
-  from_root : (ws : List ℕ) (n : ℕ) (b : Bool) (f : Start) (ts : List ℕ) (u : ℕ) → s < p.slots → LeadsOver p ws ((mem_of p ws).root s) ts u → n + length ts < budget p → ReachesAfter (2 * length ts + 2) ws (here n b f AtRoot) ts u
+  -- an access before the others that leaves the words
+  one_more : (ws : List ℕ) (n n1 : ℕ) (b : Bool) (f f1 f2 : Start) (at at1 : Stand) (k d d1 : ℕ) (ts : List ℕ) (u : ℕ) → IsOnWay at → words_after_step p (step_at s at) ws ≡ ws → goes_on (here n b f at) (found p (step_at s at) ws) ≡ here n1 false f1 at1 → n1 + d1 ≡ n + d
+      → ReachesAfter k ws (here n1 false f1 at1) d1 f2 ts u → ReachesAfter (suc k) ws (here n b f at) d f2 ts u
+  one_more ws n n1 b f f1 f2 at at1 k d d1 ts u on same goes count r =
+      let first : (j : ℕ) → alone p (suc j) ws (here n b f at) ≡ alone p j ws (here n1 false f1 at1) = (λ j. walk_one j ws (here n b f at) ws (here n1 false f1 at1) same goes) in
+      record {
+        before = early first;
+        there = ap (λ (x : List ℕ × Walking). x.1) (first k) ∙ r.there ∙ ap (λ (j : ℕ). here j false f2 (OnTail u)) count;
+        words = ap (λ (x : List ℕ × Walking). x.0) (first k) ∙ r.words;
+      }
+    where
+      early : ((j : ℕ) → alone p (suc j) ws (here n b f at) ≡ alone p j ws (here n1 false f1 at1)) → (j : ℕ) → j < suc k → IsOnWay (alone p j ws (here n b f at)).1.stand
+      early first zero lt = on
+      early first (suc j) lt = subst (λ (x : List ℕ × Walking). IsOnWay x.1.stand) (sym (first j)) (r.before j (omega arith))
+
+  -- from the root
+  from_root : (ws : List ℕ) (n : ℕ) (b : Bool) (f : Start) (ts : List ℕ) (u : ℕ) → s < p.slots → LeadsOver p ws ((mem_of p ws).root s) ts u → n + length ts < budget p → ReachesAfter (suc (2 * length ts + 1)) ws (here n b f AtRoot) (length ts) f ts u
   from_root ws n b f ts u low l h =
       let q = split_first ts u in
       let e : (mem_of p ws).root s ≡ Some q.0 = (subst (Walk (mem_of p ws) ((mem_of p ws).root s)) q.2 l.walk).0 in
       let a = from_tag ws n false f q.0 ts u (record { walk = subst (λ (o : Option ℕ). Walk (mem_of p ws) o (ts ++ u ∷ [])) e l.walk; range = l.range }) h in
-      let first : (k : ℕ) → alone p (suc k) ws (here n b f AtRoot) ≡ alone p k ws (here n false f (AtTag q.0)) =
-      (λ k. walk_one k ws (here n b f AtRoot) ws (here n false f (AtTag q.0)) (load_leaves p (ReadRoot s) ws (λ x. refl)) (goes_root ws n b f q.0 low e)) in
-      let path = ap (λ (y : ℕ). alone p y ws (here n b f AtRoot)) (let z : 2 * length ts + 2 ≡ suc (2 * length ts + 1) = omega arith in z) ∙ first (2 * length ts + 1) in
-      record {
-        before = early first a;
-        there = ap (λ (x : List ℕ × Walking). x.1) path ∙ a.there;
-        words = ap (λ (x : List ℕ × Walking). x.0) path ∙ a.words;
-      }
+      one_more ws n n b f f f AtRoot (AtTag q.0) (2 * length ts + 1) (length ts) (length ts) ts u tt (load_leaves p (ReadRoot s) ws (λ x. refl)) (goes_root ws n b f q.0 low e) refl a
+
+  -- from a tag that is stale, by the start that comes after it
+  from_stale : (ws : List ℕ) (n : ℕ) (b : Bool) (f f2 : Start) (t k d : ℕ) (ts : List ℕ) (u : ℕ) → InRange p t → is_live (mem_of p ws) t ≡ false → suc n < budget p
+      → ReachesAfter k ws (here (suc n) false (next_start f) (begins (next_start f))) d f2 ts u → ReachesAfter (suc k) ws (here n b f (AtTag t)) (suc d) f2 ts u
+  from_stale ws n b f f2 t k d ts u r e h a =
+      one_more ws n (suc n) b f (next_start f) f2 (AtTag t) (begins (next_start f)) k (suc d) d ts u tt (load_leaves p (LoadNext s t) ws (λ x. refl)) (goes_stale ws n b f t r e h) (let q : suc n + d ≡ n + suc d = omega arith in q) a
+
+  -- the way from a shortcut that is empty, live or stale
+  way_empty : (m : Mem) → m.short s ≡ None → way_from_short m s ≡ record { loads = 2; stale = 0; start = FromRoot; from = m.root s }
+  way_empty m e = rw e refl
+
+  way_live : (m : Mem) (t : ℕ) → m.short s ≡ Some t → is_live m t ≡ true → way_from_short m s ≡ record { loads = 1; stale = 0; start = FromShort; from = Some t }
+  way_live m t e h = rw (e, h) refl
+
+  way_stale : (m : Mem) (t : ℕ) → m.short s ≡ Some t → is_live m t ≡ false → way_from_short m s ≡ record { loads = 3; stale = 1; start = FromRoot; from = m.root s }
+  way_stale m t e h = rw (e, h) refl
+
+  -- a walk that begins there makes the loads and the turns of the way y besides those from its tag
+  abbrev Comes : List ℕ → ℕ → Bool → Start → Stand → List ℕ → ℕ → Way → Type 0
+  Comes ws n b f at ts u y = LeadsOver p ws y.from ts u → n + y.stale + length ts < budget p → ReachesAfter (y.loads + (2 * length ts + 1)) ws (here n b f at) (y.stale + length ts) y.start ts u
+
+  -- from the shortcut
+  from_short : (ws : List ℕ) (n : ℕ) (b : Bool) (ts : List ℕ) (u : ℕ) → s < p.slots → IfSome ((mem_of p ws).short s) (InRange p) → Comes ws n b FromShort AtShort ts u (way_from_short (mem_of p ws) s)
+  from_short ws n b ts u low r = at ((mem_of p ws).short s) refl r
     where
-      early : {t : ℕ} → ((k : ℕ) → alone p (suc k) ws (here n b f AtRoot) ≡ alone p k ws (here n false f (AtTag t))) → ReachesAfter (2 * length ts + 1) ws (here n false f (AtTag t)) ts u → (k : ℕ) → k < 2 * length ts + 2 → IsOnWay (alone p k ws (here n b f AtRoot)).1.stand
-      early first a zero lt = tt
-      early first a (suc k) lt = subst (λ (x : List ℕ × Walking). IsOnWay x.1.stand) (sym (first k)) (a.before k (omega arith))
+      same : words_after_step p (ReadShort s) ws ≡ ws
+      same = load_leaves p (ReadShort s) ws (λ x. refl)
+
+      of_tag : (t : ℕ) → (mem_of p ws).short s ≡ Some t → InRange p t → (c : Bool) → is_live (mem_of p ws) t ≡ c → Comes ws n b FromShort AtShort ts u (way_from_short (mem_of p ws) s)
+      of_tag t e r true live = subst (Comes ws n b FromShort AtShort ts u) (sym (way_live (mem_of p ws) t e live)) (λ l h.
+          let k : n + length ts < budget p = omega arith in
+          subst (λ (j : ℕ). ReachesAfter j ws (here n b FromShort AtShort) (0 + length ts) FromShort ts u) (let q : suc (2 * length ts + 1) ≡ 1 + (2 * length ts + 1) = omega arith in q)
+          (one_more ws n n b FromShort FromShort FromShort AtShort (AtTag t) (2 * length ts + 1) (0 + length ts) (length ts) ts u tt same (goes_short ws n b FromShort t low e) (let q : n + length ts ≡ n + (0 + length ts) = omega arith in q) (from_tag ws n false FromShort t ts u l k)))
+      of_tag t e r false live = subst (Comes ws n b FromShort AtShort ts u) (sym (way_stale (mem_of p ws) t e live)) (λ l h.
+          let k : suc n + length ts < budget p = omega arith in
+          let root = from_root ws (suc n) false FromRoot ts u low l k in
+          let stale = from_stale ws n false FromShort FromRoot t (suc (2 * length ts + 1)) (length ts) ts u r live (omega arith) root in
+          subst (λ (j : ℕ). ReachesAfter j ws (here n b FromShort AtShort) (1 + length ts) FromRoot ts u) (let q : suc (suc (suc (2 * length ts + 1))) ≡ 3 + (2 * length ts + 1) = omega arith in q)
+          (one_more ws n n b FromShort FromShort FromRoot AtShort (AtTag t) (suc (suc (2 * length ts + 1))) (1 + length ts) (suc (length ts)) ts u tt same (goes_short ws n b FromShort t low e) (let q : n + suc (length ts) ≡ n + (1 + length ts) = omega arith in q) stale))
+
+      at : (o : Option ℕ) → (mem_of p ws).short s ≡ o → IfSome o (InRange p) → Comes ws n b FromShort AtShort ts u (way_from_short (mem_of p ws) s)
+      at None e r = subst (Comes ws n b FromShort AtShort ts u) (sym (way_empty (mem_of p ws) e)) (λ l h.
+          let k : n + length ts < budget p = omega arith in
+          let root = from_root ws n false FromRoot ts u low l k in
+          subst (λ (j : ℕ). ReachesAfter j ws (here n b FromShort AtShort) (0 + length ts) FromRoot ts u) (let q : suc (suc (2 * length ts + 1)) ≡ 2 + (2 * length ts + 1) = omega arith in q)
+          (one_more ws n n b FromShort FromRoot FromRoot AtShort AtRoot (suc (2 * length ts + 1)) (0 + length ts) (length ts) ts u tt same (goes_empty ws n b FromShort low e) (let q : n + length ts ≡ n + (0 + length ts) = omega arith in q) root))
+      at (Some t) e r = of_tag t e r (is_live (mem_of p ws) t) refl
+
+  -- from a cursor, or without one
+  from_start : (ws : List ℕ) (n : ℕ) (b : Bool) (ts : List ℕ) (u : ℕ) → s < p.slots → IfSome ((mem_of p ws).short s) (InRange p) → (known : Option ℕ) → IfSome known (InRange p) → Comes ws n b (made_walk p s known).start (made_walk p s known).stand ts u (way_from (mem_of p ws) s known)
+  from_start ws n b ts u low r None i = from_short ws n b ts u low r
+  from_start ws n b ts u low r (Some t) i = at (is_live (mem_of p ws) t) refl
+    where
+      short : Way
+      short = way_from_short (mem_of p ws) s
+
+      straight : Way
+      straight = record { loads = 0; stale = 0; start = FromCursor; from = Some t }
+
+      round : Way
+      round = record { loads = suc short.loads; stale = suc short.stale; start = short.start; from = short.from }
+
+      at : (c : Bool) → is_live (mem_of p ws) t ≡ c → Comes ws n b FromCursor (AtTag t) ts u (way_from (mem_of p ws) s (Some t))
+      at true live = subst (Comes ws n b FromCursor (AtTag t) ts u) (sym (ap (λ (c : Bool). cond c straight round) live)) (λ l h.
+          let a = from_tag ws n b FromCursor t ts u l (omega arith) in
+          subst (λ (j : ℕ). ReachesAfter j ws (here n b FromCursor (AtTag t)) (0 + length ts) FromCursor ts u) (let q : 2 * length ts + 1 ≡ 0 + (2 * length ts + 1) = omega arith in q)
+          (subst (λ (j : ℕ). ReachesAfter (2 * length ts + 1) ws (here n b FromCursor (AtTag t)) j FromCursor ts u) (let q : length ts ≡ 0 + length ts = omega arith in q) a))
+      at false live = subst (Comes ws n b FromCursor (AtTag t) ts u) (sym (ap (λ (c : Bool). cond c straight round) live)) (λ l h.
+          let a = from_short ws (suc n) false ts u low r l (omega arith) in
+          let z = from_stale ws n b FromCursor short.start t (short.loads + (2 * length ts + 1)) (short.stale + length ts) ts u i live (omega arith) a in
+          subst (λ (j : ℕ). ReachesAfter j ws (here n b FromCursor (AtTag t)) (suc short.stale + length ts) short.start ts u) (let q : suc (short.loads + (2 * length ts + 1)) ≡ suc short.loads + (2 * length ts + 1) = omega arith in q)
+          (subst (λ (j : ℕ). ReachesAfter (suc (short.loads + (2 * length ts + 1))) ws (here n b FromCursor (AtTag t)) j short.start ts u) (let q : suc (short.stale + length ts) ≡ suc short.stale + length ts = omega arith in q) z))
 
 pub tag_law : TagLaw
-tag_law ws w t ts u e l h = subst (λ (x : Walking). ReachesAfter (2 * length ts + 1) ws x ts u) (sym (ap (λ (at : Stand). record w { stand = at }) e)) (from_tag w.pool w.slot ws w.turns w.first w.start t ts u l h)
+tag_law ws w t ts u e l h = subst (λ (x : Walking). ReachesAfter (2 * length ts + 1) ws x (length ts) w.start ts u) (sym (ap (λ (at : Stand). record w { stand = at }) e)) (from_tag w.pool w.slot ws w.turns w.first w.start t ts u l h)
 
-pub root_law : RootLaw
-root_law ws w ts u e low l h = subst (λ (x : Walking). ReachesAfter (2 * length ts + 2) ws x ts u) (sym (ap (λ (at : Stand). record w { stand = at }) e)) (from_root w.pool w.slot ws w.turns w.first w.start ts u low l h)
+pub start_law : StartLaw
+start_law ws w known y ts u h =
+    let p : Pool = w.pool in
+    let comes = subst (Comes p w.slot ws w.turns w.first (made_walk p w.slot known).start (made_walk p w.slot known).stand ts u) (sym h.way) (from_start p w.slot ws w.turns w.first ts u h.slot h.short known h.cursor) in
+    subst (λ (x : Walking). ReachesAfter (y.loads + 2 * length ts + 1) ws x (y.stale + length ts) y.start ts u) (λ i. record w { start = sym h.start i; stand = sym h.stand i })
+    (subst (λ (j : ℕ). ReachesAfter j ws (record w { start = (made_walk p w.slot known).start; stand = (made_walk p w.slot known).stand }) (y.stale + length ts) y.start ts u) (let q : y.loads + (2 * length ts + 1) ≡ y.loads + 2 * length ts + 1 = omega arith in q) (comes h.leads h.below))
 
 pub raised_law : RaisedLaw
 raised_law p s [] ws r v h = refl
@@ -189,10 +280,6 @@ raised_version p s ts ws t o r i h = record {
 pub last_range : (p : Pool) (ts : List ℕ) (u : ℕ) → Each (InRange p) (ts ++ u ∷ []) → InRange p u
 last_range p [] u r = r.0
 last_range p (t ∷ ts) u r = last_range p ts u r.1
-
-length_words : (bytes : List ℕ) (k n : ℕ) → length (words_from bytes k n) ≡ n
-length_words bytes k zero = refl
-length_words bytes k (suc n) = ap suc (length_words bytes (suc k) n)
 
 pub content_words : (o : Option Value) → length (content o) ≡ version_words o
 unfolding content

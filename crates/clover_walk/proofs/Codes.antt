@@ -2,9 +2,9 @@
 use Rattle.std.proofs.Common.{◌≡◌, ◌≢◌, ℕ, ◌+◌, Bool, cond, refl, sym, ap, ◌∙◌, arith, eq-eqb, ne_eqb}
 use Rattle.std.specs.Prelude.{Option, Some, None}
 use Rattle.clover_words.specs.declared.pool.Pool.{Pool}
-use Rattle.clover_words.specs.declared.word.Word.TheVariants.{Root}
+use Rattle.clover_words.specs.declared.word.Word.TheVariants.{Root, Short}
 use Rattle.clover_words.specs.Tag.{TagParts, IsTag, tag_number}
-use Rattle.clover_words.specs.Next.{NextParts, IsNext, next_word, root_word}
+use Rattle.clover_words.specs.Next.{NextParts, IsLink, IsNext, next_word, root_word}
 use Rattle.clover_rule.specs.Memory.{Next, word, age}
 use Rattle.clover_rule.specs.Steps.{unlinked, turn_at}
 use Rattle.clover_rule.specs.Told.{IsShown}
@@ -45,6 +45,14 @@ pub follow_stale : (w : Walking) (t : TagParts) (n : NextParts) (x : ℕ) → Is
 follow_stale w t n x ht h e q =
     read_next w (tag_number t) x n h e
     ∙ ap (λ (b : Bool). cond b (hops w (tag_number t) (tag_option n.link)) (turned w (next_start w.start) (begins (next_start w.start)))) (ne_eqb n.own (age (tag_number t)) (λ z. q (z ∙ age_tag t ht)))
+
+-- a shortcut decodes to its tag or to none
+pub short_tag : (p : Pool) (s x : ℕ) → IsShown p (Short s) x → (o : Option TagParts) × IsLink o × (root_word o ≡ x) × (number_of o ≡ root_of x)
+short_tag p s x h = go (root_of x) refl
+  where
+    go : (n : Option ℕ) → root_of x ≡ n → (o : Option TagParts) × IsLink o × (root_word o ≡ x) × (number_of o ≡ root_of x)
+    go None e = (None, tt, ap root_code (sym e) ∙ h.0, sym e)
+    go (Some t) e = (Some (tag_parts t), range_tag p t (h.1 t e), ap (λ (z : ℕ). 4398046511104 + z) (parts_again t) ∙ ap root_code (sym e) ∙ h.0, ap Some (parts_again t) ∙ sym e)
 
 -- a root that leads to a tag decodes to it
 pub root_tag : (p : Pool) (s x t : ℕ) → IsShown p (Root s) x → root_of x ≡ Some t → (u : TagParts) × IsTag u × (root_word (Some u) ≡ x) × (tag_number u ≡ t)

@@ -53,6 +53,7 @@ pub record Keeps (v w : View) : Type 0 where
 abbrev pub IsPlain : Step → ℕ → Type 0
 IsPlain (LoadNext s t) x = Unit {0}
 IsPlain (RaiseNext l) x = Unit {0}
+IsPlain (ReadShort s) x = Unit {0}
 IsPlain (ReadRoot s) x = Unit {0}
 IsPlain (DecideNext s t c r) x = x ≢ unlinked t
 IsPlain (LinkNext s u t c) x = x ≢ unlinked u
@@ -107,12 +108,12 @@ learned_keeps : (a : Step) (h : List Entry) (v : View) (x : ℕ) → IsPlain a x
 learned_keeps (LoadNext s t) h v x p = seen_keeps s t v (next_of x)
 learned_keeps (RaiseNext l) h v x p = record { stock = refl; written = refl; flushed = refl; copied = refl; calls = refl; history = refl; durable = λ q i. inr i; links = λ k i. i }
 learned_keeps (ReadRoot s) h v x p = started_keeps s v (root_of x)
+learned_keeps (ReadShort s) h v x p = started_keeps s v (root_of x)
 learned_keeps (DecideNext s t c r) h v x p = keeps_second (x == unlinked t) v _ _ (ne_eqb x (unlinked t) p) (seen_keeps s t v (next_of x))
 learned_keeps (LinkNext s u t c) h v x p = keeps_second (x == unlinked u) v _ _ (ne_eqb x (unlinked u) p) (seen_keeps s u v (next_of x))
 learned_keeps (StoreContent t j y) h v x p = absurd p
 learned_keeps (FlushContent t j y) h v x p = absurd p
 learned_keeps (LoadContent s t j) h v x p = absurd p
-learned_keeps (ReadShort s) h v x p = absurd p
 learned_keeps (StoreShort s t) h v x p = absurd p
 learned_keeps ReadCount h v x p = absurd p
 learned_keeps (AbsentCount c) h v x p = absurd p

@@ -5,7 +5,7 @@ use Rattle.clover_words.specs.Tag.{tag_number}
 use Rattle.clover_rule.specs.Lists.{Within}
 use Rattle.clover_rule.specs.Steps.{IsClient}
 use Rattle.clover_rule.specs.declared.view.View.{View}
-use Rattle.clover_walk.specs.Walking.{Walking, Stand, AtRoot, AtTag, AtLink, OnTail, Ended, IsOnWay, StandsOn, Holds, placed, turned, budget, key_at}
+use Rattle.clover_walk.specs.Walking.{Walking, Stand, AtShort, AtRoot, AtTag, AtLink, OnTail, Ended, IsOnWay, StandsOn, Holds, placed, turned, budget, key_at}
 use Rattle.clover_walk.specs.Turning.{Answers, OnAhead, OnGoing, IfBehind}
 use Rattle.clover_walk.specs.declared.turn.Turn.{Turn}
 use Rattle.clover_walk.specs.declared.turn.Turn.TheVariants.{More, AtTail, Behind, Unreached}
@@ -26,6 +26,7 @@ pub record Promises (w : Walking) (v : View) (n : Walking) (r : Turn) : Type 0 w
 
 -- a walk that stands on something has not ended
 pub not_ended : (s : ℕ) (at : Stand) (v : View) → StandsOn s at v → at ≢ Ended
+not_ended s AtShort v h e = absurd cc
 not_ended s AtRoot v h e = absurd cc
 not_ended s (AtTag t) v h e = absurd cc
 not_ended s (AtLink t u) v h e = absurd cc
@@ -33,6 +34,7 @@ not_ended s (OnTail t) v h e = absurd cc
 not_ended s Ended v h e = h
 
 not_tail : (at : Stand) (t : ℕ) → IsOnWay at → at ≢ OnTail t
+not_tail AtShort t h e = absurd cc
 not_tail AtRoot t h e = absurd cc
 not_tail (AtTag u) t h e = absurd cc
 not_tail (AtLink u x) t h e = absurd cc

@@ -6,12 +6,12 @@ use Rattle.clover_rule.specs.Memory.{Next, word, age}
 use Rattle.clover_rule.specs.Steps.{unlinked, turn_at}
 use Rattle.clover_rule.specs.Words.{next_of}
 use Rattle.clover_rule.specs.declared.view.View.{View}
-use Rattle.clover_walk.specs.Walking.{Walking, AtRoot, AtLink, OnTail, Ended, Shows, placed, turned, hops, followed, next_start, begins, budget}
+use Rattle.clover_walk.specs.Walking.{Walking, AtShort, AtRoot, AtLink, OnTail, Ended, Shows, placed, turned, hops, followed, next_start, begins, budget}
 use Rattle.clover_walk.specs.Turning.{Answers}
 use Rattle.clover_walk.specs.declared.turn.Turn.{Turn}
 use Rattle.clover_walk.specs.declared.turn.Turn.TheVariants.{More, AtTail, Behind, Unreached}
 use Rattle.clover_walk.specs.declared.start.Start.{Start}
-use Rattle.clover_walk.specs.declared.start.Start.TheVariants.{FromCursor, FromRoot}
+use Rattle.clover_walk.specs.declared.start.Start.TheVariants.{FromCursor, FromShort, FromRoot}
 use Rattle.clover_walk.proofs.Codes.{no_turn, one_turn, unlinked_says}
 use Rattle.clover_walk.proofs.Promises.{Knows, Promises, placed_promises, turned_promises}
 
@@ -20,7 +20,8 @@ shows_knows w t v x s = record { pool = s.pool; client = s.client; named = s.nam
 
 -- every start is on the way, and stands on nothing
 start_promises : (w : Walking) (v : View) (f : Start) (r : Turn) → Knows w v → v.pass.turns ≡ suc w.turns → Answers (turned w (next_start f) (begins (next_start f))) r → Promises w v (turned w (next_start f) (begins (next_start f))) r
-start_promises w v FromCursor r k e a = turned_promises w v FromRoot AtRoot r k tt tt e a
+start_promises w v FromCursor r k e a = turned_promises w v FromShort AtShort r k tt tt e a
+start_promises w v FromShort r k e a = turned_promises w v FromRoot AtRoot r k tt tt e a
 start_promises w v FromRoot r k e a = turned_promises w v FromRoot AtRoot r k tt tt e a
 
 module _ (w : Walking) (t : ℕ) (v : View) (x : ℕ) (s : Shows w t v x) where
@@ -60,7 +61,8 @@ module _ (w : Walking) (t : ℕ) (v : View) (x : ℕ) (s : Shows w t v x) where
   tail_start f u q = never f (ltb (suc w.turns) (budget w.pool)) q
     where
       never : (g : Start) (b : Bool) → cond b (begins (next_start g)) Ended ≡ OnTail u → ⊥
-      never FromCursor true z = let y : AtRoot ≡ OnTail u = z in absurd cc
+      never FromCursor true z = let y : AtShort ≡ OnTail u = z in absurd cc
+      never FromShort true z = let y : AtRoot ≡ OnTail u = z in absurd cc
       never FromRoot true z = let y : AtRoot ≡ OnTail u = z in absurd cc
       never g false z = let y : Ended ≡ OnTail u = z in absurd cc
 

@@ -6,15 +6,16 @@ use Rattle.clover_words.specs.declared.word.Word.TheVariants.{Next as NextOf}
 use Rattle.clover_rule.specs.Content.{InRange}
 use Rattle.clover_rule.specs.Lists.{Within}
 use Rattle.clover_rule.specs.Memory.{Next, word, home, age}
-use Rattle.clover_rule.specs.Steps.{Step, ReadRoot, LoadNext, RaiseNext, IsClient, turn_at}
+use Rattle.clover_rule.specs.Steps.{Step, ReadShort, ReadRoot, LoadNext, RaiseNext, IsClient, turn_at}
 use Rattle.clover_rule.specs.Told.{IsShown}
 use Rattle.clover_rule.specs.Words.{next_of, root_of, buffer_at}
 use Rattle.clover_rule.specs.declared.view.View.{View}
 use Rattle.clover_walk.specs.declared.start.Start.{Start}
-use Rattle.clover_walk.specs.declared.start.Start.TheVariants.{FromCursor, FromRoot}
+use Rattle.clover_walk.specs.declared.start.Start.TheVariants.{FromCursor, FromShort, FromRoot}
 
--- where a walk stands: the slot's root or a tag's next word is to be loaded, the flushed copy of a link that was loaded is to be raised, the tail is reached, or the walk has ended before it
+-- where a walk stands: the slot's shortcut, its root or a tag's next word is to be loaded, the flushed copy of a link that was loaded is to be raised, the tail is reached, or the walk has ended before it
 pub data Stand : Type 0 where
+  AtShort : Stand
   AtRoot : Stand
   AtTag : ℕ → Stand
   AtLink : ℕ → ℕ → Stand
@@ -34,18 +35,20 @@ pub record Walking : Type 0 where
 abbrev pub budget : Pool → ℕ
 budget p = p.nodes * p.buffers + 2
 
--- where a walk stands that begins anew, and where it begins after this start was stale
+-- where a walk stands that begins anew, which none does at a cursor, and where it begins after this start was stale
 abbrev pub begins : Start → Stand
-begins FromCursor = AtRoot
+begins FromCursor = AtShort
+begins FromShort = AtShort
 begins FromRoot = AtRoot
 
 abbrev pub next_start : Start → Start
-next_start FromCursor = FromRoot
+next_start FromCursor = FromShort
+next_start FromShort = FromRoot
 next_start FromRoot = FromRoot
 
 -- the walk as it is made
 abbrev pub made_walk : Pool → ℕ → Option ℕ → Walking
-made_walk p s None = record { pool = p; slot = s; turns = 0; first = Bool.true; start = FromRoot; stand = AtRoot }
+made_walk p s None = record { pool = p; slot = s; turns = 0; first = Bool.true; start = FromShort; stand = AtShort }
 made_walk p s (Some t) = record { pool = p; slot = s; turns = 0; first = Bool.true; start = FromCursor; stand = AtTag t }
 
 -- the walk in a call that has made an access already
@@ -54,6 +57,7 @@ begun w = record w { first = false }
 
 -- it has more accesses to make
 abbrev pub IsOnWay : Stand → Type 0
+IsOnWay AtShort = Unit {0}
 IsOnWay AtRoot = Unit {0}
 IsOnWay (AtTag t) = Unit {0}
 IsOnWay (AtLink t u) = Unit {0}
@@ -62,6 +66,7 @@ IsOnWay Ended = ⊥
 
 -- the step that the next access is; a walk that has ended makes none
 abbrev pub step_at : ℕ → Stand → Step
+step_at s AtShort = ReadShort s
 step_at s AtRoot = ReadRoot s
 step_at s (AtTag t) = LoadNext s t
 step_at s (AtLink t u) = RaiseNext (record { slot = s; from = t; to = u })
@@ -88,6 +93,11 @@ hops w t (Some u) = turned w w.start (AtLink t u)
 abbrev pub followed : Walking → ℕ → Next → Walking
 followed w t (word a l) = cond (eqb a (age t)) (hops w t l) (turned w (next_start w.start) (begins (next_start w.start)))
 
+-- how a shortcut leads on: to its tag, or where it is empty to the root
+abbrev pub shortened : Walking → Option ℕ → Walking
+shortened w None = record w { first = false; start = FromRoot; stand = AtRoot }
+shortened w (Some t) = placed w (AtTag t)
+
 -- how a root leads on
 abbrev pub rooted : Walking → Option ℕ → Walking
 rooted w None = placed w AtRoot
@@ -95,6 +105,7 @@ rooted w (Some t) = placed w (AtTag t)
 
 -- how the walk goes on where its access found this number, or where the caller's own access found it at the tail
 abbrev pub goes_from : Stand → Walking → ℕ → Walking
+goes_from AtShort w x = shortened w (root_of x)
 goes_from AtRoot w x = rooted w (root_of x)
 goes_from (AtTag t) w x = followed w t (next_of x)
 goes_from (AtLink t u) w x = placed w (AtTag u)
@@ -111,6 +122,7 @@ key_at (q ∷ qs) s = cond (eqb q.0 s) q.1 (key_at qs s)
 
 -- what the view must hold where the walk stands
 abbrev pub StandsOn : ℕ → Stand → View → Type 0
+StandsOn s AtShort v = Unit {0}
 StandsOn s AtRoot v = Unit {0}
 StandsOn s (AtTag t) v = Within (s, t) v.pass.durable
 StandsOn s (AtLink t u) v = Within (record { slot = s; from = t; to = u }) v.pass.links
@@ -147,6 +159,7 @@ ShowsNext w v x = ShowsFrom w.stand w v x
 
 -- the tags are of the pool
 abbrev pub AreTags : Pool → Stand → Type 0
+AreTags p AtShort = Unit {0}
 AreTags p AtRoot = Unit {0}
 AreTags p (AtTag t) = InRange p t
 AreTags p (AtLink t u) = InRange p t × InRange p u

@@ -9,7 +9,7 @@ mod tail;
 mod turn;
 mod walk;
 
-pub use laws::{raised_law, root_law, tag_law};
+pub use laws::{raised_law, start_law, tag_law};
 pub use reach::{load_next, raise_next};
 pub use tail::{buffer_of, content_word, load_content, load_last};
 pub use turn::Turn;

@@ -1,7 +1,7 @@
 // One access of each kind that a walk makes. The caller names the step by M.
 ghost use Rattle.std.specs.Prelude.{◌≡◌, ◌≤◌, ℕ, IfOk, OnOk, OnErr};
 ghost use Rattle.clover_words.specs.Tag.{IsTag, tag_number};
-ghost use Rattle.clover_rule.specs.Steps.{ReadRoot, LoadNext, RaiseNext, Asks, linked};
+ghost use Rattle.clover_rule.specs.Steps.{ReadShort, ReadRoot, LoadNext, RaiseNext, Asks, linked};
 ghost use Rattle.clover_rule.specs.declared.step.Kind.TheVariants.{Start, Follow};
 ghost use Rattle.clover_words.specs.declared.word.Word.{Word};
 ghost use Rattle.clover_words.specs.declared.word.Word.TheVariants.{Next as NextOf};
@@ -20,6 +20,22 @@ fn next_word(tag: Tag) -> Word
         node: tag.node,
         index: tag.index,
     })
+}
+
+/// Loads the slot's shortcut.
+pub fn load_short<P: Port, M: StepName>(port: &mut P, first: bool, slot: u32) -> Result<u64, Failed>
+    requires name { (M.kind ≡ Start) × (M.first ≡ first) }
+    requires rule { Asks (P.pool port.old) (ReadShort slot) (P.view port.old) }
+    ensures made { IfOk result (λ x. Made (P.pool port.old) (ReadShort slot) first (P.view port.old) (P.told port.old) x (P.view port.new) (P.told port.new)) }
+    ensures failed { OnErr result (Rose (P.faults port.old) (P.faults port.new) × (P.view port.new ≡ P.view port.old) × (P.told port.new ≡ P.told port.old)) }
+    ensures same { (P.pool port.new ≡ P.pool port.old) × (P.table port.new ≡ P.table port.old) × (P.lender port.new ≡ P.lender port.old) }
+    ensures accessed { P.accessed port.old port.new }
+    ensures count { P.faults port.old ≤ P.faults port.new }
+    ensures kept { OnOk result (P.faults port.new ≡ P.faults port.old) }
+    ensures exact { Exact (P.refuses port.old) result }
+{
+    let _ = first;
+    load_as::<P, M>(port, Word::Short(slot))
 }
 
 /// Loads the slot's root.

@@ -10,6 +10,8 @@ use clover_words::Tag;
 pub enum Start {
     /// At the tag that the caller knew.
     FromCursor,
+    /// At the slot's shortcut.
+    FromShort,
     /// At the slot's root.
     FromRoot,
 }
@@ -17,6 +19,8 @@ pub enum Start {
 /// Where a walk stands.
 #[derive(Clone, Copy)]
 pub enum Stand {
+    /// The slot's shortcut is to be loaded.
+    AtShort,
     /// The slot's root is to be loaded.
     AtRoot,
     /// The tag's next word is to be loaded.
@@ -35,16 +39,18 @@ impl Start {
         ensures { result ≡ next_start self }
     {
         match self {
-            Start::FromCursor | Start::FromRoot => Start::FromRoot,
+            Start::FromCursor => Start::FromShort,
+            Start::FromShort | Start::FromRoot => Start::FromRoot,
         }
     }
 
-    /// Where a walk stands that begins anew so.
+    /// Where a walk stands that begins anew so. None does at a cursor.
     pub fn stand(self) -> Stand
         ensures { standing result ≡ begins self }
     {
         match self {
-            Start::FromCursor | Start::FromRoot => Stand::AtRoot,
+            Start::FromCursor | Start::FromShort => Stand::AtShort,
+            Start::FromRoot => Stand::AtRoot,
         }
     }
 }

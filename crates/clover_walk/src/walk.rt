@@ -7,14 +7,14 @@ ghost use Rattle.clover_rule.specs.Memory.{home};
 ghost use Rattle.clover_rule.specs.Steps.{LoadNext, unlinked};
 ghost use Rattle.clover_rule.specs.Told.{IsShown};
 ghost use Rattle.clover_rule.specs.Words.{next_of, root_of, buffer_at};
-ghost use Rattle.clover_words.specs.declared.word.Word.TheVariants.{Next as NextOf, Root as RootOf};
+ghost use Rattle.clover_words.specs.declared.word.Word.TheVariants.{Next as NextOf, Root as RootOf, Short as ShortOf};
 ghost use Rattle.clover_port.specs.Told.{Made, Rose};
-ghost use Rattle.clover_walk.specs.Walking.{AtTag, OnTail, IsOnWay, AreTags, Holds, ShowsNext, made_walk, begun, walk_step, goes_on, followed, hops, rooted, turned, placed, budget};
+ghost use Rattle.clover_walk.specs.Walking.{AtTag, OnTail, IsOnWay, AreTags, Holds, ShowsNext, made_walk, begun, walk_step, goes_on, followed, hops, shortened, rooted, turned, placed, budget};
 ghost use Rattle.clover_walk.specs.Standing.{standing, number_of};
 ghost use Rattle.clover_walk.specs.Turning.{Answers, OnReached, OnUnreached, OnAhead, OnGoing, IfAtTail, IfBehind, IsAtTail, ShowsTail, ExactTurn};
 ghost use Rattle.clover_walk.specs.declared.turn.Turn.TheVariants.{More};
 
-use crate::reach::{load_next, load_root, raise_next};
+use crate::reach::{load_next, load_root, load_short, raise_next};
 use crate::start::{Stand, Start};
 use crate::turn::Turn;
 use clover_port::Port;
@@ -23,11 +23,12 @@ use std::marker::{Brand, Model};
 
 /// A walk of one call along one slot's chain, to the chain's tail. It makes one access a step.
 ///
-/// It begins at the cursor, a tag that the actor knows to be durable in the slot, or else at the slot's root. At a
-/// tag it loads the next word. That word may show a link: then the walk raises the flushed copy to it, and goes on
-/// at the link's target. It may show no link: the tag is the tail. Or it may show another generation than the
-/// tag's: the tag has been passed, and the walk begins again, after a cursor at the root and after a root at the
-/// root again. Each link and each passed tag that it is shown is a turn.
+/// It begins at the cursor, a tag that the actor knows to be durable in the slot, or else at the tag in the slot's
+/// shortcut, or where that is empty at the slot's root. At a tag it loads the next word. That word may show a link:
+/// then the walk raises the flushed copy to it, and goes on at the link's target. It may show no link: the tag is the
+/// tail. Or it may show another generation than the tag's: the start is stale, the tag has been passed, and the walk
+/// begins again, after a cursor at the shortcut, after a shortcut at the root and after a root at the root again.
+/// Each link and each passed tag that it is shown is a turn.
 #[derive(Drop)]
 pub struct Walk {
     pool: Pool,
@@ -60,7 +61,7 @@ impl Walk {
     {
         let (start, stand) = match cursor {
             Some(tag) => (Start::FromCursor, Stand::AtTag(tag)),
-            None => (Start::FromRoot, Stand::AtRoot),
+            None => (Start::FromShort, Stand::AtShort),
         };
         Walk {
             pool,
@@ -124,6 +125,10 @@ impl Walk {
     {
         let stand = self.stand;
         match stand {
+            Stand::AtShort => match load_short::<P, Brand>(port, self.first, self.slot) {
+                Ok(word) => self.cut(word),
+                Err(_) => Turn::Unreached,
+            },
             Stand::AtRoot => match load_root::<P, Brand>(port, self.first, self.slot) {
                 Ok(word) => self.lead(word),
                 Err(_) => Turn::Unreached,
@@ -199,6 +204,22 @@ impl Walk {
         } else {
             self.stand = Stand::Ended;
             Turn::Behind { turns: self.turns }
+        }
+    }
+
+    // Goes on by a shortcut that was loaded: at its tag, or at the root where it is empty.
+    fn cut(&mut self, word: u64) -> Turn
+        requires number { IsShown self.old.pool (ShortOf self.old.slot) word }
+        ensures value { self.new ≡ shortened self.old (root_of word) }
+        ensures answer { Answers self.new result }
+    {
+        match root_decode(word) {
+            Some(Some(tag)) => self.place(Stand::AtTag(tag)),
+            Some(None) => {
+                self.start = Start::FromRoot;
+                self.place(Stand::AtRoot)
+            }
+            None => unreachable!(),
         }
     }
 

@@ -1,11 +1,12 @@
-// How a client begins a call: on the slot of its key, and one that writes with the next buffer of the client's stock.
-ghost use Rattle.std.specs.Prelude.{◌≡◌, ◌<◌, ◌≤◌, ◌*◌, length, None};
+// How a client begins a call: on the slot of its key, at a cursor where it has one, and one that writes with the next
+// buffer of the client's stock.
+ghost use Rattle.std.specs.Prelude.{◌≡◌, ◌<◌, ◌≤◌, ◌*◌, length, IfSome};
 ghost use Rattle.clover_words.specs.Preset.{HasDealt, dealt_number};
 ghost use Rattle.clover_words.specs.Tag.{tag_number};
 ghost use Rattle.clover_script.specs.Lines.{takes};
 ghost use Rattle.clover_rule.specs.Content.{InRange};
 ghost use Rattle.clover_plain.specs.Preset.{tag_at};
-ghost use Rattle.clover_walk.specs.Walking.{made_walk};
+ghost use Rattle.clover_walk.specs.Standing.{number_of};
 ghost use Rattle.clover_put.specs.Putting.{made_put};
 ghost use Rattle.clover_sched.specs.Beginning.{IsBegun};
 ghost use Rattle.clover_sched.specs.Client.{ExpectsTag, size_of};
@@ -35,42 +36,50 @@ fn own_tag(setup: &Setup, client: u32, put: u32) -> Tag
 }
 
 // A call that writes these bytes, as yet without an access.
-fn put_call(setup: &Setup, slot: u32, own: Tag, job: Job, flags: u32, bytes: &[u8]) -> PutCall
-    requires slot { slot < setup.now.pool.slots }
-    requires own { InRange setup.now.pool (tag_number own) }
-    requires fits { length bytes.now ≤ 8 * setup.now.pool.words }
-    ensures { result ≡ made_put (made_walk setup.now.pool slot None) job (tag_number own) (record { flags = flags; bytes = bytes.now }) }
+fn put_call(walk: Walk, own: Tag, job: Job, flags: u32, bytes: &[u8]) -> PutCall
+    requires own { InRange walk.pool (tag_number own) }
+    requires fits { length bytes.now ≤ 8 * walk.pool.words }
+    ensures { result ≡ made_put walk job (tag_number own) (record { flags = flags; bytes = bytes.now }) }
 {
-    let walk = Walk::make(setup.pool, slot, None);
     match PutCall::make(walk, job, own, flags, bytes) {
         Ok(call) => call,
         Err(_) => unreachable!(),
     }
 }
 
-/// What is under way once a client that has committed so many buffers was asked for a call.
-pub(super) fn under_for(setup: &Setup, slot: u32, client: u32, taken: u32, asked: Call) -> Underway
+/// What is under way once a client that has committed so many buffers was asked for a call on the slot's key, for which
+/// it has this cursor or none.
+pub(super) fn under_for(
+    setup: &Setup,
+    slot: u32,
+    cursor: Option<Tag>,
+    client: u32,
+    taken: u32,
+    asked: Call,
+) -> Underway
     requires slot { slot < setup.now.pool.slots }
+    requires cursor { IfSome cursor (λ tag. InRange setup.now.pool (tag_number tag)) }
     requires client { 1 ≤ client }
     requires fits { size_of asked ≤ 8 * setup.now.pool.words }
     requires expects { ExpectsTag asked }
     requires stock { takes asked ≡ 1 → HasDealt setup.now client taken }
-    ensures { IsBegun setup.now slot client taken asked result }
+    ensures { IsBegun setup.now slot (number_of cursor) client taken asked result }
 {
+    let walk = Walk::make(setup.pool, slot, cursor);
     match &asked {
         Call::Get { .. } => Underway::Get {
-            call: GetCall::make(Walk::make(setup.pool, slot, None)),
+            call: GetCall::make(walk),
             room: ValueBuf::new(),
             asked,
         },
         Call::Put { key: _, value } => {
             let own = own_tag(setup, client, taken);
-            let call = put_call(setup, slot, own, Job::Put, value.flags, value.bytes.items());
+            let call = put_call(walk, own, Job::Put, value.flags, value.bytes.items());
             Underway::Write { call, asked }
         }
         Call::Delete { .. } => {
             let own = own_tag(setup, client, taken);
-            let call = put_call(setup, slot, own, Job::Delete, 0, &[]);
+            let call = put_call(walk, own, Job::Delete, 0, &[]);
             Underway::Write { call, asked }
         }
         Call::Swap {
@@ -83,7 +92,7 @@ pub(super) fn under_for(setup: &Setup, slot: u32, client: u32, taken: u32, asked
                 Some(tag) => Job::Swap(tag),
                 None => unreachable!(),
             };
-            let call = put_call(setup, slot, own, job, value.flags, value.bytes.items());
+            let call = put_call(walk, own, job, value.flags, value.bytes.items());
             Underway::Write { call, asked }
         }
     }

@@ -4,9 +4,12 @@ ghost use Prim.Native.Nat.{suc};
 ghost use Rattle.clover_words.specs.declared.bytes.ValueBuf.{ValueBuf as Buf};
 ghost use Rattle.clover_words.specs.Tag.{tag_number};
 ghost use Rattle.clover_map.specs.declared.call.Call.{Call as Asked};
+ghost use Rattle.clover_rule.specs.Content.{InRange};
+ghost use Rattle.clover_rule.specs.Lists.{Within};
+ghost use Rattle.clover_cache.specs.Node.{Known, IsSet};
 ghost use Rattle.clover_plain.specs.Plain.{Accessed, HasRoom, Kept, KeptButEntries, history, open_of, view_at};
 ghost use Rattle.clover_walk.specs.Walking.{budget};
-ghost use Rattle.clover_get.specs.Answering.{OnReached, OnUnreached, OnGoing, OnOver, IfFound, IfAbsent, IfBehind, ExactGet};
+ghost use Rattle.clover_get.specs.Answering.{OnReached, OnUnreached, OnGoing, OnOver, IfFound, IfAbsent, IfAnswered, IfBehind, ExactGet};
 ghost use Rattle.clover_get.specs.Getting.{Getting, AtFound, Over, IsOpen, value_in};
 ghost use Rattle.clover_get.specs.Going.{OneAccess, FoundAt, AbsentAt};
 ghost use Rattle.clover_get.specs.Holding.{GetHolds};
@@ -96,6 +99,7 @@ fn access(
     ensures found { (i : ℕ) → suc i ≡ client → IfFound result (λ tag flags. FoundAt pool.old.setup.pool call.old (tag_number tag) (value_in flags room.new) (view_at pool.old i) (Some (open_of pool.old)) (view_at pool.new i) (Some (open_of pool.new))) }
     ensures at { IfFound result (λ tag flags. (call.old.stage ≡ AtFound (tag_number tag) flags) × (room.new ≡ room.old)) }
     ensures absent { (i : ℕ) → suc i ≡ client → IfAbsent result (λ tail. AbsentAt pool.old.setup.pool call.old (tag_number tail) (view_at pool.old i) (Some (open_of pool.old)) (view_at pool.new i) (Some (open_of pool.new))) }
+    ensures known { (i : ℕ) → suc i ≡ client → IfAnswered result (λ tag. InRange call.old.walk.pool (tag_number tag) × Within (call.old.walk.slot, tag_number tag) (view_at pool.new i).pass.durable) }
     ensures behind { (i : ℕ) → suc i ≡ client → IfBehind result (λ turns. (turns ≡ budget pool.old.setup.pool) × ((view_at pool.new i).pass.turns ≡ budget pool.old.setup.pool)) }
     ensures unreached { (i : ℕ) → suc i ≡ client → OnUnreached result (view_at pool.new i ≡ view_at pool.old i) }
     ensures stands { (i : ℕ) → suc i ≡ client → OnGoing result (GetHolds call.new (view_at pool.new i) room.new) }
@@ -140,21 +144,22 @@ impl ClientState {
             GetTurn::More => Ok(Note::Quiet),
             GetTurn::Found { tag, flags: _ } => {
                 let (entered, noted) = replies_of(tag, copies);
-                Ok(self.answer_get(pool, client, entered, noted))
+                Ok(self.answer_get(pool, client, tag, entered, noted))
             }
-            GetTurn::Absent { tail: _ } => {
-                Ok(self.answer_get(pool, client, Reply::Absent, Reply::Absent))
+            GetTurn::Absent { tail } => {
+                Ok(self.answer_get(pool, client, tail, Reply::Absent, Reply::Absent))
             }
             GetTurn::Behind { turns } => { Ok(self.give_up(client, CallRefusal::Behind { turns })) }
             GetTurn::Unreached => Ok(self.give_up(client, CallRefusal::Unreached)),
         }
     }
 
-    // Enters the entry of the get, and answers it.
+    // Enters the entry of the get, sets the slot's cursor to the tail at which it ended, and answers it.
     fn answer_get(
         &mut self,
         pool: &mut PlainPool,
         client: u32,
+        tail: Tag,
         entered: Reply,
         noted: Reply,
     ) -> Note
@@ -163,17 +168,18 @@ impl ClientState {
         requires opened { pool.old.opened ≡ true }
         requires room { 1 ≤ pool.old.entry_room }
         requires entry { (g : Getting) (room : Buf) (asked : Asked) → self.old.under ≡ IsGet g room asked → history pool.old ≡ pool.old.entries ++ record { client = client; number = self.old.number + 1; call = asked; reply = entered } ∷ [] }
-        ensures client { self.new ≡ record { under = IsNothing; refusing = self.old.refusing; taken = self.old.taken; number = self.old.number + 1 } }
+        ensures client { (g : Getting) (room : Buf) (asked : Asked) → self.old.under ≡ IsGet g room asked → (n : Known) × IsSet g.walk.slot tail self.old.cursors n × (self.new ≡ record self.old { under = IsNothing; number = self.old.number + 1; cursors = n }) }
         ensures entries { (g : Getting) (room : Buf) (asked : Asked) → self.old.under ≡ IsGet g room asked → pool.new.entries ≡ pool.old.entries ++ record { client = client; number = self.old.number + 1; call = asked; reply = entered } ∷ [] }
         ensures same { KeptButEntries pool.old pool.new }
         ensures answer { result ≡ IsAnswered client noted }
     {
         match std::mem::replace(&mut self.under, Underway::Nothing) {
             Underway::Get {
-                call: _,
+                call,
                 room: _,
                 asked,
             } => {
+                self.cursors.set(call.slot(), tail);
                 self.number += 1;
                 pool.enter(Entry {
                     client,
@@ -192,7 +198,7 @@ impl ClientState {
 
     // Ends the call without an answer.
     fn give_up(&mut self, client: u32, refusal: CallRefusal) -> Note
-        ensures client { self.new ≡ record { under = IsNothing; refusing = self.old.refusing; taken = self.old.taken; number = self.old.number } }
+        ensures client { self.new ≡ record self.old { under = IsNothing } }
         ensures answer { result ≡ IsRefused client refusal }
     {
         self.under = Underway::Nothing;

@@ -1,14 +1,17 @@
 // The steps of a call that writes: each is one access, before the exchange that links the call's version and behind
-// it. The exchange enters the call into the history, and the raise behind it answers.
+// it. The exchange enters the call into the history; the raise of its link and the store of the slot's shortcut follow,
+// and the latter answers.
 ghost use Prim.Native.Nat.{suc};
 ghost use Rattle.std.specs.Prelude.{◌≡◌, ◌≢◌, ◌<◌, ◌≤◌, ◌-◌, ◌+◌, ◌^◌, ◌++◌, ◌∷◌, [], ℕ, true, false, IfOk, OnErr};
 ghost use Rattle.clover_words.specs.Tag.{tag_number};
 ghost use Rattle.clover_map.specs.declared.call.Call.{Call as CallOf};
 ghost use Rattle.clover_rule.specs.Steps.{reply_of};
+ghost use Rattle.clover_cache.specs.Node.{Known, IsSet};
 ghost use Rattle.clover_plain.specs.Plain.{HasRoom, Kept, KeptButEntries, history, view_at};
 ghost use Rattle.clover_put.specs.Holding.{PutHolds};
 ghost use Rattle.clover_put.specs.Putting.{Putting, Over};
 ghost use Rattle.clover_sched.specs.declared.client.Underway.TheVariants.{Nothing as IsNothing, Write as IsWrite, Raise as IsRaise};
+ghost use Rattle.clover_sched.specs.declared.event.Note.TheVariants.{Answered as IsAnswered};
 ghost use Rattle.clover_sched.specs.Client.{Stands, Went};
 ghost use Rattle.clover_sched.specs.Run.{Opening};
 ghost use Rattle.clover_sched.specs.Writing.{IsWriting, IsCommitted, IsDecided, PutAccess, next_entry};
@@ -68,7 +71,7 @@ impl ClientState {
         requires writing { IsWriting self.old.under }
         requires stands { (o : Opening) × (i : ℕ) × (suc i ≡ client) × Stands o pool.old i self.old }
         requires room { HasRoom pool.old }
-        ensures { (call : Putting) (asked : CallOf) (o : Opening) (i : ℕ) → self.old.under ≡ IsWrite call asked → suc i ≡ client → Stands o pool.old i self.old → (after : Putting) × (self.new ≡ record { under = IsWrite after asked; refusing = false; taken = self.old.taken; number = self.old.number }) × PutAccess i self.old.refusing call after pool.old pool.new result }
+        ensures { (call : Putting) (asked : CallOf) (o : Opening) (i : ℕ) → self.old.under ≡ IsWrite call asked → suc i ≡ client → Stands o pool.old i self.old → (after : Putting) × (self.new ≡ record self.old { under = IsWrite after asked; refusing = false }) × PutAccess i self.old.refusing call after pool.old pool.new result }
     {
         let refuse = replace(&mut self.refusing, false);
         match &mut self.under {
@@ -77,12 +80,12 @@ impl ClientState {
         }
     }
 
-    // Makes the next access of the call that is to raise its link.
+    // Makes the next access of the call behind its exchange.
     fn raise_access(&mut self, pool: &mut PlainPool, client: u32) -> PutTurn
         requires committed { IsCommitted self.old.under }
         requires stands { (o : Opening) × (i : ℕ) × (suc i ≡ client) × Stands o pool.old i self.old }
         requires room { HasRoom pool.old }
-        ensures { (call : Putting) (o : Opening) (i : ℕ) → self.old.under ≡ IsRaise call → suc i ≡ client → Stands o pool.old i self.old → (after : Putting) × (self.new ≡ record { under = IsRaise after; refusing = false; taken = self.old.taken; number = self.old.number }) × PutAccess i self.old.refusing call after pool.old pool.new result }
+        ensures { (call : Putting) (o : Opening) (i : ℕ) → self.old.under ≡ IsRaise call → suc i ≡ client → Stands o pool.old i self.old → (after : Putting) × (self.new ≡ record self.old { under = IsRaise after; refusing = false }) × PutAccess i self.old.refusing call after pool.old pool.new result }
     {
         let refuse = replace(&mut self.refusing, false);
         match &mut self.under {
@@ -95,7 +98,7 @@ impl ClientState {
     fn commit(&mut self, pool: &mut PlainPool, client: u32, tag: Tag)
         requires decided { IsDecided self.old client (reply_of (tag_number tag)) pool.old }
         requires taken { self.old.taken < 2 ^ 32 - 1 }
-        ensures state { (call : Putting) (asked : CallOf) → self.old.under ≡ IsWrite call asked → self.new ≡ record { under = IsRaise call; refusing = self.old.refusing; taken = suc self.old.taken; number = suc self.old.number } }
+        ensures state { (call : Putting) (asked : CallOf) → self.old.under ≡ IsWrite call asked → self.new ≡ record self.old { under = IsRaise call; taken = suc self.old.taken; number = suc self.old.number } }
         ensures entered { (call : Putting) (asked : CallOf) → self.old.under ≡ IsWrite call asked → pool.new.entries ≡ pool.old.entries ++ next_entry client self.old.number asked (reply_of (tag_number tag) asked) ∷ [] }
         ensures kept { KeptButEntries pool.old pool.new }
     {
@@ -111,16 +114,18 @@ impl ClientState {
         }
     }
 
-    // The call that writes is answered without a commit: its entry is entered, and nothing is under way.
-    fn answer_write(&mut self, pool: &mut PlainPool, client: u32, reply: Reply)
+    // The call that writes is answered at this tail without a commit: its entry is entered, the slot's cursor is the
+    // tail, and nothing is under way.
+    fn answer_write(&mut self, pool: &mut PlainPool, client: u32, tail: Tag, reply: Reply)
         requires { IsDecided self.old client (λ (_ : CallOf). reply) pool.old }
-        ensures state { self.new ≡ record { under = IsNothing; refusing = self.old.refusing; taken = self.old.taken; number = suc self.old.number } }
+        ensures state { (call : Putting) (asked : CallOf) → self.old.under ≡ IsWrite call asked → (n : Known) × IsSet call.walk.slot tail self.old.cursors n × (self.new ≡ record self.old { under = IsNothing; number = suc self.old.number; cursors = n }) }
         ensures entered { (call : Putting) (asked : CallOf) → self.old.under ≡ IsWrite call asked → pool.new.entries ≡ pool.old.entries ++ next_entry client self.old.number asked reply ∷ [] }
         ensures kept { KeptButEntries pool.old pool.new }
     {
         match replace(&mut self.under, Underway::Nothing) {
-            Underway::Write { call: _, asked } => {
+            Underway::Write { call, asked } => {
                 pool.enter(entry(client, self.number, asked, reply));
+                self.cursors.set(call.slot(), tail);
                 self.number += 1;
             }
             _ => unreachable!(),
@@ -141,16 +146,16 @@ impl ClientState {
                 self.commit(pool, client, tag);
                 Note::Quiet
             }
-            PutTurn::Absent { .. } => {
-                self.answer_write(pool, client, Reply::Absent);
+            PutTurn::Absent { tail } => {
+                self.answer_write(pool, client, tail, Reply::Absent);
                 Note::Answered {
                     client,
                     reply: Reply::Absent,
                 }
             }
-            PutTurn::Differs { tag } => {
-                let tag = tag.number();
-                self.answer_write(pool, client, Reply::Differs { tag });
+            PutTurn::Differs { tag: tail } => {
+                let tag = tail.number();
+                self.answer_write(pool, client, tail, Reply::Differs { tag });
                 Note::Answered {
                     client,
                     reply: Reply::Differs { tag },
@@ -176,7 +181,20 @@ impl ClientState {
         }
     }
 
-    // The call that is to raise its link ends with its access as that tells.
+    // The call that has stored its shortcut is answered: the slot's cursor is its own tag, and nothing is under way.
+    fn answer_commit(&mut self, client: u32, tag: Tag, reply: Reply) -> Note
+        requires committed { IsCommitted self.old.under }
+        ensures state { (call : Putting) → self.old.under ≡ IsRaise call → (n : Known) × IsSet call.walk.slot tag self.old.cursors n × (self.new ≡ record self.old { under = IsNothing; cursors = n }) }
+        ensures answer { result ≡ IsAnswered client reply }
+    {
+        match replace(&mut self.under, Underway::Nothing) {
+            Underway::Raise { call } => self.cursors.set(call.slot(), tag),
+            _ => unreachable!(),
+        }
+        Note::Answered { client, reply }
+    }
+
+    // The call behind its exchange goes on after its access as that tells.
     fn raise(&mut self, pool: &mut PlainPool, client: u32) -> Note
         requires committed { IsCommitted self.old.under }
         requires stands { (o : Opening) × (i : ℕ) × (suc i ≡ client) × Stands o pool.old i self.old }
@@ -184,21 +202,23 @@ impl ClientState {
         requires made { pool.old.made < 2 ^ 64 - 1 }
         ensures { (o : Opening) (i : ℕ) → suc i ≡ client → Stands o pool.old i self.old → Went o i self.old self.new pool.old pool.new result }
     {
-        let turn = self.raise_access(pool, client);
-        self.under = Underway::Nothing;
-        match turn {
-            PutTurn::Stored { tag } => Note::Answered {
-                client,
-                reply: Reply::Stored { tag: tag.number() },
-            },
-            PutTurn::Deleted { tag } => Note::Answered {
-                client,
-                reply: Reply::Deleted { tag: tag.number() },
-            },
-            PutTurn::Linked { tag } => Note::Refused {
-                client,
-                refusal: CallRefusal::Linked { tag: tag.number() },
-            },
+        match self.raise_access(pool, client) {
+            PutTurn::More => Note::Quiet,
+            PutTurn::Stored { tag } => {
+                let reply = Reply::Stored { tag: tag.number() };
+                self.answer_commit(client, tag, reply)
+            }
+            PutTurn::Deleted { tag } => {
+                let reply = Reply::Deleted { tag: tag.number() };
+                self.answer_commit(client, tag, reply)
+            }
+            PutTurn::Linked { tag } => {
+                self.under = Underway::Nothing;
+                Note::Refused {
+                    client,
+                    refusal: CallRefusal::Linked { tag: tag.number() },
+                }
+            }
             _ => unreachable!(),
         }
     }

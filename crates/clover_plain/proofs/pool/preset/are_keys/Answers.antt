@@ -4,7 +4,8 @@ use mathlib.Core.Logic.{dite}
 use Rattle.std.proofs.Common.{ap, ◌∙◌, sym}
 use Rattle.clover_rule.specs.Content.{IsKey}
 use Rattle.clover_rule.specs.Lists.{nth}
-use Rattle.clover_plain.proofs.Keys.{key_there, key_below}
+use Rattle.clover_rule.proofs.Tools.{nth_within}
+use Rattle.clover_plain.proofs.Keys.{key_there}
 use Rattle.clover_plain.proofs.pool.preset.are_keys.Goals as goal
 
 pub loop-key-preserved : goal.loop-key-preserved
@@ -13,4 +14,4 @@ loop-key-preserved c = λ i k e h. dite (ℕ_discrete i c.loop-key.key-index)
     (λ n. c.loop-key.invariant i k e (omega arith))
 
 pub returns : goal.returns
-returns c = λ i k e. c.loop-key.invariant i k e (let z = key_below c.args.keys.now i k e in omega arith)
+returns c = λ i k e. c.loop-key.invariant i k e (let z = nth_within c.args.keys.now i k e in omega arith)

@@ -7,6 +7,7 @@ use Rattle.clover_map.specs.declared.call.Call.{Call}
 use Rattle.clover_map.specs.declared.call.Reply.{Reply}
 use Rattle.clover_map.specs.declared.call.Reply.TheVariants.{Found, Absent}
 use Rattle.clover_plain.specs.Plain.{Plain, Kept, history, open_of, view_at}
+use Rattle.clover_cache.specs.Node.{IsSet}
 use Rattle.clover_get.specs.declared.turn.GetTurn.{GetTurn}
 use Rattle.clover_get.specs.declared.turn.GetTurn.TheVariants.{Unreached as IsUnreached}
 use Rattle.clover_get.specs.Answering.{OnReached, ExactGet}
@@ -19,7 +20,8 @@ use Rattle.clover_sched.specs.declared.event.CallRefusal.TheVariants.{Unreached,
 use Rattle.clover_sched.specs.declared.event.Note.{Note}
 use Rattle.clover_sched.specs.declared.event.Note.TheVariants.{Quiet, Answered, Refused}
 use Rattle.clover_sched.specs.Client.{Went}
-use Rattle.clover_sched.proofs.Gets.{went_on, went_behind, went_unreached, went_answered, enters, at_rest, answered}
+use Rattle.clover_sched.proofs.Cursoring.{seen_dead}
+use Rattle.clover_sched.proofs.Gets.{went_on, went_behind, went_unreached, went_answered, slot_kept, enters, at_rest, answered}
 use Rattle.clover_sched.proofs.Stepping.{stands_kept, went_kept, room_left}
 use Rattle.clover_sched.proofs.client.ClientState.step_get.Goals as goal
 
@@ -131,10 +133,14 @@ returns-in-Found-clause-went c = λ o i e s.
     let noted : c.answer_get.result ≡ Answered c.args.client value = c.answer_get.ensures.answer ∙ ap (λ (z : Reply). Answered c.args.client z) (replies.1 ∙ ap (λ v. Found t v) taken.3) in
     let found = subst (λ (b : ValueBuf). FoundAt p1.setup.pool c.in-Get.call t (value_in c.in-Found.flags b) (view_at p1 i) (Some (open_of p1)) (view_at q i) (Some (open_of q))) h.at.1 (h.found i e) in
     let entries = subst (λ (z : Reply). r.entries ≡ q.entries ++ record { client = c.args.client; number = x.number + 1; call = c.in-Get.asked; reply = z } ∷ []) entered (c.answer_get.ensures.entries _ _ c.in-Get.asked refl) in
+    let after = c.answer_get.ensures.client c.access-turn.new.call c.access-turn.new.room c.in-Get.asked refl in
+    let slot = slot_kept o i p1 x c.in-Get.call c.in-Get.room c.in-Get.asked s1 c.in-Get.is c.access-turn.new.call c.access-turn.new.room m.0 m.2 in
+    let is_set = subst (λ (z : ℕ). IsSet z c.in-Found.tag x.cursors after.0) slot after.1 in
     subst (λ (n : Note). Went o i x c.answer_get.new.self c.args.pool.now r n) (sym noted)
-    (subst (λ (y : ClientState). Went o i x y c.args.pool.now r (Answered c.args.client value)) (sym c.answer_get.ensures.client)
-    (went_kept o i x (answered x) c.args.pool.now p1 r (Answered c.args.client value) k
-    (went_answered o i p1 x c.in-Get.call c.in-Get.room c.in-Get.asked s1 c.in-Get.is few q m.0 m.1 (h.accessed i e) c.args.client value e found.0 r c.access-turn.new.call c.access-turn.new.room m.2 m.3 h.ends (free_of x.refusing _ (λ z. z) h.exact) refl entries c.answer_get.ensures.same)))
+    (subst (λ (y : ClientState). Went o i x y c.args.pool.now r (Answered c.args.client value)) (sym after.2)
+    (went_kept o i x (answered x after.0) c.args.pool.now p1 r (Answered c.args.client value) k
+    (went_answered o i p1 x c.in-Get.call c.in-Get.room c.in-Get.asked s1 c.in-Get.is few q m.0 m.1 (h.accessed i e) c.args.client value e found.0 r c.access-turn.new.call c.access-turn.new.room m.2 m.3 h.ends (free_of x.refusing _ (λ z. z) h.exact) refl entries c.answer_get.ensures.same
+    after.0 c.in-Found.tag refl (h.known i e) is_set)))
 
 pub returns-in-Absent-clause-went : goal.returns-in-Absent-clause-went
 returns-in-Absent-clause-went c = λ o i e s.
@@ -147,10 +153,15 @@ returns-in-Absent-clause-went c = λ o i e s.
     let m = h.made i e in
     let few = few_made c.args.pool.now p1 c.made.result k c.made.ensures.value c.made.type_inv c.if-made-eq18446744073709551615.false in
     let s1 = stands_kept o c.args.pool.now p1 i x k s in
+    let absent = h.absent i e in
+    let after = c.answer_get-in-Absent.ensures.client c.access-turn.new.call c.access-turn.new.room c.in-Get.asked refl in
+    let slot = slot_kept o i p1 x c.in-Get.call c.in-Get.room c.in-Get.asked s1 c.in-Get.is c.access-turn.new.call c.access-turn.new.room m.0 m.2 in
+    let is_set = subst (λ (z : ℕ). IsSet z c.in-Absent.tail x.cursors after.0) slot after.1 in
     subst (λ (n : Note). Went o i x c.answer_get-in-Absent.new.self c.args.pool.now r n) (sym c.answer_get-in-Absent.ensures.answer)
-    (subst (λ (y : ClientState). Went o i x y c.args.pool.now r (Answered c.args.client Absent)) (sym c.answer_get-in-Absent.ensures.client)
-    (went_kept o i x (answered x) c.args.pool.now p1 r (Answered c.args.client Absent) k
-    (went_answered o i p1 x c.in-Get.call c.in-Get.room c.in-Get.asked s1 c.in-Get.is few q m.0 m.1 (h.accessed i e) c.args.client Absent e (h.absent i e).0 r c.access-turn.new.call c.access-turn.new.room m.2 m.3 h.ends (free_of x.refusing _ (λ z. z) h.exact) refl (c.answer_get-in-Absent.ensures.entries _ _ c.in-Get.asked refl) c.answer_get-in-Absent.ensures.same)))
+    (subst (λ (y : ClientState). Went o i x y c.args.pool.now r (Answered c.args.client Absent)) (sym after.2)
+    (went_kept o i x (answered x after.0) c.args.pool.now p1 r (Answered c.args.client Absent) k
+    (went_answered o i p1 x c.in-Get.call c.in-Get.room c.in-Get.asked s1 c.in-Get.is few q m.0 m.1 (h.accessed i e) c.args.client Absent e absent.0 r c.access-turn.new.call c.access-turn.new.room m.2 m.3 h.ends (free_of x.refusing _ (λ z. z) h.exact) refl (c.answer_get-in-Absent.ensures.entries _ _ c.in-Get.asked refl) c.answer_get-in-Absent.ensures.same
+    after.0 c.in-Absent.tail (seen_dead absent.0.tag ∙ absent.2) (h.known i e) is_set)))
 
 pub returns-in-Behind-clause-went : goal.returns-in-Behind-clause-went
 returns-in-Behind-clause-went c = λ o i e s.

@@ -21,7 +21,7 @@ answer_write-requires c =
 pub answer_write-requires-in-Differs : goal.answer_write-requires-in-Differs
 answer_write-requires-in-Differs c =
     let a = c.write_access in let s = c.requires.stands in
-    write_differs c.args.self.now a.new.self c.args.client c.args.pool.now a.new.pool a.result a.ensures c.requires.writing c.requires.counts.0 s.0 s.1 s.2 s.3 c.in-Differs.tag c.number-tag.result c.in-Differs.is c.number-tag.ensures.value c.requires.room c.requires.counts.1
+    write_differs c.args.self.now a.new.self c.args.client c.args.pool.now a.new.pool a.result a.ensures c.requires.writing c.requires.counts.0 s.0 s.1 s.2 s.3 c.in-Differs.tail c.number-tag.result c.in-Differs.is c.number-tag.ensures.value c.requires.room c.requires.counts.1
 
 pub unreachable-requires : goal.unreachable-requires
 unreachable-requires c =
@@ -41,12 +41,12 @@ returns-in-Decided c = λ o i seat st.
 pub returns-in-Absent : goal.returns-in-Absent
 returns-in-Absent c = λ o i seat st.
     let a = c.write_access in
-    write_absent_done c.args.self.now a.new.self c.args.client c.args.pool.now a.new.pool a.result a.ensures c.requires.writing c.requires.counts.0 o i seat st c.answer_write.new.self c.answer_write.new.pool Absent c.answer_write.ensures.state c.answer_write.ensures.entered c.answer_write.ensures.kept c.in-Absent.tail c.in-Absent.is refl
+    write_absent_done c.args.self.now a.new.self c.args.client c.args.pool.now a.new.pool a.result a.ensures c.requires.writing c.requires.counts.0 o i seat st c.answer_write.new.self c.answer_write.new.pool c.in-Absent.tail Absent c.answer_write.ensures.state c.answer_write.ensures.entered c.answer_write.ensures.kept c.in-Absent.is refl
 
 pub returns-in-Differs : goal.returns-in-Differs
 returns-in-Differs c = λ o i seat st.
     let a = c.write_access in let b = c.answer_write-in-Differs in
-    write_differs_done c.args.self.now a.new.self c.args.client c.args.pool.now a.new.pool a.result a.ensures c.requires.writing c.requires.counts.0 o i seat st b.new.self b.new.pool (Differs c.number-tag.result) b.ensures.state b.ensures.entered b.ensures.kept c.in-Differs.tag c.in-Differs.is (ap Differs c.number-tag.ensures.value)
+    write_differs_done c.args.self.now a.new.self c.args.client c.args.pool.now a.new.pool a.result a.ensures c.requires.writing c.requires.counts.0 o i seat st b.new.self b.new.pool c.in-Differs.tail (Differs c.number-tag.result) b.ensures.state b.ensures.entered b.ensures.kept c.in-Differs.is (ap Differs c.number-tag.ensures.value)
 
 pub returns-in-Behind : goal.returns-in-Behind
 returns-in-Behind c = λ o i seat st.

@@ -2,8 +2,10 @@ use Prim.Native.Nat.{suc}
 use Rattle.std.proofs.Common.{◌≡◌, ◌-◌, ℕ, Bool, true, subst, arith, rules}
 use Rattle.std.specs.Prelude.{Some}
 use Rattle.clover_words.specs.Tag.{tag_number}
+use Rattle.clover_rule.specs.Content.{InRange}
+use Rattle.clover_rule.specs.Lists.{Within}
 use Rattle.clover_plain.specs.Plain.{Plain, Accessed, view_at, open_of}
-use Rattle.clover_get.specs.Answering.{IfFound, IfAbsent}
+use Rattle.clover_get.specs.Answering.{IfFound, IfAbsent, IfAnswered}
 use Rattle.clover_get.specs.Getting.{value_in}
 use Rattle.clover_get.specs.Going.{FoundAt, AbsentAt}
 use Rattle.clover_sched.proofs.client.get.access.Goals as goal
@@ -34,3 +36,7 @@ returns-clause-found c = λ i e. said_there (λ (s : ℕ) (p q : Plain). IfFound
 pub returns-clause-absent : goal.returns-clause-absent
 returns-clause-absent c = λ i e. said_there (λ (s : ℕ) (p q : Plain). IfAbsent c.step.result (λ tag. AbsentAt p.setup.pool c.args.call.now (tag_number tag) (view_at p s) (Some (open_of p)) (view_at q s) (Some (open_of q)))) i c.port-port.result.seat c.args.client c.port-port.result.pool.now c.args.pool.now c.step.new.port.pool.now _ (returns-clause-accessed c i e) e c.port-port.ensures.seat.2 c.port-port.ensures.pool.0 (search rules)
     (let p0 = c.port-port.result.pool.now in let q0 = c.step.new.port.pool.now in subst (λ (s : ℕ). IfAbsent c.step.result (λ tag. AbsentAt p0.setup.pool c.args.call.now (tag_number tag) (view_at p0 c.port-port.result.seat) (Some (open_of p0)) (view_at q0 s) (Some (open_of q0)))) c.step.ensures.accessed.0 c.step.ensures.absent)
+
+pub returns-clause-known : goal.returns-clause-known
+returns-clause-known c = λ i e. said_there (λ (s : ℕ) (p q : Plain). IfAnswered c.step.result (λ tag. InRange c.args.call.now.walk.pool (tag_number tag) × Within (c.args.call.now.walk.slot, tag_number tag) (view_at q s).pass.durable)) i c.port-port.result.seat c.args.client c.port-port.result.pool.now c.args.pool.now c.step.new.port.pool.now _ (returns-clause-accessed c i e) e c.port-port.ensures.seat.2 c.port-port.ensures.pool.0 (search rules)
+    (let q0 = c.step.new.port.pool.now in subst (λ (s : ℕ). IfAnswered c.step.result (λ tag. InRange c.args.call.now.walk.pool (tag_number tag) × Within (c.args.call.now.walk.slot, tag_number tag) (view_at q0 s).pass.durable)) c.step.ensures.accessed.0 c.step.ensures.known)

@@ -19,6 +19,6 @@ returns c =
     let bound = subst (λ (p : Pool). OnReached c.step.result (length w.pass.since ≤ turn_bound p w.pass.turns)) (sym here) e.bound in
     port_access c.port-port.result.pool.now c.args.pool.now c.pool-1.given.0 c.step.new.port.pool.now (c.args.client - 1) c.port-port.result.seat c.step.new.port.seat c.port-port.result.faults c.step.new.port.faults c.args.call.now c.step.new.self c.step.result c.args.refuse
     c.port-port.ensures.pool.0 (search rules) seat e.accessed.0 c.port-port.ensures.fresh.2
-    (record { made = e.made; answer = e.answer; decided = e.decided; done = e.done; absent = e.absent; differs = e.differs; behind = behind; ahead = ahead; refused = e.refused; stands = e.stands; bound = bound })
+    (record { made = e.made; answer = e.answer; decided = e.decided; known = e.known; absent = e.absent; differs = e.differs; behind = behind; ahead = ahead; refused = e.refused; stands = e.stands; bound = bound })
     (subst (λ (b : Bool). ExactPut (Some b) c.step.result) c.port-port.ensures.fresh.0 e.exact)
     (subst (λ (b : Bool). Accessed c.port-port.result.seat b c.port-port.result.pool.now c.step.new.port.pool.now) c.port-port.ensures.fresh.1 e.accessed.1)

@@ -8,7 +8,7 @@ use Rattle.clover_sched.specs.Machine.{Parts, IsAt, MayCome}
 use Rattle.clover_sched.specs.declared.client.ClientState.{ClientState}
 use Rattle.clover_sched.specs.declared.client.Underway.TheVariants.{Nothing}
 use Rattle.clover_sched.specs.declared.event.Event.TheVariants.{Begin}
-use Rattle.clover_sched.proofs.Happening.{missing_happens, busy_happens, Happens, begin_on, behind, may_one, may_stock, not_busy}
+use Rattle.clover_sched.proofs.Happening.{missing_happens, busy_happens, Happens, begin_on, behind, may_one, may_stock, may_cursor, not_busy}
 use Rattle.clover_sched.proofs.Onward.{with_client}
 use Rattle.clover_sched.proofs.Places.{nth_here}
 use Rattle.clover_sched.proofs.machine.Machine.begin.Goals as goal
@@ -36,6 +36,13 @@ begin-requires-clause-stock c =
     let idle : x.under ≡ Nothing = subst (λ (z : ClientState). z.under ≡ Nothing) same (not_busy c.index.result.now.under (λ busy. let t = c.is_busy.ensures.1 busy in cc (t, c.if-is_busy.false))) in
     let may : MayCome m (Begin a c.args.task) = subst (λ (p : Parts). MayCome p (Begin a c.args.task)) (sym c.self.view_is) c.requires.may in
     may_stock m a c.args.task x may here idle
+
+pub begin-requires-clause-cursor : goal.begin-requires-clause-cursor
+begin-requires-clause-cursor c =
+    let m : Parts = meaning c.self.inside in
+    let x = c.index_mut.result.now in
+    let here : nth m.clients (c.args.actor - 1) ≡ Some x = nth_here m.clients (c.args.actor - 1) x (omega (arith, c.self.inside.clients.ok.0)) c.index_mut.ensures.value in
+    may_cursor m c.args.actor c.in-Some.slot x here c.self.invariant
 
 pub invariant_of-self : goal.invariant_of-self
 invariant_of-self c =

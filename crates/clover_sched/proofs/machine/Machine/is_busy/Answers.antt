@@ -1,9 +1,10 @@
 use Rattle.std.proofs.Common.{◌≡◌, ◌-◌, List, ap, ◌∙◌, subst}
 use Rattle.std.specs.Prelude.{Some, None}
 use Rattle.clover_rule.specs.Lists.{nth}
+use Rattle.clover_rule.proofs.Tools.{nth_none}
 use Rattle.clover_sched.specs.declared.client.ClientState.{ClientState}
 use Rattle.clover_sched.proofs.Busies.{busy_there, busy_nowhere}
-use Rattle.clover_sched.proofs.Places.{nth_here, nth_past}
+use Rattle.clover_sched.proofs.Places.{nth_here}
 use Rattle.clover_sched.proofs.machine.Machine.is_busy.Goals as goal
 
 pub returns-in-Some : goal.returns-in-Some
@@ -22,5 +23,5 @@ returns-in-None c =
     let i = c.args.actor - 1 in
     let found = c.in-None.ensures.lookup in
     let all : c.deref.result.now ≡ m.clients = c.deref.ensures.value ∙ ap (λ n. n.clients) c.self.view_is in
-    let past : nth m.clients i ≡ None = subst (λ (l : List ClientState). nth l i ≡ None) all (nth_past c.deref.result.now i found.3) in
+    let past : nth m.clients i ≡ None = subst (λ (l : List ClientState). nth l i ≡ None) all (nth_none c.deref.result.now i found.3) in
     record { busy = (λ t. cc, busy_nowhere m c.args.actor c.requires past) }

@@ -1,5 +1,0 @@
-use Rattle.clover_walk.proofs.laws.root_law.Goals as goal
-use Rattle.clover_walk.proofs.Alone as Alone
-
-pub returns : goal.returns
-returns c = Alone.root_law
