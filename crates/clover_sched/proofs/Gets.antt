@@ -39,9 +39,10 @@ use Rattle.clover_sched.specs.Alone.{GetEnds, EndsIn, Advances}
 use Rattle.clover_sched.specs.Client.{Stands, Moved, Went, Matches, UnderMatches, IsUnder, IsCursor, AreCursors, SetsCursor, since_of, slot_of, spent, spent_by}
 use Rattle.clover_sched.specs.Ends.{end_tag}
 use Rattle.clover_sched.specs.Folds.{Doing}
-use Rattle.clover_sched.specs.Run.{Opening, IsCommit, lost}
+use Rattle.clover_sched.specs.Run.{Opening, IsCommit, lost, most_accesses}
 use Rattle.clover_sched.proofs.Advancing.{get_goes_on, get_answers, get_stays_ahead}
 use Rattle.clover_sched.proofs.Cursoring.{KnowsMore, knows_more, cursors_kept, cursors_set}
+use Rattle.clover_sched.proofs.Lefts.{get_few}
 use Rattle.clover_sched.proofs.Moving.{MadeSo, IsNoLink, made_so, refused_so, names_kept, moved_quiet, moved_entered, moved_refused}
 use Rattle.clover_sched.proofs.Places.{same_snoc}
 use Rattle.clover_sched.proofs.Going.{step_refused}
@@ -183,6 +184,10 @@ module _ (o : Opening) (i : ℕ) (p : Plain) (x : ClientState) (g : Getting) (in
   since : since_of x.under (view_at p i) ≡ cond g.walk.first [] (view_at p i).pass.since
   since = ap (λ (u : Underway). since_of u (view_at p i)) is
 
+  -- the get has made fewer accesses than a call makes at most
+  fewer : (d : Doing) → Matches x (view_at p i) d → length d.since < most_accesses o.setup.pool
+  fewer d m = subst (λ (l : List Act). length l < most_accesses o.setup.pool) (sym (doing d m).2) (get_few o.setup.pool g (view_at p i) into under.1 under.2)
+
   below : i < length p.views
   below = let a = s.seats in let b = s.seat in omega arith
 
@@ -240,7 +245,7 @@ module _ (o : Opening) (i : ℕ) (p : Plain) (x : ClientState) (g : Getting) (in
           stands = stands_made o i p x (with_get x g1 into1 asked) s q a g.walk.first n so (links g.stage g.walk k into) same refl refl (opens, gs.pool ∙ under.1, h, under.3 ∙ sym (λ j. GetOf (key_at (names j) (slot j)))) cursors;
           follows = λ d m.
               let u = doing d m in (
-                made_step o i d p.words (length (own p.entries (suc i))) (ClientTask asked u.0.0) u.0.1 act None Quiet (sym m.refusing ∙ free) (came act so.came) tt (λ w. absurd ((reads g.stage g.walk k into n).0 w)) (tt, (reads g.stage g.walk k into n).1),
+                made_step o i d p.words (length (own p.entries (suc i))) (ClientTask asked u.0.0) u.0.1 act None Quiet (sym m.refusing ∙ free) (came act so.came) (fewer d m) tt (λ w. absurd ((reads g.stage g.walk k into n).0 w)) (tt, (reads g.stage g.walk k into n).1),
                 record { refusing = refl; under = (u.0, u.1, ap (λ (l : List Act). l ++ act ∷ []) u.2 ∙ sym so.since ∙ sym (ap (λ (b : Bool). cond b [] (view_at q i).pass.since) gs.first)) },
               );
           longer = λ ne. ap (λ (b : Bool). length (cond b [] (view_at q i).pass.since)) gs.first ∙ ap length so.since ∙ length_snoc act _ ∙ ap (λ (l : List Act). suc (length l)) (sym since);
@@ -268,7 +273,7 @@ module _ (o : Opening) (i : ℕ) (p : Plain) (x : ClientState) (g : Getting) (in
           stands = stands_made o i p x (at_rest x) s q a g.walk.first n so (links g.stage g.walk k into) same refl refl tt cursors;
           follows = λ d m.
               let u = doing d m in (
-                made_step o i d p.words (length (own p.entries (suc i))) (ClientTask asked u.0.0) u.0.1 act None (Refused (suc i) (Behind turns)) (sym m.refusing ∙ free) (came act so.came) tt (λ w. absurd ((reads g.stage g.walk k into n).0 w))
+                made_step o i d p.words (length (own p.entries (suc i))) (ClientTask asked u.0.0) u.0.1 act None (Refused (suc i) (Behind turns)) (sym m.refusing ∙ free) (came act so.came) (fewer d m) tt (λ w. absurd ((reads g.stage g.walk k into n).0 w))
                     (refl, much ∙ ap (λ (z : Setup). budget z.pool) s.setup, refl, (reads g.stage g.walk k into n).1),
                 record { refusing = refl; under = refl },
               );
@@ -333,7 +338,7 @@ module _ (o : Opening) (i : ℕ) (p : Plain) (x : ClientState) (g : Getting) (in
                 let d3 : Decides o.setup.pool p.words o.names (d.since ++ act ∷ []) (GetOf k) reply = subst (λ (z : List Act). Decides o.setup.pool p.words o.names z (GetOf k) reply) acts d2 in
                 let d4 : Decides o.setup.pool p.words o.names (d.since ++ act ∷ []) asked reply = subst (λ (z : Call). Decides o.setup.pool p.words o.names (d.since ++ act ∷ []) z reply) (sym under.3) d3 in
                 let number : x.number + 1 ≡ suc (length (own p.entries (suc i))) = (let b = s.number in omega arith) in (
-                  made_step o i d p.words (length (own p.entries (suc i))) (ClientTask asked u.0.0) u.0.1 act (Some entry) (Answered c reply) (sym m.refusing ∙ free) (came act so.came)
+                  made_step o i d p.words (length (own p.entries (suc i))) (ClientTask asked u.0.0) u.0.1 act (Some entry) (Answered c reply) (sym m.refusing ∙ free) (came act so.came) (fewer d m)
                       (record { access = access i act false; last = refl; made = refl; written = u.0.0; task = u.0.1; first = u.1; client = sym mine; number = number; decided = d4 })
                       (λ w. refl) (sym mine, (commit, refl)),
                   record { refusing = refl; under = refl },

@@ -1,6 +1,6 @@
 -- A client of the machine: what it has under way and what it knows, that this is what the records say of it, and what one step of it does.
 use Prim.Native.Nat.{suc}
-use Rattle.std.specs.Prelude.{◌≡◌, ◌≢◌, ◌⊎◌, ℕ, ◌+◌, ◌-◌, ◌*◌, ◌≤◌, ◌<◌, ◌^◌, min, List, [], ◌∷◌, ◌++◌, length, true, false, cond, if◌then◌else◌, All, Option, Some, None, IfSome}
+use Rattle.std.specs.Prelude.{◌≡◌, ◌≢◌, ◌⊎◌, ℕ, ◌+◌, ◌-◌, ◌≤◌, ◌<◌, ◌^◌, min, List, [], ◌∷◌, ◌++◌, length, true, false, cond, if◌then◌else◌, All, Option, Some, None, IfSome}
 use Rattle.clover_words.specs.declared.pool.Pool.{Pool}
 use Rattle.clover_words.specs.declared.setup.Setup.{Setup}
 use Rattle.clover_words.specs.Preset.{buffers_total, HasDealt}
@@ -25,7 +25,7 @@ use Rattle.clover_plain.specs.Plain.{Plain, view_at, history}
 use Rattle.clover_plain.specs.Preset.{dealt_from}
 use Rattle.clover_cache.specs.Node.{Known, cursor_at, asked, IsSet}
 use Rattle.clover_walk.specs.Standing.{number_of}
-use Rattle.clover_walk.specs.Walking.{key_at, budget}
+use Rattle.clover_walk.specs.Walking.{key_at}
 use Rattle.clover_get.specs.Getting.{IsOpen}
 use Rattle.clover_get.specs.Holding.{GetHolds}
 use Rattle.clover_put.specs.Answering.{IsBefore}
@@ -113,10 +113,6 @@ spent_by under n = n
 
 abbrev pub spent : ClientState → ℕ
 spent x = spent_by x.under x.taken
-
--- the most accesses of one call
-abbrev pub most_made : Pool → ℕ
-most_made p = (budget p + 1) * (p.words + 5) + 2 * p.words + 7
 
 -- One access of the client of seat i changed the pool so, and added this entry or none.
 pub record Moved (i : ℕ) (x : Access) (e : Option Entry) (p q : Plain) : Type 0 where
