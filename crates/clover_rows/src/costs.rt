@@ -233,7 +233,11 @@ fn is_refused(plan: &Plan, call: u64) -> bool {
 // cursor yet and the shortcut is empty, the links since, the tail's link, a delete's meta word, the exchange, the raise.
 fn accesses_before_short(plan: &Plan, call: u64) -> u64 {
     let own = if is_delete(plan, call) { 3 } else { 4 };
-    let way = if call == 0 || plan.answered == 0 { 2 } else { 0 };
+    let way = if call == 0 || plan.answered == 0 {
+        2
+    } else {
+        0
+    };
     let since = if is_refused(plan, call) {
         call.saturating_sub(plan.answered)
     } else {
