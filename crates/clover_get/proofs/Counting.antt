@@ -5,10 +5,9 @@ use Rattle.std.specs.Prelude.{Option, Some, None}
 use Rattle.clover_rule.specs.Memory.{Next, word, age}
 use Rattle.clover_rule.specs.Steps.{unlinked}
 use Rattle.clover_rule.specs.Words.{next_of, next_code, root_of}
-use Rattle.clover_walk.specs.Walking.{Walking, Stand, AtShort, AtRoot, AtTag, AtLink, OnTail, Ended, IsOnWay, turned, hops, followed, shortened, rooted, goes_from, goes_on, begins, next_start}
+use Rattle.clover_walk.specs.Walking.{Walking, Stand, AtShort, AtRoot, AtTag, AtLink, OnTail, Ended, IsOnWay, turned, hops, followed, shortened, rooted, goes_from, goes_on, begins, next_start, since_turn}
 use Rattle.clover_walk.specs.declared.start.Start.{Start}
 use Rattle.clover_walk.proofs.Codes.{no_turn}
-use Rattle.clover_get.specs.Holding.{walked}
 
 pub length_first : {A : Type 0} (b : Bool) (xs : List A) → length (cond b [] xs) ≡ cond b 0 (length xs)
 length_first true xs = refl
@@ -16,7 +15,7 @@ length_first false xs = refl
 
 -- so many accesses since the call's start, where the walk stands
 abbrev pub InTurns : Walking → ℕ → Type 0
-InTurns w n = n ≤ w.turns * (w.pool.words + 5) + walked w.stand
+InTurns w n = n ≤ w.turns * (w.pool.words + 5) + since_turn w.stand
 
 -- the walk after an access of its call, so many accesses since its start
 pub record Goes (w w1 : Walking) (n : ℕ) : Type 0 where
@@ -55,7 +54,7 @@ abbrev pub HasRoot : Stand → ℕ → Type 0
 HasRoot AtRoot x = (t : ℕ) × (root_of x ≡ Some t)
 HasRoot at x = Unit {0}
 
-goes_by : (at : Stand) (w : Walking) (x n : ℕ) → IsOnWay at → HasRoot at x → n ≤ w.turns * (w.pool.words + 5) + walked at → Goes w (goes_from at w x) (suc n)
+goes_by : (at : Stand) (w : Walking) (x n : ℕ) → IsOnWay at → HasRoot at x → n ≤ w.turns * (w.pool.words + 5) + since_turn at → Goes w (goes_from at w x) (suc n)
 goes_by AtShort w x n way root h = shortened_goes w (suc n) (root_of x) (omega arith)
 goes_by AtRoot w x n way root h = rooted_goes w (suc n) (root_of x) root (omega arith)
 goes_by (AtTag t) w x n way root h = followed_goes w (suc n) t (next_of x) (λ e. omega arith) (omega arith)

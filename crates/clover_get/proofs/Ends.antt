@@ -24,12 +24,12 @@ use Rattle.clover_rule.specs.Words.{next_of}
 use Rattle.clover_rule.specs.declared.view.Role.{Role}
 use Rattle.clover_rule.specs.declared.view.Role.TheVariants.{Client}
 use Rattle.clover_rule.specs.declared.view.View.{View}
-use Rattle.clover_walk.specs.Walking.{Walking, Stand, StandsOn as WalkStandsOn, Holds, goes_on, key_at, budget}
+use Rattle.clover_walk.specs.Walking.{Walking, Stand, StandsOn as WalkStandsOn, Holds, goes_on, key_at, budget, most_accesses}
 use Rattle.clover_walk.proofs.Endings.{stepped, copied_one, at_tail}
 use Rattle.clover_get.specs.declared.turn.GetTurn.TheVariants.{More, Found as IsFound, Absent as IsAbsent}
 use Rattle.clover_get.specs.Copying.{Copied}
 use Rattle.clover_get.specs.Getting.{Getting, Stage, AtMeta, AtValue, AtFound, AtDead, AtBad, Over, getting, sought, Reads, read_stage, read_kind, valued, value_in, GoesOn, FillsFrom, get_step}
-use Rattle.clover_get.specs.Going.{Went, key_of, most_accesses}
+use Rattle.clover_get.specs.Going.{Went, key_of}
 use Rattle.clover_get.specs.Holding.{GetHolds, StandsOn, IsAt, copied}
 use Rattle.clover_get.proofs.Copies.{more_value, first_value, first_dead, first_bad, undecoded, too_long}
 use Rattle.clover_get.proofs.Counting.{bounded}

@@ -16,15 +16,16 @@ use Rattle.clover_rule.specs.declared.view.View.{View}
 use Rattle.clover_rule.proofs.Steps.{each_within}
 use Rattle.clover_rule.proofs.Tools.{length_snoc}
 use Rattle.clover_walk.specs.Turning.{Answers, OnReached as WalkReached, OnUnreached as WalkUnreached, OnGoing as OnWalking, IfBehind as IfWalkBehind, OnAhead as OnWalkAhead, IsAtTail, ShowsTail}
-use Rattle.clover_walk.specs.Walking.{Walking, Stand, AtShort, AtRoot, AtTag, AtLink, OnTail, Ended, IsOnWay, StandsOn as WalkStandsOn, Holds, walk_step, step_at, goes_on, key_at, budget}
+use Rattle.clover_walk.specs.Walking.{Walking, Stand, AtShort, AtRoot, AtTag, AtLink, OnTail, Ended, IsOnWay, StandsOn as WalkStandsOn, Holds, walk_step, step_at, goes_on, key_at, budget, most_accesses, since_turn}
 use Rattle.clover_walk.specs.declared.turn.Turn.{Turn}
 use Rattle.clover_walk.specs.declared.turn.Turn.TheVariants.{More as WalksOn, AtTail, Behind as WalkBehind, Unreached as Refused}
 use Rattle.clover_walk.proofs.Endings.{stepped}
+use Rattle.clover_walk.proofs.Calling.{since_few}
 use Rattle.clover_get.specs.declared.turn.GetTurn.{GetTurn}
 use Rattle.clover_get.specs.declared.turn.GetTurn.TheVariants.{Unreached}
 use Rattle.clover_get.specs.Getting.{Getting, Stage, Seeking, AtMeta, AtFound, AtDead, AtBad, Over, getting, sought, stage_at, get_step, GoesOn, FillsFrom}
-use Rattle.clover_get.specs.Going.{Went, Follows, answer_of, key_of, most_accesses}
-use Rattle.clover_get.specs.Holding.{GetHolds, IsAt, walked, most}
+use Rattle.clover_get.specs.Going.{Went, Follows, answer_of, key_of}
+use Rattle.clover_get.specs.Holding.{GetHolds, IsAt, most}
 use Rattle.clover_get.proofs.Counting.{InTurns, HasRoot, goes, misses, bounded, length_first}
 
 -- a get that stands at this stage is that get
@@ -55,21 +56,13 @@ on_way (AtLink t u) h = refl
 on_way (OnTail t) h = absurd h
 on_way Ended h = absurd h
 
-at_most : (at : Stand) → walked at ≤ 3
-at_most AtShort = omega arith
-at_most AtRoot = omega arith
-at_most (AtTag t) = omega arith
-at_most (AtLink t u) = omega arith
-at_most (OnTail t) = omega arith
-at_most Ended = omega arith
-
 module _ (p : Pool) (f f1 : ℕ) (g : Getting) (into : ValueBuf) (v : View) (o : Option Open) (x : ℕ) (v1 : View) (o1 : Option Open) (w1 : Walking)
     (made : Made p (get_step g (key_of g v) into) g.walk.first v o x v1 o1) (goes_so : GoesOn g into.length x (sought w1)) (fills : FillsFrom g.stage x into into)
     (of : w1.pool ≡ p) (later : w1.first ≡ false) (count : InTurns w1 (length v1.pass.since)) where
   allowed : w1.turns ≡ v1.pass.turns → length v1.pass.since ≤ most_accesses p v1.pass.turns
   allowed e =
-      let a = at_most w1.stand in
-      let b : length v1.pass.since ≤ most_accesses w1.pool w1.turns = bounded w1.turns w1.pool.words (walked w1.stand) (length v1.pass.since) (omega arith) count in
+      let a = since_few w1.stand in
+      let b : length v1.pass.since ≤ most_accesses w1.pool w1.turns = bounded w1.turns w1.pool.words (since_turn w1.stand) (length v1.pass.since) (omega arith) count in
       subst (λ (n : ℕ). length v1.pass.since ≤ most_accesses p n) e (subst (λ (q : Pool). length v1.pass.since ≤ most_accesses q w1.turns) of b)
 
   counted_so : Holds w1 v1 → w1.turns ≡ v1.pass.turns
@@ -88,7 +81,7 @@ module _ (p : Pool) (f f1 : ℕ) (g : Getting) (into : ValueBuf) (v : View) (o :
   arrives : (t : ℕ) → Holds w1 v1 → w1.stand ≡ OnTail t → GetHolds (sought w1) v1 into
   arrives t h e =
       let d : Within (w1.slot, t) v1.pass.durable = subst (λ (z : Stand). WalkStandsOn w1.slot z v1) e h.stand in
-      let c : length v1.pass.since ≤ w1.turns * (w1.pool.words + 5) + 3 = subst (λ (z : Stand). length v1.pass.since ≤ w1.turns * (w1.pool.words + 5) + walked z) e count in
+      let c : length v1.pass.since ≤ w1.turns * (w1.pool.words + 5) + 3 = subst (λ (z : Stand). length v1.pass.since ≤ w1.turns * (w1.pool.words + 5) + since_turn z) e count in
       subst (λ (z : Stand). GetHolds (getting w1 (stage_at z)) v1 into) (sym e) (record {
         walk = h;
         stage = (e, later, subst (λ (q : Pool). InRange q t) (sym of) (in_range p _ _ v o x v1 o1 w1.slot t made d));

@@ -1,5 +1,5 @@
 -- One step of a get: what its answer says of the call, the room, and what the actor knows.
-use Rattle.std.specs.Prelude.{◌≡◌, ℕ, ◌+◌, ◌*◌, ◌<◌, ◌≤◌, length, List, Option}
+use Rattle.std.specs.Prelude.{◌≡◌, ℕ, ◌<◌, ◌≤◌, length, List, Option}
 use Rattle.clover_words.specs.declared.bytes.ValueBuf.{ValueBuf}
 use Rattle.clover_words.specs.declared.pool.Pool.{Pool}
 use Rattle.clover_words.specs.Tag.{tag_number}
@@ -12,7 +12,7 @@ use Rattle.clover_rule.specs.Lists.{Within}
 use Rattle.clover_rule.specs.declared.view.View.{View}
 use Rattle.clover_walk.specs.Ending.{Ended}
 use Rattle.clover_walk.specs.Turning.{Answers, OnGoing as OnWalking, IfBehind as IfWalkBehind, OnAhead as OnWalkAhead}
-use Rattle.clover_walk.specs.Walking.{Walking, Holds, key_at, budget}
+use Rattle.clover_walk.specs.Walking.{Walking, Holds, key_at, budget, most_accesses}
 use Rattle.clover_walk.specs.declared.turn.Turn.{Turn}
 use Rattle.clover_walk.specs.declared.turn.Turn.TheVariants.{More as WalksOn, AtTail, Behind as WalkBehind, Unreached as WalkUnreached}
 use Rattle.clover_get.specs.declared.turn.GetTurn.TheVariants.{More, Behind, Unreached}
@@ -36,10 +36,6 @@ FoundAt p g t x v o v1 o1 = (e : Ended p (Get (key_of g v)) (Found t x) v o v1 o
 -- the last load showed the tombstone's tag unlinked, and the accesses of the call decide that the key is absent
 abbrev pub AbsentAt : Pool → Getting → ℕ → View → Option Open → View → Option Open → Type 0
 AbsentAt p g t v o v1 o1 = (e : Ended p (Get (key_of g v)) Absent v o v1 o1) × (e.slot ≡ g.walk.slot) × (e.tag ≡ t)
-
--- the most accesses of a call with so many turns
-abbrev pub most_accesses : Pool → ℕ → ℕ
-most_accesses p turns = (turns + 1) * (p.words + 5) + 2 * p.words + 4
 
 pub record Went (p : Pool) (faults faults1 : ℕ) (g g1 : Getting) (into into1 : ValueBuf) (v : View) (o : Option Open) (v1 : View) (o1 : Option Open) (r : GetTurn) : Type 0 where
   pub made : OnReached r (OneAccess p g g1 into into1 v o v1 o1)

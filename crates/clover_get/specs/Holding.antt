@@ -4,7 +4,7 @@ use Rattle.clover_words.specs.declared.bytes.ValueBuf.{ValueBuf}
 use Rattle.clover_words.specs.Pack.{words_of}
 use Rattle.clover_rule.specs.Content.{InRange}
 use Rattle.clover_rule.specs.declared.view.View.{View}
-use Rattle.clover_walk.specs.Walking.{Walking, Stand, AtShort, AtRoot, AtTag, AtLink, OnTail, Ended, IsOnWay, Holds}
+use Rattle.clover_walk.specs.Walking.{Walking, Stand, OnTail, IsOnWay, Holds, since_turn}
 use Rattle.clover_get.specs.Copying.{Copied, CopiedDead, CopiedBad}
 use Rattle.clover_get.specs.Getting.{Getting, Stage, Seeking, AtMeta, AtValue, AtFound, AtDead, AtBad, Over}
 
@@ -22,17 +22,9 @@ StandsOn (AtDead t) w v into = IsAt w t × CopiedDead w.slot t v
 StandsOn (AtBad t) w v into = IsAt w t × CopiedBad w.pool w.slot t v
 StandsOn Over w v into = ⊥
 
--- the most accesses since the last turn: a raise, or the loads of a shortcut and of a root; the load that showed the tail; its meta word; its value words
-abbrev pub walked : Stand → ℕ
-walked AtShort = 0
-walked AtRoot = 1
-walked (AtTag t) = 2
-walked (AtLink t u) = 0
-walked (OnTail t) = 3
-walked Ended = 0
-
+-- the most accesses since the last turn, where the get and its walk stand: those of the walk, the tail's meta word, its value words
 abbrev pub copied : Stage → Stand → ℕ → ℕ
-copied Seeking at n = walked at
+copied Seeking at n = since_turn at
 copied (AtMeta t) at n = 3
 copied (AtValue t f j) at n = 4 + j
 copied (AtFound t f) at n = 4 + n

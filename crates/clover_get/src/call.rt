@@ -6,10 +6,10 @@ ghost use Rattle.clover_rule.specs.Content.{InRange};
 ghost use Rattle.clover_rule.specs.Lists.{Within};
 ghost use Rattle.clover_port.specs.Told.{Rose};
 ghost use Rattle.clover_walk.specs.Turning.{Answers, OnReached as WalkReached, OnUnreached as WalkUnreached};
-ghost use Rattle.clover_walk.specs.Walking.{ShowsNext, goes_on, budget};
+ghost use Rattle.clover_walk.specs.Walking.{ShowsNext, goes_on, budget, most_accesses};
 ghost use Rattle.clover_get.specs.Answering.{OnReached, OnUnreached, OnGoing, OnOver, OnAhead, IfFound, IfAbsent, IfAnswered, IfBehind, ExactGet};
 ghost use Rattle.clover_get.specs.Getting.{Seeking, AtMeta, AtValue, AtFound, AtDead, AtBad, Over, IsOpen, Reads, getting, read_stage, valued, sought, value_in};
-ghost use Rattle.clover_get.specs.Going.{OneAccess, FoundAt, AbsentAt, Went, Follows, answer_of, key_of, most_accesses};
+ghost use Rattle.clover_get.specs.Going.{OneAccess, FoundAt, AbsentAt, Went, Follows, answer_of, key_of};
 ghost use Rattle.clover_get.specs.Holding.{GetHolds};
 ghost use Rattle.clover_get.specs.Standing.{standing};
 

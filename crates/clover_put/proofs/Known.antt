@@ -22,12 +22,10 @@ use Rattle.clover_rule.specs.declared.view.View.{View}
 use Rattle.clover_rule.proofs.Steps.{within_prefix}
 -- the layers above name these two from here
 pub use Rattle.clover_rule.proofs.Steps.{within_last}
-pub use Rattle.clover_rule.proofs.Tools.{length_snoc as length_more}
-use Rattle.clover_walk.specs.Walking.{Walking, Stand, AtShort, AtRoot, AtTag, AtLink as OnLink, OnTail, Ended, StandsOn, Holds, begun, key_at}
+use Rattle.clover_walk.specs.Walking.{Walking, Stand, AtShort, AtRoot, AtTag, AtLink as OnLink, OnTail, Ended, StandsOn, Holds, begun, key_at, most_accesses}
 use Rattle.clover_walk.proofs.Endings.{Stepped}
 use Rattle.clover_put.specs.Holding.{Filled}
 use Rattle.clover_put.specs.Putting.{Putting, body}
-use Rattle.clover_put.specs.Stepping.{turn_bound}
 
 -- a list of accesses that has grown by one
 pub within_more : {A : Type 0} (x y : A) (xs : List A) → Within x xs → Within x (xs ++ y ∷ [])
@@ -139,7 +137,7 @@ times (suc a) b = let h = times a b in let e : suc (suc a) * (b + 5) ≡ suc a *
     refl_at : (m n : ℕ) → suc m * n ≡ m * n + n
     refl_at m n = omega arith
 
-pub bounded : (p : Pool) (k n turns : ℕ) → k ≤ 2 * n + 5 * turns + 7 → n ≤ suc p.words → k ≤ turn_bound p turns
+pub bounded : (p : Pool) (k n turns : ℕ) → k ≤ 2 * n + 5 * turns + 7 → n ≤ suc p.words → k ≤ most_accesses p turns
 bounded p k n turns h l =
     let a = times turns p.words in
     let e : turns + 1 ≡ suc turns = omega arith in

@@ -17,13 +17,13 @@ use Rattle.clover_rule.specs.Words.{buffer_at}
 use Rattle.clover_rule.specs.declared.view.View.{View}
 use Rattle.clover_rule.proofs.Steps.{each_within}
 use Rattle.clover_words.specs.Tag.{TagParts, tag_number}
-use Rattle.clover_walk.specs.Walking.{Walking, Stand, AtShort, AtRoot, AtTag, AtLink as OnLink, OnTail, Ended, Holds, IsOnWay, ShowsNext, walk_step, step_at, goes_on, budget}
+use Rattle.clover_walk.specs.Walking.{Walking, Stand, AtShort, AtRoot, AtTag, AtLink as OnLink, OnTail, Ended, Holds, IsOnWay, ShowsNext, walk_step, step_at, goes_on, budget, since_turn}
 use Rattle.clover_walk.specs.Turning.{OnReached as WalkReached, ExactTurn, Answers as WalkAnswers, IfAtTail, IfBehind as WalkIfBehind, OnAhead as WalkAhead, OnGoing as WalkGoing}
 use Rattle.clover_walk.specs.declared.turn.Turn.{Turn}
 use Rattle.clover_walk.specs.declared.turn.Turn.TheVariants.{More as WalkMore, AtTail, Behind as WalkBehind, Unreached as WalkUnreached}
 use Rattle.clover_walk.proofs.Endings.{Stepped, Keeps, IsPlain, stepped, kept, shows_load, shows_decide, shows_link}
 use Rattle.clover_put.specs.Answering.{IsBefore, OnReached, ExactPut}
-use Rattle.clover_put.specs.Holding.{Filled, PutHolds, behind_it, steps_at}
+use Rattle.clover_put.specs.Holding.{Filled, PutHolds, behind_it}
 use Rattle.clover_put.specs.Putting.{Putting, Stage, Seeking, AtLink, AtDead, AtOther, AtBad, AtRaise, Over, body, call_at, kind_of, walked, unless_left, staged, put_step, put_on}
 use Rattle.clover_put.specs.Stepping.{PutStep, Went, as_put}
 use Rattle.clover_put.specs.declared.turn.PutTurn.{PutTurn}
@@ -73,7 +73,7 @@ module _ (p : Pool) (c : Putting) (v : View) (o : Option Open) (w : View) (o1 : 
   s = stepped p a false v o x w o1 made
 
   pub onward : (n : Walking) → n.pool ≡ c.walk.pool → n.slot ≡ c.walk.slot → n.first ≡ false → (rest : List ℕ) × (v.pass.stock ≡ c.own ∷ rest) → Filled c (length (body c)) (length (body c)) v
-      → suc (length v.pass.since) ≤ 2 * length (body c) + 5 * n.turns + steps_at n.stand → Onward p c n w
+      → suc (length v.pass.since) ≤ 2 * length (body c) + 5 * n.turns + since_turn n.stand → Onward p c n w
   onward n ep es ef own fills cost = record {
     pool = ep;
     slot = es;
@@ -103,7 +103,7 @@ seek_done p c v o f w o1 f1 h here fit at n r d reached went m t em et =
     let made : Made p (walk_step c.walk) c.walk.first v o x w o1 = g.1 in
     let later : Made p (walk_step c.walk) false v o x w o1 = subst (λ (b : Bool). Made p (walk_step c.walk) b v o x w o1) k.1.1 made in
     let paid : Paid c.walk n = subst (Paid c.walk) (sym g.2) (step_paid c.walk x k.2 (λ e. (subst (λ (z : Stand). Says p made.now.words (step_at c.walk.slot z) v x) e made.told.says) _ h.walk.named)) in
-    let spent : length v.pass.since ≤ behind_it c + steps_at c.walk.stand = subst (λ (b : Bool). cond b 0 (length v.pass.since) ≤ behind_it c + steps_at c.walk.stand) k.1.1 k.3 in
+    let spent : length v.pass.since ≤ behind_it c + since_turn c.walk.stand = subst (λ (b : Bool). cond b 0 (length v.pass.since) ≤ behind_it c + since_turn c.walk.stand) k.1.1 k.3 in
     let cost = paid.cost in
     let on = onward p c v o w o1 here (walk_step c.walk) x later (plain_walk c.walk.slot c.walk.stand x k.2) n paid.pool paid.slot paid.first k.0 k.1.0 (omega arith) in
     subst (λ (z : Putting). PutStep p c v o f z w o1 f1 t) (sym em)
@@ -118,7 +118,7 @@ module _ (p : Pool) (c : Putting) (v : View) (o : Option Open) (f : ℕ) (w : Vi
   turned : Turned c.walk (goes_on c.walk x)
   turned = left_turns c.walk u x on_tail (subst (λ (y : Word). IsShown p y x) word_is made.told.number).0 left
 
-  less : suc (length v.pass.since) ≤ 2 * length (body c) + 5 * (goes_on c.walk x).turns + steps_at (goes_on c.walk x).stand
+  less : suc (length v.pass.since) ≤ 2 * length (body c) + 5 * (goes_on c.walk x).turns + since_turn (goes_on c.walk x).stand
   less = let q : length v.pass.since ≤ behind_it c + 4 = subst (λ (b : Bool). cond b 0 (length v.pass.since) ≤ behind_it c + 4) later spent in let e = turned.turns in omega arith
 
   pub left_done : (r : Turn) → Went p c.walk.slot (goes_on c.walk x) w r → (m : Putting) (t : PutTurn) → m ≡ walked c (goes_on c.walk x) → t ≡ as_put r → PutStep p c v o f m w o1 f1 t

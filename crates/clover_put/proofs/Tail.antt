@@ -26,12 +26,12 @@ use Rattle.clover_rule.specs.declared.view.View.{View}
 use Rattle.clover_rule.proofs.Steps.{each_within, within_last}
 use Rattle.clover_rule.proofs.Tools.{nth_within}
 use Rattle.clover_walk.specs.Ending.{Ended}
-use Rattle.clover_walk.specs.Walking.{Walking, Stand, StandsOn, Holds, begun, budget, key_at, goes_on}
+use Rattle.clover_walk.specs.Walking.{Walking, Stand, StandsOn, Holds, begun, budget, key_at, goes_on, most_accesses}
 use Rattle.clover_walk.proofs.Endings.{Stepped, stepped, at_tail, commits as committed_by}
 use Rattle.clover_put.specs.Answering.{IsBefore, IsBehind, Onward, Stores, Deletes}
 use Rattle.clover_put.specs.Holding.{Filled, Fills, Owns, IsAt, Looks, Reads, PutHolds, behind_it}
 use Rattle.clover_put.specs.Putting.{Putting, Stage, AtMeta, AtLink, AtDead, AtOther, AtBad, AtRaise, AtShort, Over, body, call_of, call_at, commits, kind_of, on_meta, on_value, staged, unless_left, walked, put_step, put_on}
-use Rattle.clover_put.specs.Stepping.{PutStep, turn_bound, done_with}
+use Rattle.clover_put.specs.Stepping.{PutStep, done_with}
 use Rattle.clover_put.specs.declared.job.Job.{Job}
 use Rattle.clover_put.specs.declared.job.Job.TheVariants.{Put, Delete, Swap}
 use Rattle.clover_put.specs.declared.turn.PutTurn.TheVariants.{More, Decided, Stored, Deleted, Absent as AbsentTurn, Differs as DiffersTurn, Linked}
@@ -277,7 +277,7 @@ module _ (p : Pool) (c : Putting) (v : View) (o : Option Open) (f : ℕ) (w : Vi
     pub maded : (x : ℕ) × Made p (put_step c v) c.walk.first v o x w o1 × (staged c Over ≡ put_on c x)
     maded = (unlinked u, laterd, sym (goes ∙ ap (λ (b : Bool). cond b (staged c Over) (walked c (goes_on c.walk (unlinked u)))) samed))
 
-    pub boundd : length w.pass.since ≤ turn_bound p w.pass.turns
+    pub boundd : length w.pass.since ≤ most_accesses p w.pass.turns
     boundd =
         let a : length v.pass.since ≤ behind_it c + 4 = subst (λ (b : Bool). cond b 0 (length v.pass.since) ≤ behind_it c + 4) first spent_v in
         let q = one_more false v w _ (behind_it c + 4) sd.since a in let e = turnsd in bounded p (length w.pass.since) (length (body c)) w.pass.turns (omega arith) fit
@@ -393,7 +393,7 @@ module _ (p : Pool) (c : Putting) (v : View) (o : Option Open) (f : ℕ) (w : Vi
       aheads : w.pass.turns < budget p
       aheads = subst (λ (n : ℕ). n < budget p) (sym turnss) (subst (λ (q : Pool). c.walk.turns < budget q) (sym here) h.walk.below)
 
-      bounds : length w.pass.since ≤ turn_bound p w.pass.turns
+      bounds : length w.pass.since ≤ most_accesses p w.pass.turns
       bounds =
           let a : length v.pass.since ≤ behind_it c + 6 = subst (λ (b : Bool). cond b 0 (length v.pass.since) ≤ behind_it c + 6) ks.1 ks.3 in
           let q = one_more false v w _ (behind_it c + 6) ss.since a in let e = turnss in bounded p (length w.pass.since) (length (body c)) w.pass.turns (omega arith) fit

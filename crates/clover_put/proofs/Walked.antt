@@ -12,15 +12,16 @@ use Rattle.clover_rule.specs.Memory.{Next, word, age}
 use Rattle.clover_rule.specs.Steps.{MayCall, unlinked}
 use Rattle.clover_rule.specs.Words.{next_of, next_code, root_of}
 use Rattle.clover_rule.specs.declared.view.View.{View}
-use Rattle.clover_walk.specs.Walking.{Walking, Stand, AtShort, AtRoot, AtTag, AtLink as OnLink, OnTail, Ended, Holds, IsOnWay, key_at, goes_on, goes_from, followed, hops, turned, shortened, rooted, next_start, begins}
+use Rattle.clover_walk.specs.Walking.{Walking, Stand, AtShort, AtRoot, AtTag, AtLink as OnLink, OnTail, Ended, Holds, IsOnWay, key_at, goes_on, goes_from, followed, hops, turned, shortened, rooted, next_start, begins, most_accesses, since_turn}
 use Rattle.clover_walk.specs.declared.start.Start.{Start}
 use Rattle.clover_walk.specs.declared.turn.Turn.{Turn}
 use Rattle.clover_walk.specs.declared.turn.Turn.TheVariants.{More as WalkMore, AtTail, Behind as WalkBehind, Unreached as WalkUnreached}
 use Rattle.clover_walk.proofs.Codes.{no_turn}
+use Rattle.clover_walk.proofs.Calling.{since_few}
 use Rattle.clover_put.specs.Answering.{IsBefore}
-use Rattle.clover_put.specs.Holding.{Filled, IsAt, Reads, PutHolds, steps_at}
+use Rattle.clover_put.specs.Holding.{Filled, IsAt, Reads, PutHolds}
 use Rattle.clover_put.specs.Putting.{Putting, Stage, Seeking, AtMeta, AtLink, at_tail, reached, body, call_of, walked, put_step, put_on}
-use Rattle.clover_put.specs.Stepping.{PutStep, Went, as_put, turn_bound}
+use Rattle.clover_put.specs.Stepping.{PutStep, Went, as_put}
 use Rattle.clover_put.specs.declared.job.Job.{Job}
 use Rattle.clover_put.specs.declared.job.Job.TheVariants.{Put, Delete, Swap}
 use Rattle.clover_put.proofs.Done.{before_onward}
@@ -34,10 +35,10 @@ pub record Onward (p : Pool) (c : Putting) (n : Walking) (w : View) : Type 0 whe
   pub own : (rest : List ℕ) × (w.pass.stock ≡ c.own ∷ rest)
   pub fills : (e : Putting) → e.own ≡ c.own → body e ≡ body c → Filled e (length (body c)) (length (body c)) w
   pub range : (t : ℕ) → Within (c.walk.slot, t) w.pass.durable → InRange c.walk.pool t
-  pub spent : length w.pass.since ≤ 2 * length (body c) + 5 * n.turns + steps_at n.stand
+  pub spent : length w.pass.since ≤ 2 * length (body c) + 5 * n.turns + since_turn n.stand
 
 module _ (p : Pool) (c : Putting) (n : Walking) (w : View) (here : p ≡ c.walk.pool) (k : Onward p c n w) where
-  count : (m : ℕ) → 2 * length (body c) + 5 * n.turns + steps_at n.stand ≤ m → cond n.first 0 (length w.pass.since) ≤ m
+  count : (m : ℕ) → 2 * length (body c) + 5 * n.turns + since_turn n.stand ≤ m → cond n.first 0 (length w.pass.since) ≤ m
   count m l = subst (λ (b : Bool). cond b 0 (length w.pass.since) ≤ m) (sym k.first) (let s = k.spent in omega arith)
 
   on_way : (at : Stand) → n.stand ≡ at → IsOnWay at → Holds n w → PutHolds (record c { walk = n; stage = reached c.job at }) w
@@ -57,10 +58,10 @@ module _ (p : Pool) (c : Putting) (n : Walking) (w : View) (here : p ≡ c.walk.
     owns = k.own;
     fills = (k.fills (record c { walk = n; stage = AtLink t }) refl refl, k.first);
     looks = (is_at t e d (AtLink t), subst (λ (j : Job). MayCall w n.slot t (call_of j (key_at w.pass.names n.slot) c.value)) (sym ej) tt, subst (λ (j : Job). SawFor t (call_of j (key_at w.pass.names n.slot) c.value) w.pass.since) (sym ej) tt);
-    spent = count _ (let q = ap steps_at e in omega arith);
+    spent = count _ (let q = ap since_turn e in omega arith);
   }
-  on_tail Delete ej t e d on = record { walk = on; owns = k.own; fills = (k.fills (record c { walk = n; stage = AtMeta t }) refl refl, k.first); looks = (is_at t e d (AtMeta t), subst Reads (sym ej) tt); spent = count _ (let q = ap steps_at e in omega arith) }
-  on_tail (Swap x) ej t e d on = record { walk = on; owns = k.own; fills = (k.fills (record c { walk = n; stage = AtMeta t }) refl refl, k.first); looks = (is_at t e d (AtMeta t), subst Reads (sym ej) tt); spent = count _ (let q = ap steps_at e in omega arith) }
+  on_tail Delete ej t e d on = record { walk = on; owns = k.own; fills = (k.fills (record c { walk = n; stage = AtMeta t }) refl refl, k.first); looks = (is_at t e d (AtMeta t), subst Reads (sym ej) tt); spent = count _ (let q = ap since_turn e in omega arith) }
+  on_tail (Swap x) ej t e d on = record { walk = on; owns = k.own; fills = (k.fills (record c { walk = n; stage = AtMeta t }) refl refl, k.first); looks = (is_at t e d (AtMeta t), subst Reads (sym ej) tt); spent = count _ (let q = ap since_turn e in omega arith) }
 
   turns_are : Holds n w → w.pass.turns ≡ n.turns
   turns_are on = subst (λ (b : Bool). cond b 0 w.pass.turns ≡ n.turns) k.first on.turns
@@ -78,18 +79,10 @@ module _ (p : Pool) (c : Putting) (n : Walking) (w : View) (here : p ≡ c.walk.
   before_tail Delete t = tt
   before_tail (Swap x) t = tt
 
-  most_steps : (at : Stand) → steps_at at ≤ 3
-  most_steps AtShort = omega arith
-  most_steps AtRoot = omega arith
-  most_steps (AtTag t) = omega arith
-  most_steps (OnLink t u) = omega arith
-  most_steps (OnTail t) = omega arith
-  most_steps Ended = omega arith
-
   module _ (v : View) (o : Option Open) (f : ℕ) (o1 : Option Open) (f1 : ℕ) (fit : length (body c) ≤ suc p.words) (x : ℕ)
       (made : Made p (put_step c v) c.walk.first v o x w o1) (on : walked c n ≡ put_on c x) (before : IsBefore c.stage) where
-    bound : w.pass.turns ≡ n.turns → length w.pass.since ≤ turn_bound p w.pass.turns
-    bound e = bounded p (length w.pass.since) (length (body c)) w.pass.turns (let s = k.spent in let m = most_steps n.stand in omega arith) fit
+    bound : w.pass.turns ≡ n.turns → length w.pass.since ≤ most_accesses p w.pass.turns
+    bound e = bounded p (length w.pass.since) (length (body c)) w.pass.turns (let s = k.spent in let m = since_few n.stand in omega arith) fit
 
     pub walked_step : (r : Turn) → Went p c.walk.slot n w r → PutStep p c v o f (walked c n) w o1 f1 (as_put r)
     walked_step WalkMore went = record {
@@ -163,27 +156,27 @@ pub record Paid (w n : Walking) : Type 0 where
   pub pool : n.pool ≡ w.pool
   pub slot : n.slot ≡ w.slot
   pub first : n.first ≡ false
-  pub cost : suc (steps_at w.stand) + 5 * w.turns ≤ 5 * n.turns + steps_at n.stand
+  pub cost : suc (since_turn w.stand) + 5 * w.turns ≤ 5 * n.turns + since_turn n.stand
 
-turn_paid : (w n : Walking) → steps_at w.stand ≤ 4 → Turned w n → Paid w n
+turn_paid : (w n : Walking) → since_turn w.stand ≤ 4 → Turned w n → Paid w n
 turn_paid w n l t = record { pool = t.pool; slot = t.slot; first = t.first; cost = let a = t.turns in omega arith }
 
 -- an empty shortcut leads to the root
 short_paid : (w : Walking) (o : Option ℕ) → w.stand ≡ AtShort → Paid w (shortened w o)
-short_paid w None e = record { pool = refl; slot = refl; first = refl; cost = let a = ap steps_at e in omega arith }
-short_paid w (Some u) e = record { pool = refl; slot = refl; first = refl; cost = let a = ap steps_at e in omega arith }
+short_paid w None e = record { pool = refl; slot = refl; first = refl; cost = let a = ap since_turn e in omega arith }
+short_paid w (Some u) e = record { pool = refl; slot = refl; first = refl; cost = let a = ap since_turn e in omega arith }
 
 root_paid : (w : Walking) (o : Option ℕ) (t : ℕ) → w.stand ≡ AtRoot → o ≡ Some t → Paid w (rooted w o)
 root_paid w None t e q = absurd cc
-root_paid w (Some u) t e q = record { pool = refl; slot = refl; first = refl; cost = let a = ap steps_at e in omega arith }
+root_paid w (Some u) t e q = record { pool = refl; slot = refl; first = refl; cost = let a = ap since_turn e in omega arith }
 
 tag_paid : (w : Walking) (t : ℕ) (a : ℕ) (l : Option ℕ) → w.stand ≡ AtTag t → Paid w (followed w t (word a l))
 tag_paid w t a l e = go l (eqb a (age t))
   where
     go : (l : Option ℕ) (b : Bool) → Paid w (cond b (hops w t l) (turned w (next_start w.start) (begins (next_start w.start))))
-    go None true = record { pool = refl; slot = refl; first = refl; cost = let q = ap steps_at e in omega arith }
-    go (Some u) true = turn_paid w _ (let q = ap steps_at e in omega arith) (turned_by w w.start (OnLink t u))
-    go l false = turn_paid w _ (let q = ap steps_at e in omega arith) (turned_by w (next_start w.start) (begins (next_start w.start)))
+    go None true = record { pool = refl; slot = refl; first = refl; cost = let q = ap since_turn e in omega arith }
+    go (Some u) true = turn_paid w _ (let q = ap since_turn e in omega arith) (turned_by w w.start (OnLink t u))
+    go l false = turn_paid w _ (let q = ap since_turn e in omega arith) (turned_by w (next_start w.start) (begins (next_start w.start)))
 
 word_paid : (w : Walking) (t : ℕ) (n : Next) → w.stand ≡ AtTag t → Paid w (followed w t n)
 word_paid w t (word a l) e = tag_paid w t a l e
@@ -192,7 +185,7 @@ from_paid : (w : Walking) (x : ℕ) (at : Stand) → w.stand ≡ at → IsOnWay 
 from_paid w x AtShort e h r = short_paid w (root_of x) e
 from_paid w x AtRoot e h r = let q = r refl in root_paid w (root_of x) q.0 e q.1
 from_paid w x (AtTag t) e h r = word_paid w t (next_of x) e
-from_paid w x (OnLink t u) e h r = record { pool = refl; slot = refl; first = refl; cost = let q = ap steps_at e in omega arith }
+from_paid w x (OnLink t u) e h r = record { pool = refl; slot = refl; first = refl; cost = let q = ap since_turn e in omega arith }
 from_paid w x (OnTail t) e h r = absurd h
 from_paid w x Ended e h r = absurd h
 

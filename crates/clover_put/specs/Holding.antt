@@ -10,7 +10,7 @@ use Rattle.clover_rule.specs.Steps.{MayCall, MayReply}
 use Rattle.clover_rule.specs.Words.{content_at}
 use Rattle.clover_rule.specs.declared.access.Act.TheVariants.{Store}
 use Rattle.clover_rule.specs.declared.view.View.{View}
-use Rattle.clover_walk.specs.Walking.{Stand, AtShort as ToShort, AtRoot, AtTag, AtLink as OnLink, OnTail, Ended, IsOnWay, Holds}
+use Rattle.clover_walk.specs.Walking.{OnTail, IsOnWay, Holds, since_turn}
 use Rattle.clover_put.specs.declared.job.Job.{Job}
 use Rattle.clover_put.specs.declared.job.Job.TheVariants.{Put, Delete, Swap}
 use Rattle.clover_put.specs.Putting.{Putting, Stage, Storing, Flushing, Seeking, AtMeta, AtLink, AtDead, AtOther, AtBad, AtRaise, AtShort, Over, body, call_at, kind_of}
@@ -57,15 +57,6 @@ Looks AtShort c v = (c.walk.slot < c.walk.pool.slots) × Within (c.walk.slot, c.
 Looks Over c v = ⊥
 Looks _ c v = IsOnWay c.walk.stand
 
--- the most accesses of a turn so far, by where the walk stands: a shortcut, a root, a tag's next word
-abbrev pub steps_at : Stand → ℕ
-steps_at ToShort = 0
-steps_at AtRoot = 1
-steps_at (AtTag t) = 2
-steps_at (OnLink t u) = 0
-steps_at (OnTail t) = 3
-steps_at Ended = 0
-
 -- the accesses of the call at most: the stores and flushes, five for each turn, and those of the present turn
 abbrev pub behind_it : Putting → ℕ
 behind_it c = 2 * length (body c) + 5 * c.walk.turns
@@ -73,7 +64,7 @@ behind_it c = 2 * length (body c) + 5 * c.walk.turns
 abbrev pub most : Stage → Putting → ℕ
 most (Storing j) c = j
 most (Flushing j) c = length (body c) + j
-most Seeking c = behind_it c + steps_at c.walk.stand
+most Seeking c = behind_it c + since_turn c.walk.stand
 most (AtMeta u) c = behind_it c + 3
 most (AtLink u) c = behind_it c + 4
 most (AtDead u) c = behind_it c + 4

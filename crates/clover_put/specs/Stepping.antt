@@ -1,5 +1,5 @@
 -- What one step of a put promises.
-use Rattle.std.specs.Prelude.{◌≡◌, ℕ, ◌+◌, ◌*◌, ◌<◌, ◌≤◌, length, Option}
+use Rattle.std.specs.Prelude.{◌≡◌, ℕ, ◌<◌, ◌≤◌, length, Option}
 use Rattle.clover_words.specs.declared.pool.Pool.{Pool}
 use Rattle.clover_words.specs.Tag.{TagParts, tag_number}
 use Rattle.clover_map.specs.declared.call.Reply.TheVariants.{Absent, Differs}
@@ -9,7 +9,7 @@ use Rattle.clover_rule.specs.Lists.{Within}
 use Rattle.clover_rule.specs.declared.view.View.{View}
 use Rattle.clover_walk.specs.Ending.{Ended, Commits}
 use Rattle.clover_walk.specs.Turning.{Answers as WalkAnswers, OnAhead as WalkAhead, OnGoing as WalkGoing, IfAtTail, IfBehind as WalkBehind}
-use Rattle.clover_walk.specs.Walking.{Walking, Holds, budget}
+use Rattle.clover_walk.specs.Walking.{Walking, Holds, budget, most_accesses}
 use Rattle.clover_walk.specs.declared.turn.Turn.{Turn}
 use Rattle.clover_walk.specs.declared.turn.Turn.TheVariants.{More as WalkMore, AtTail, Behind as WalkBehindBy, Unreached as WalkUnreached}
 use Rattle.clover_put.specs.declared.job.Job.{Job}
@@ -19,10 +19,6 @@ use Rattle.clover_put.specs.declared.turn.PutTurn.TheVariants.{More, Behind, Unr
 use Rattle.clover_put.specs.Answering.{Answers, OnReached, OnRefused, OnGoing, OnAhead, IfDecided, IfEnded, IfAbsent, IfDiffers, IfBehind}
 use Rattle.clover_put.specs.Holding.{PutHolds}
 use Rattle.clover_put.specs.Putting.{Putting, put_step, put_on, call_at}
-
--- the most accesses of a call in a pool, after so many turns
-abbrev pub turn_bound : Pool → ℕ → ℕ
-turn_bound p turns = (turns + 1) * (p.words + 5) + 2 * p.words + 4
 
 -- a step of the call c of an actor with the view v, which left n and w: with the words and history told before and after, and the refusals counted
 pub record PutStep (p : Pool) (c : Putting) (v : View) (told : Option Open) (faults : ℕ) (n : Putting) (w : View) (told1 : Option Open) (faults1 : ℕ) (r : PutTurn) : Type 0 where
@@ -36,7 +32,7 @@ pub record PutStep (p : Pool) (c : Putting) (v : View) (told : Option Open) (fau
   pub ahead : OnAhead r (w.pass.turns < budget p)
   pub refused : OnRefused r (Rose faults faults1 × (w ≡ v) × (told1 ≡ told))
   pub stands : OnGoing r (PutHolds n w)
-  pub bound : OnReached r (length w.pass.since ≤ turn_bound p w.pass.turns)
+  pub bound : OnReached r (length w.pass.since ≤ most_accesses p w.pass.turns)
 
 -- what the walk's answer is for the call
 abbrev pub as_put : Turn → PutTurn

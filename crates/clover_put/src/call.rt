@@ -10,13 +10,13 @@ ghost use Rattle.clover_map.specs.declared.call.Reply.TheVariants.{Absent, Diffe
 ghost use Rattle.clover_port.specs.Told.{Made, Rose};
 ghost use Rattle.clover_walk.specs.Ending.{Ended, Commits};
 ghost use Rattle.clover_walk.specs.Turning.{Answers as WalkAnswers};
-ghost use Rattle.clover_walk.specs.Walking.{ShowsNext, goes_on, budget};
+ghost use Rattle.clover_walk.specs.Walking.{ShowsNext, goes_on, budget, most_accesses};
 ghost use Rattle.clover_walk.specs.declared.turn.Turn.{Turn as WalkTurn};
 ghost use Rattle.clover_put.specs.Putting.{Storing, Flushing, Seeking, AtMeta, AtLink, AtDead, AtOther, AtBad, AtRaise, AtShort, Over, made_put, put_step, put_on, call_at, body, body_word, at_tail, staged, filled, walked, after_store, after_flush, on_meta, on_value, kind_of};
 ghost use Rattle.clover_put.specs.Answering.{Answers, OnReached, OnRefused, OnGoing, OnAhead, IfDecided, IfEnded, IfAbsent, IfDiffers, IfBehind, ExactPut};
 ghost use Rattle.clover_put.specs.Holding.{PutHolds};
 ghost use Rattle.clover_put.specs.Standing.{standing};
-ghost use Rattle.clover_put.specs.Stepping.{PutStep, Went, as_put, done_with, turn_bound};
+ghost use Rattle.clover_put.specs.Stepping.{PutStep, Went, as_put, done_with};
 
 use crate::access::{
     flush_content, link_own, load_dead, load_other, store_content, store_short, unlinked_word,
@@ -148,7 +148,7 @@ impl PutCall {
         ensures refused { OnRefused result (Rose (P.faults port.old) (P.faults port.new) × (P.view port.new ≡ P.view port.old) × (P.told port.new ≡ P.told port.old)) }
         ensures exact { ExactPut (P.refuses port.old) result }
         ensures stands { OnGoing result (PutHolds self.new (P.view port.new)) }
-        ensures bound { OnReached result (length (P.view port.new).pass.since ≤ turn_bound self.old.walk.pool (P.view port.new).pass.turns) }
+        ensures bound { OnReached result (length (P.view port.new).pass.since ≤ most_accesses self.old.walk.pool (P.view port.new).pass.turns) }
         ensures same { (P.pool port.new ≡ P.pool port.old) × (P.table port.new ≡ P.table port.old) × (P.lender port.new ≡ P.lender port.old) }
         ensures accessed { P.accessed port.old port.new }
         ensures count { P.faults port.old ≤ P.faults port.new }

@@ -39,7 +39,7 @@ use Rattle.clover_sched.specs.Alone.{GetEnds, EndsIn, Advances}
 use Rattle.clover_sched.specs.Client.{Stands, Moved, Went, Matches, UnderMatches, IsUnder, IsCursor, AreCursors, SetsCursor, since_of, slot_of, spent, spent_by}
 use Rattle.clover_sched.specs.Ends.{end_tag}
 use Rattle.clover_sched.specs.Folds.{Doing}
-use Rattle.clover_sched.specs.Run.{Opening, IsCommit, lost, most_accesses}
+use Rattle.clover_sched.specs.Run.{Opening, IsCommit, lost, most_made}
 use Rattle.clover_sched.proofs.Advancing.{get_goes_on, get_answers, get_stays_ahead}
 use Rattle.clover_sched.proofs.Cursoring.{KnowsMore, knows_more, cursors_kept, cursors_set}
 use Rattle.clover_sched.proofs.Lefts.{get_few}
@@ -185,8 +185,8 @@ module _ (o : Opening) (i : ℕ) (p : Plain) (x : ClientState) (g : Getting) (in
   since = ap (λ (u : Underway). since_of u (view_at p i)) is
 
   -- the get has made fewer accesses than a call makes at most
-  fewer : (d : Doing) → Matches x (view_at p i) d → length d.since < most_accesses o.setup.pool
-  fewer d m = subst (λ (l : List Act). length l < most_accesses o.setup.pool) (sym (doing d m).2) (get_few o.setup.pool g (view_at p i) into under.1 under.2)
+  fewer : (d : Doing) → Matches x (view_at p i) d → length d.since < most_made o.setup.pool
+  fewer d m = subst (λ (l : List Act). length l < most_made o.setup.pool) (sym (doing d m).2) (get_few o.setup.pool g (view_at p i) into under.1 under.2)
 
   below : i < length p.views
   below = let a = s.seats in let b = s.seat in omega arith

@@ -31,7 +31,7 @@ use Rattle.clover_sched.specs.Client.{Stands, Matches, Went, Begins, IsUnder, sp
 use Rattle.clover_sched.specs.Folds.{accesses_in, doing}
 use Rattle.clover_sched.specs.Machine.{Parts, IsAt, IsBehind, IsSame, IsBusy, IsFitting, HasCall, MayCome, left, left_of, left_by}
 use Rattle.clover_sched.specs.Record.{Record}
-use Rattle.clover_sched.specs.Run.{Opening, most_accesses}
+use Rattle.clover_sched.specs.Run.{Opening, most_made}
 use Rattle.clover_sched.specs.declared.client.ClientState.{ClientState}
 use Rattle.clover_sched.specs.declared.client.Underway.{Underway}
 use Rattle.clover_sched.specs.declared.client.Underway.TheVariants.{Nothing, Get, Write, Raise}
@@ -195,7 +195,7 @@ step_less m p a x y q r same one here went b busy fits = IfOk-weaker r (GoesOn m
     let i = a - 1 in
     let s = (b.2.each i x here).stands in
     let go = w b.0 i (omega arith) s in
-    let few : length (since_of x.under (view_at m.pool i)) < most_accesses m.setup.pool = since_few m.setup.pool x.under (view_at m.pool i) (subst (λ (z : Setup). IsUnder z.pool (view_at m.pool i) x.under) (sym b.2.setup) s.under) fits in
+    let few : length (since_of x.under (view_at m.pool i)) < most_made m.setup.pool = since_few m.setup.pool x.under (view_at m.pool i) (subst (λ (z : Setup). IsUnder z.pool (view_at m.pool i) x.under) (sym b.2.setup) s.under) fits in
     let less : left_by m.setup.pool y.under (view_at q i) < left_by m.setup.pool x.under (view_at m.pool i) = left_less m.setup.pool x.under y.under (view_at m.pool i) (view_at q i) busy few go.longer in
     let new : left (with_pool m i y q) a ≡ left_by m.setup.pool y.under (view_at q i) = ap (left_of (with_pool m i y q) i) (set_here m.clients i y x here) in
     let old : left m a ≡ left_by m.setup.pool x.under (view_at m.pool i) = ap (left_of m i) here in

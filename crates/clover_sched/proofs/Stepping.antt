@@ -20,7 +20,7 @@ use Rattle.clover_sched.specs.declared.event.Note.{Note}
 use Rattle.clover_sched.specs.Alone.{EndsIn}
 use Rattle.clover_sched.specs.Client.{stock_at, Stands, Moved, Went, Matches, IsUnder, AreCursors, since_of, step_record}
 use Rattle.clover_sched.specs.Folds.{Doing, listed, words_by, made_by}
-use Rattle.clover_sched.specs.Run.{Opening, IsStep, IsEntry, IsCause, Wrote, most_accesses}
+use Rattle.clover_sched.specs.Run.{Opening, IsStep, IsEntry, IsCause, Wrote, most_made}
 use Rattle.clover_sched.proofs.Moving.{MadeSo, RefusedSo, IsNoLink, names_kept, stock_kept}
 
 -- a call under way is none at rest
@@ -98,7 +98,7 @@ own_more h e c is =
 
 module _ (o : Opening) (i : ℕ) (d : Doing) (ws : List ℕ) (n : ℕ) (t : Task) (task : d.task ≡ Some t) (act : Act) where
   -- an access that was made is a step
-  pub made_step : (e : Option Entry) (note : Note) → d.refusing ≡ false → CameBack o.setup.pool ws act → length d.since < most_accesses o.setup.pool → IfSome e (IsEntry o (suc i) d ws n (step_record i (access i act false) e note))
+  pub made_step : (e : Option Entry) (note : Note) → d.refusing ≡ false → CameBack o.setup.pool ws act → length d.since < most_made o.setup.pool → IfSome e (IsEntry o (suc i) d ws n (step_record i (access i act false) e note))
       → (Wrote act → IsSome e) → IsCause o (suc i) d e act note → IsStep o (suc i) d ws n (step_record i (access i act false) e note)
   made_step e note free came fewer entry commits cause = record {
     idle = λ q. absurd (task_there d.task t task q);

@@ -51,7 +51,7 @@ use Rattle.clover_sched.specs.Alone.{PutEnds, EndsIn, Advances}
 use Rattle.clover_sched.specs.Client.{Stands, Moved, Matches, UnderMatches, Went, IsUnder, HasLinked, IsCursor, AreCursors, SetsCursor, stock_at, step_record, since_of, slot_of, spent_by}
 use Rattle.clover_sched.specs.Folds.{Doing}
 use Rattle.clover_sched.specs.Ends.{end_tag}
-use Rattle.clover_sched.specs.Run.{Opening, IsStep, IsCause, IsAnswer, IsCommit, Flushes, Shortens, EndsCommit, lost, most_accesses}
+use Rattle.clover_sched.specs.Run.{Opening, IsStep, IsCause, IsAnswer, IsCommit, Flushes, Shortens, EndsCommit, lost, most_made}
 use Rattle.clover_sched.specs.Writing.{PutAccess, next_entry}
 use Rattle.clover_sched.proofs.Advancing.{put_goes_on, put_commits, put_answers, put_stays_ahead}
 use Rattle.clover_sched.proofs.Cursoring.{KnowsMore, knows_more, cursors_kept, cursors_set}
@@ -170,7 +170,7 @@ module _ (o : Opening) (i : ℕ) (x : ClientState) (c n : Putting) (p q : Plain)
     stands : (u : Underway) (k : Known) → IsUnder o.setup.pool w0 u → AreCursors o.setup.pool w0 k → Stands o q i (record x { under = u; refusing = false; cursors = k })
     stands u k h cursors = stands_moved o i x (record x { under = u; refusing = false; cursors = k }) p q _ None st moved made_it.pool role names stock (number_same x.number (suc i) p.entries q.entries st.number moved.entries) h cursors
 
-    step : (d : Doing) (call : Call) (m : ℕ) (note : Note) → d.task ≡ Some (ClientTask call m) → d.since ≡ cond c.walk.first [] v0.pass.since → length w0.pass.since ≤ most_accesses p.setup.pool → x.refusing ≡ d.refusing → x.refusing ≡ false → IsCause o (suc i) d None (act_of (put_step c v0) made.0) note
+    step : (d : Doing) (call : Call) (m : ℕ) (note : Note) → d.task ≡ Some (ClientTask call m) → d.since ≡ cond c.walk.first [] v0.pass.since → length w0.pass.since ≤ most_made p.setup.pool → x.refusing ≡ d.refusing → x.refusing ≡ false → IsCause o (suc i) d None (act_of (put_step c v0) made.0) note
         → IsStep o (suc i) d p.words (length (own p.entries (suc i))) (step_record i (access i (act_of (put_step c v0) made.0) false) None note)
     step d call m note task since most refusing going cause =
         made_step o i d p.words (length (own p.entries (suc i))) (ClientTask call m) task (act_of (put_step c v0) made.0) None note (sym refusing ∙ going) (subst (λ (z : Setup). CameBack z.pool p.words (act_of (put_step c v0) made.0)) st.setup made_it.came) (fewer_before p.setup o.setup d.since w0.pass.since _ st.setup (made_it.since ∙ ap (λ (l : List Act). l ++ act_of (put_step c v0) made.0 ∷ []) (sym since)) most) tt (λ h. absurd (quiet_writes c v0 made.0 miss h)) cause
@@ -329,7 +329,7 @@ module _ (o : Opening) (i : ℕ) (x : ClientState) (c n : Putting) (call : Call)
       stands2 : (y : ClientState) → y.number ≡ suc x.number → (view_at z i).pass.stock ≡ stock_at o.setup (suc i) y.taken → IsUnder o.setup.pool (view_at z i) y.under → AreCursors o.setup.pool (view_at z i) y.cursors → Stands o z i y
       stands2 y number stock h cursors = stands_moved o i x y p z _ (Some entry) st moved2 (ap (λ (s : View). s.pass.pool) view2 ∙ (stepped p.setup.pool a false v _ found w _ made).pool) role2 names2 stock (number ∙ number_more x.number (suc i) p.entries z.entries entry st.number (sym seat) moved2.entries) h cursors
 
-      step2 : (d : Doing) (note : Note) → Matches x v d → length w.pass.since ≤ most_accesses p.setup.pool → x.refusing ≡ false → IsCause o (suc i) d (Some entry) (act_of a found) note
+      step2 : (d : Doing) (note : Note) → Matches x v d → length w.pass.since ≤ most_made p.setup.pool → x.refusing ≡ false → IsCause o (suc i) d (Some entry) (act_of a found) note
           → IsStep o (suc i) d p.words (length (own p.entries (suc i))) (step_record i (access i (act_of a found) false) (Some entry) note)
       step2 d note m most going cause =
           let u : UnderMatches (Write c call) v d = subst (λ (y : Underway). UnderMatches y v d) is m.under in
@@ -367,7 +367,7 @@ module _ (o : Opening) (i : ℕ) (x : ClientState) (c n : Putting) (call : Call)
     pub last_enters : (history q ≡ q.entries ++ next_entry k x.number call r ∷ []) × (q.opened ≡ true)
     last_enters = (to_enter last (unlinked ended.tag) r ended.made acc later last_adds ended.made.now.words last_words ended.decides, open_still last (unlinked ended.tag) r ended.made acc later last_adds ended.made.now.words last_words ended.decides)
 
-    pub went_answered : (z : Plain) → z.entries ≡ q.entries ++ next_entry k x.number call r ∷ [] → KeptButEntries q z → length w.pass.since ≤ most_accesses p.setup.pool → x.refusing ≡ false
+    pub went_answered : (z : Plain) → z.entries ≡ q.entries ++ next_entry k x.number call r ∷ [] → KeptButEntries q z → length w.pass.since ≤ most_made p.setup.pool → x.refusing ≡ false
         → (made : (a : ℕ) × Made p.setup.pool (put_step c v) c.walk.first v (Some (open_of p)) a w (Some (open_of q)) × (n ≡ put_on c a)) → n.stage ≡ Over
         → (known : Known) (t : TagParts) → end_tag r (act_of (put_step c v) made.0) ≡ tag_number t → InRange c.walk.pool (tag_number t) × Within (c.walk.slot, tag_number t) w.pass.durable → IsSet c.walk.slot t x.cursors known
         → Went o i x (answered x known) p z (Answered k r)
@@ -536,7 +536,7 @@ module _ (o : Opening) (i : ℕ) (x : ClientState) (c n : Putting) (p q : Plain)
   spends = subst (λ (u : Underway). x.taken ≤ spent_by u x.taken) (sym is) (omega arith)
 
   -- an access that was made
-  module _ (m : (a : ℕ) × Made p.setup.pool (put_step c v5) c.walk.first v5 (Some (open_of p)) a w5 (Some (open_of q)) × (n ≡ put_on c a)) (acc : Accessed i true p q) (most : length w5.pass.since ≤ most_accesses p.setup.pool) (going : x.refusing ≡ false) where
+  module _ (m : (a : ℕ) × Made p.setup.pool (put_step c v5) c.walk.first v5 (Some (open_of p)) a w5 (Some (open_of q)) × (n ≡ put_on c a)) (acc : Accessed i true p q) (most : length w5.pass.since ≤ most_made p.setup.pool) (going : x.refusing ≡ false) where
     -- the raise of its link
     module _ (u : ℕ) (at : c.stage ≡ AtRaise u) (after : n ≡ staged c AtShort) where
       abbrev raise : Act

@@ -29,7 +29,7 @@ use Rattle.clover_sched.specs.Client.{Stands, Matches, IsTask, spent, since_of}
 use Rattle.clover_sched.specs.Ends.{ended, IsLatest}
 use Rattle.clover_sched.specs.Folds.{entries_in, accesses_in, words_after, made_in, doing, along}
 use Rattle.clover_sched.specs.Record.{Record}
-use Rattle.clover_sched.specs.Run.{Opening, IsRun, most_accesses}
+use Rattle.clover_sched.specs.Run.{Opening, IsRun, most_made}
 
 pub record Parts : Type 0 where
   pub setup : Setup
@@ -118,7 +118,7 @@ pub record IsSame (m n : Parts) : Type 0 where
 -- how many accesses a call may still make
 abbrev pub left_by : Pool → Underway → View → ℕ
 left_by p Nothing v = 0
-left_by p under v = most_accesses p - length (since_of under v)
+left_by p under v = most_made p - length (since_of under v)
 
 -- how many accesses the actor's call may still make
 abbrev pub left_of : Parts → ℕ → Option ClientState → ℕ

@@ -1,6 +1,6 @@
 -- What a run is: a list of records of which each follows those before it.
 use Prim.Native.Nat.{suc}
-use Rattle.std.specs.Prelude.{◌≡◌, ℕ, ◌+◌, ◌*◌, ◌<◌, ltb, List, [], ◌∷◌, ◌++◌, length, Bool, true, false, if◌then◌else◌, Option, Some, None, IfSome, IsSome}
+use Rattle.std.specs.Prelude.{◌≡◌, ℕ, ◌*◌, ◌<◌, ltb, List, [], ◌∷◌, ◌++◌, length, Bool, true, false, if◌then◌else◌, Option, Some, None, IfSome, IsSome}
 use Rattle.clover_words.specs.declared.pool.Pool.{Pool}
 use Rattle.clover_words.specs.declared.setup.Setup.{Setup}
 use Rattle.clover_words.specs.declared.word.Word.TheVariants.{Next as NextOf, Short}
@@ -21,6 +21,7 @@ use Rattle.clover_rule.specs.declared.access.Access.{Access}
 use Rattle.clover_rule.specs.declared.access.Act.{Act}
 use Rattle.clover_rule.specs.declared.access.Act.TheVariants.{Load, Store, Exchange, Raise}
 use Rattle.clover_rule.specs.declared.access.Actor.TheVariants.{Client}
+use Rattle.clover_walk.specs.Walking.{budget, most_accesses}
 use Rattle.clover_sched.specs.declared.event.CallRefusal.{CallRefusal}
 use Rattle.clover_sched.specs.declared.event.CallRefusal.TheVariants.{Unreached, Linked, Behind, TooLong}
 use Rattle.clover_sched.specs.declared.event.Event.{Event}
@@ -129,12 +130,12 @@ IsAnswer o d (Some e) act r = (IsCommit r ≡ false) × (e.reply ≡ r)
 abbrev pub IsCause : Opening → ℕ → Doing → Option Entry → Act → Note → Type 0
 IsCause o a d e act Quiet = IfSome e (λ (x : Entry). IsCommit x.reply ≡ true) × (Shortens act → ⊥)
 IsCause o a d e act (Answered c r) = (c ≡ a) × IsAnswer o d e act r
-IsCause o a d e act (Refused c (Behind n)) = (c ≡ a) × (n ≡ o.setup.pool.nodes * o.setup.pool.buffers + 2) × (e ≡ None) × (Shortens act → ⊥)
+IsCause o a d e act (Refused c (Behind n)) = (c ≡ a) × (n ≡ budget o.setup.pool) × (e ≡ None) × (Shortens act → ⊥)
 IsCause o a d e act note = ⊥
 
--- the most accesses of one call: with as many turns as the pool has buffers, and two, at most five and the value words for each turn and one time more, and the stores, the flushes and the last two accesses of a call that writes
-abbrev pub most_accesses : Pool → ℕ
-most_accesses p = (p.nodes * p.buffers + 3) * (p.words + 5) + 2 * p.words + 4
+-- the most accesses of one call, which ends once its turns reach the budget
+abbrev pub most_made : Pool → ℕ
+most_made p = most_accesses p (budget p)
 
 -- A step: an actor without a task does nothing; one with a task makes one access, no more than a call makes at most, and no exchange writes but a commit's.
 pub record IsStep (o : Opening) (a : ℕ) (d : Doing) (ws : List ℕ) (n : ℕ) (r : Record) : Type 0 where
@@ -142,7 +143,7 @@ pub record IsStep (o : Opening) (a : ℕ) (d : Doing) (ws : List ℕ) (n : ℕ) 
   pub one : (t : Task) → d.task ≡ Some t → IsSome r.access
   pub access : IfSome r.access (IsAccess o.setup.pool a d ws)
   pub entry : IfSome r.entry (IsEntry o a d ws n r)
-  pub few : (x : Access) → r.access ≡ Some x → x.refused ≡ false → length d.since < most_accesses o.setup.pool
+  pub few : (x : Access) → r.access ≡ Some x → x.refused ≡ false → length d.since < most_made o.setup.pool
   pub commits : (x : Access) → r.access ≡ Some x → x.refused ≡ false → Wrote x.act → IsSome r.entry
   pub unreached : (x : Access) → r.access ≡ Some x → x.refused ≡ true → (r.entry ≡ None) × (r.note ≡ Refused a (lost d.decided))
   pub cause : (x : Access) → r.access ≡ Some x → x.refused ≡ false → IsCause o a d r.entry x.act r.note

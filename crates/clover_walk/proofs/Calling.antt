@@ -1,12 +1,12 @@
--- For the calls above: a walk that was just made stands on what its client knows.
-use Rattle.std.proofs.Common.{◌≡◌, ℕ, List, [], ◌∷◌, Bool, true, false, cond, eqb, refl, ap, arith, ◌⊎◌, inl, inr, eq-eqb, eqb-true}
+-- For the calls above: a walk that was just made stands on what its client knows, and how many accesses it makes in a turn.
+use Rattle.std.proofs.Common.{◌≡◌, ◌≤◌, ℕ, List, [], ◌∷◌, Bool, true, false, cond, eqb, refl, ap, arith, ◌⊎◌, inl, inr, eq-eqb, eqb-true}
 use Rattle.std.specs.Prelude.{Option, Some, None}
 use Rattle.clover_words.specs.declared.pool.Pool.{Pool}
 use Rattle.clover_rule.specs.Lists.{Within}
 use Rattle.clover_rule.specs.Steps.{client}
 use Rattle.clover_rule.specs.declared.view.Role.TheVariants.{Client}
 use Rattle.clover_rule.specs.declared.view.View.{View}
-use Rattle.clover_walk.specs.Walking.{Holds, made_walk, key_at}
+use Rattle.clover_walk.specs.Walking.{Stand, AtShort, AtRoot, AtTag, AtLink, OnTail, Ended, Holds, made_walk, key_at, since_turn}
 
 -- the first name of a slot is a name of it
 named_first : (s : ℕ) (k : List ℕ) (names : List (ℕ × List ℕ)) → Within (s, k) names → Within (s, key_at names s) names
@@ -27,3 +27,12 @@ IsCursor s (Some t) v = Within (s, t) v.pass.durable
 pub made_holds : (p : Pool) (s : ℕ) (k : List ℕ) (o : Option ℕ) (v : View) → v.pass.pool ≡ p → v.pass.role ≡ Client (client v) → Within (s, k) v.pass.names → IsCursor s o v → Holds (made_walk p s o) v
 made_holds p s k None v e c n d = record { pool = e; client = c; named = named_first s k v.pass.names n; stand = d; turns = refl; below = omega arith }
 made_holds p s k (Some t) v e c n d = record { pool = e; client = c; named = named_first s k v.pass.names n; stand = d; turns = refl; below = omega arith }
+
+-- a walk makes at most three accesses in a turn
+pub since_few : (at : Stand) → since_turn at ≤ 3
+since_few AtShort = omega arith
+since_few AtRoot = omega arith
+since_few (AtTag t) = omega arith
+since_few (AtLink t u) = omega arith
+since_few (OnTail t) = omega arith
+since_few Ended = omega arith

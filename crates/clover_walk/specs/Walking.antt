@@ -35,6 +35,10 @@ pub record Walking : Type 0 where
 abbrev pub budget : Pool → ℕ
 budget p = p.nodes * p.buffers + 2
 
+-- the most accesses of a call with so many turns: five and the value words for each turn and once more, and the stores, the flushes and the last accesses of a call that writes
+abbrev pub most_accesses : Pool → ℕ → ℕ
+most_accesses p turns = (turns + 1) * (p.words + 5) + 2 * p.words + 4
+
 -- where a walk stands that begins anew, which none does at a cursor, and where it begins after this start was stale
 abbrev pub begins : Start → Stand
 begins FromCursor = AtShort
@@ -97,6 +101,15 @@ followed w t (word a l) = cond (eqb a (age t)) (hops w t l) (turned w (next_star
 abbrev pub shortened : Walking → Option ℕ → Walking
 shortened w None = record w { first = false; start = FromRoot; stand = AtRoot }
 shortened w (Some t) = placed w (AtTag t)
+
+-- the most accesses of a call since its last turn, where the walk stands: a raise, or the loads of a shortcut and of a root; the load that showed the tail
+abbrev pub since_turn : Stand → ℕ
+since_turn AtShort = 0
+since_turn AtRoot = 1
+since_turn (AtTag t) = 2
+since_turn (AtLink t u) = 0
+since_turn (OnTail t) = 3
+since_turn Ended = 0
 
 -- how a root leads on
 abbrev pub rooted : Walking → Option ℕ → Walking
