@@ -37,6 +37,7 @@ module _ (o : Opening) (lines : List Line) (t : Bool) where
     legal = x.at.legal;
     numbered = run_numbered o x.more x.at.run;
     whole = legal_committed (entries_in x.more) x.at.legal;
+    found = x.at.found;
     alone = x.at.alone.all;
     printed = refl;
   }

@@ -11,7 +11,7 @@ use Rattle.clover_map.specs.declared.call.Reply.TheVariants.{Stored, Found}
 use Rattle.clover_script.specs.declared.line.Line.{Line}
 use Rattle.clover_rule.specs.Accesses.{Replays}
 use Rattle.clover_rule.specs.Lists.{Within}
-use Rattle.clover_sched.specs.Alone.{AllAlone}
+use Rattle.clover_sched.specs.Alone.{AllFound, AllAlone}
 use Rattle.clover_sched.specs.Folds.{accesses_in, entries_in}
 use Rattle.clover_sched.specs.Lines.{Covers}
 use Rattle.clover_sched.specs.Record.{Record}
@@ -42,6 +42,7 @@ pub record IsPerformed (o : Opening) (lines : List Line) (t : Bool) (out : List 
   pub legal : Legal empty [] (entries_in records)
   pub numbered : IsNumberedByClient (entries_in records)
   pub whole : AllCommitted (entries_in records)
+  pub found : AllFound o records
   pub alone : AllAlone o records
   pub printed : out ≡ text t records
 

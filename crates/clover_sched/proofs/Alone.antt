@@ -4,13 +4,13 @@ use Rattle.std.proofs.Common.{◌≡◌, ◌≢◌, ℕ, ◌+◌, ◌<◌, List,
 use Rattle.std.specs.Prelude.{Some, None}
 use Rattle.clover_map.specs.History.{key_of}
 use Rattle.clover_map.specs.declared.call.Call.{Call}
-use Rattle.clover_rule.specs.Lists.{Each, nth}
+use Rattle.clover_rule.specs.Lists.{Each, nth, Within}
 use Rattle.clover_rule.specs.Words.{mem_of}
 use Rattle.clover_rule.proofs.Tools.{nth_snoc, nth_within}
 use Rattle.clover_walk.specs.Alone.{way_from, LeadsOver, HasVersion}
 use Rattle.clover_sched.specs.declared.client.ClientState.{ClientState}
 use Rattle.clover_sched.specs.declared.event.Note.TheVariants.{Quiet}
-use Rattle.clover_sched.specs.Alone.{OpensCall, IsOwnStep, Finds, RunsAlone, cost_of, IsAnswered, IsAnsweredAt, AllAlone, EndsIn, NotesWith, AloneSoFar}
+use Rattle.clover_sched.specs.Alone.{AllFound, HasChain, OpensCall, IsOwnStep, Finds, RunsAlone, cost_of, IsAnswered, IsAnsweredAt, AllAlone, EndsIn, NotesWith, AloneSoFar}
 use Rattle.clover_sched.specs.Ends.{ended, MayBegin}
 use Rattle.clover_sched.specs.Folds.{words_after}
 use Rattle.clover_sched.specs.Record.{Record}
@@ -174,6 +174,19 @@ module _ (o : Opening) (rs : List Record) (r : Record) where
       -- one record more: each call that ran alone up to it and makes it, or begins by it, is answered at its cost, and will be
       pub alone_more : AloneSoFar o ws clients (rs ++ r ∷ [])
       alone_more = record { all = more; underway = λ x now i y seat here. underway x now i y seat here (split x) }
+
+-- a slot's chain behind one record more
+pub all_found_more : (o : Opening) (rs : List Record) (r : Record) → AllFound o rs
+    → ((call : Call) (slot : ℕ) → Within (slot, key_of call) o.names → HasChain o.setup.pool (words_after o.setup.pool o.words (rs ++ r ∷ [])) slot) → AllFound o (rs ++ r ∷ [])
+all_found_more o rs r all now before after call slot whole named = go (ending after)
+  where
+    go : (after ≡ []) ⊎ ((ys : List Record) × (y : Record) × (after ≡ ys ++ y ∷ [])) → HasChain o.setup.pool (words_after o.setup.pool o.words before) slot
+    go (inl e) =
+        let here : rs ++ r ∷ [] ≡ before = whole ∙ ap (λ (l : List Record). before ++ l) e ∙ append-nil before in
+        subst (λ (l : List Record). HasChain o.setup.pool (words_after o.setup.pool o.words l) slot) here (now call slot named)
+    go (inr (ys, y, e)) =
+        let there : rs ++ r ∷ [] ≡ (before ++ ys) ++ y ∷ [] = whole ∙ ap (λ (l : List Record). before ++ l) e ∙ sym (append_assoc before ys (y ∷ [])) in
+        all before ys call slot (same_snoc rs (before ++ ys) r y there).0 named
 
 -- nothing has run alone before the first record
 none_before : (o : Opening) → RunsAlone o [] → ⊥

@@ -42,7 +42,7 @@ use Rattle.clover_walk.specs.declared.start.Start.TheVariants.{FromCursor, FromS
 use Rattle.clover_walk.proofs.Alone.{content_words}
 use Rattle.clover_sched.specs.declared.client.ClientState.{ClientState}
 use Rattle.clover_sched.specs.declared.client.Underway.{Underway}
-use Rattle.clover_sched.specs.Alone.{EndsIn, Finds, cost_of}
+use Rattle.clover_sched.specs.Alone.{EndsIn, Finds, HasChain, cost_of}
 use Rattle.clover_sched.specs.Beginning.{IsBegun}
 use Rattle.clover_sched.specs.Client.{Stands, IsCursor, size_of}
 use Rattle.clover_sched.specs.Ends.{ended, MayBegin}
@@ -238,6 +238,12 @@ module _ (o : Opening) (rs : List Record) (p : Plain) (i : ℕ) (x : ClientState
       let first = stock_first o.setup (suc i) x.taken d in
       let own = (subst (Each (Owned (mem_of o.setup.pool ws) story i)) (st.stock ∙ first.1) view_ok.stocked).0 in
       each_map {P = λ (t : ℕ). story.place (home t) ≡ Chained slot} {Q = λ (t : ℕ). home t ≢ home own_tag} (λ t c e. let k : Chained slot ≡ Stocked i = sym c ∙ ap story.place e ∙ own.0 in absurd cc) (here.onward.tags ++ here.onward.tail ∷ []) here.onward.placed
+
+  -- the slot's chain from its root
+  pub chain_here : HasChain o.setup.pool ws slot
+  chain_here =
+      let f = from_root o.setup.pool finite.empty [] ws p.views story (history p) met slot (key_of call) has_key in
+      record { tags = f.tags; tail = f.tail; leads = f.leads; version = f.version; has = f.has }
 
   module _ (may : MayBegin (ended (suc i) rs) (key_of call) known) where
     abbrev finds_here : Finds o (suc i) rs call

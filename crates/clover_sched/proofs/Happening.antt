@@ -133,6 +133,7 @@ kept_at o m n rs same at =
       };
       far = at.far;
       legal = at.legal;
+      found = at.found;
       alone = subst (λ (ws : List ℕ). AloneSoFar o ws n.clients rs) (sym k.words) (subst (λ (cs : List ClientState). AloneSoFar o m.pool.words cs rs) (sym same.clients) at.alone);
     }
   where

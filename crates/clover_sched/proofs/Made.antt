@@ -1,6 +1,6 @@
 -- The machine as it is made: the preset pool, and clients that have done nothing.
-use Rattle.std.proofs.Common.{◌≡◌, ℕ, ◌≤◌, ◌<◌, ◌-◌, suc, length, List, [], Bool, true, false, replicate, refl, sym, ap, ◌∙◌, subst, arith}
-use Rattle.std.specs.Prelude.{Some, slice_get, if◌then◌else◌}
+use Rattle.std.proofs.Common.{◌≡◌, ℕ, ◌≤◌, ◌<◌, ◌-◌, suc, length, List, [], ◌∷◌, ◌++◌, Bool, true, false, replicate, refl, sym, ap, ◌∙◌, subst, arith}
+use Rattle.std.specs.Prelude.{Some, None, slice_get, if◌then◌else◌}
 use Rattle.std.proofs.lemmas.List.Elements.{All-nil}
 use Rattle.std.proofs.lemmas.List.{length-replicate}
 use Rattle.clover_words.specs.Preset.{buffers_total}
@@ -12,14 +12,18 @@ use Rattle.clover_rule.specs.Preset.{bindings_from}
 use Rattle.clover_rule.specs.declared.access.Access.{Access}
 use Rattle.clover_rule.specs.declared.view.View.{View}
 use Rattle.clover_rule.proofs.Tools.{nth_within}
-use Rattle.clover_plain.specs.Plain.{Plain, view_at, history, outset}
+use Rattle.clover_plain.specs.Plain.{Plain, Running, view_at, history, outset}
 use Rattle.clover_plain.specs.Preset.{IsPreset, start_view, dealt_from, AreDistinct}
 use Rattle.clover_plain.proofs.Stepping.{nth_default}
+use Rattle.clover_sched.specs.Alone.{AllFound, HasChain}
+use Rattle.clover_sched.specs.Folds.{words_after}
+use Rattle.clover_sched.specs.Record.{Record}
 use Rattle.clover_sched.specs.Client.{Stands, IsCursor, idle_client}
 use Rattle.clover_sched.specs.Machine.{Parts, IsAt, IsClientAt, IsOpening}
 use Rattle.clover_sched.specs.Run.{Opening}
 use Rattle.clover_sched.specs.declared.client.ClientState.{ClientState}
 use Rattle.clover_sched.proofs.Alone.{alone_first}
+use Rattle.clover_sched.proofs.Finding.{chain_here}
 use Rattle.clover_sched.proofs.Places.{nth_get, nth_replicate}
 use Rattle.clover_sched.proofs.Remembering.{remembers_none}
 
@@ -48,9 +52,9 @@ pub is_opening : (s : Setup) (keys : List (List ℕ)) (p : Plain) → IsFresh s 
 unfolding opening
 is_opening s keys p fresh = record { setup = refl; names = refl; words = fresh.preset }
 
-pub made_at : (m : Parts) (s : Setup) (keys : List (List ℕ)) → m.setup ≡ s → m.names ≡ keys → length keys ≤ s.pool.slots → AreDistinct keys → IsFresh s keys m.pool → m.clients ≡ replicate s.clients idle_client → IsAt (opening s keys m.pool) m []
+pub made_at : (m : Parts) (s : Setup) (keys : List (List ℕ)) → m.setup ≡ s → m.names ≡ keys → length keys ≤ s.pool.slots → AreDistinct keys → (m.pool.opened ≡ true → Running m.pool) → IsFresh s keys m.pool → m.clients ≡ replicate s.clients idle_client → IsAt (opening s keys m.pool) m []
 unfolding opening
-made_at m s keys setup names slots apart fresh clients = record {
+made_at m s keys setup names slots apart running fresh clients = record {
   run = tt;
   setup = setup;
   names = ap (bindings_from 0) (sym names);
@@ -72,6 +76,7 @@ made_at m s keys setup names slots apart fresh clients = record {
   each = λ i x here. each i x (subst (λ (l : List ClientState). nth l i ≡ Some x) clients here);
   far = λ a above. refl;
   legal = tt;
+  found = found;
   alone = alone_first (record { setup = s; words = m.pool.words; names = bindings_from 0 keys }) m.pool.words m.clients;
 }
   where
@@ -100,6 +105,17 @@ made_at m s keys setup names slots apart fresh clients = record {
       where
         whole : (n : ℕ) → n ≡ n - 0
         whole n = omega arith
+
+    found : AllFound (record { setup = s; words = m.pool.words; names = bindings_from 0 keys }) []
+    found before after call slot whole named =
+        let some = s.some_client in
+        let none : [] ≡ before = nothing before after whole in
+        subst (λ (l : List Record). HasChain s.pool (words_after s.pool m.pool.words l) slot) none
+        (chain_here (record { setup = s; words = m.pool.words; names = bindings_from 0 keys }) [] m.pool 0 idle_client (stands 0 (omega arith)) (running fresh.opened) refl call slot named None tt)
+      where
+        nothing : (xs ys : List Record) → [] ≡ xs ++ ys → [] ≡ xs
+        nothing [] ys e = refl
+        nothing (x ∷ xs) ys e = absurd (let q : 0 ≡ suc (length (xs ++ ys)) = ap length e in omega arith)
 
     each : (i : ℕ) (x : ClientState) → nth (replicate s.clients idle_client) i ≡ Some x → IsClientAt (record { setup = s; words = m.pool.words; names = bindings_from 0 keys }) m.pool i x []
     each i x here = subst (λ (y : ClientState). IsClientAt (record { setup = s; words = m.pool.words; names = bindings_from 0 keys }) m.pool i y []) (sym (nth_replicate s.clients i idle_client x here)) (record {

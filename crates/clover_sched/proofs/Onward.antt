@@ -25,7 +25,7 @@ use Rattle.clover_cache.specs.Node.{Known, cursor_at, asked as asked_for}
 use Rattle.clover_script.specs.Form.{call_in}
 use Rattle.clover_script.specs.declared.line.Task.{Task}
 use Rattle.clover_script.specs.declared.line.Task.TheVariants.{Client as ClientTask}
-use Rattle.clover_sched.specs.Alone.{OpensCall, IsOwnStep, Finds, RunsAlone, cost_of, EndsIn, NotesWith, AloneSoFar}
+use Rattle.clover_sched.specs.Alone.{OpensCall, IsOwnStep, Finds, RunsAlone, cost_of, EndsIn, NotesWith, AloneSoFar, AllFound, HasChain}
 use Rattle.clover_sched.specs.Client.{Stands, AreCursors, Matches, UnderMatches, Moved, Went, Starts, Begins, IsUnder, spent, slot_of, step_record}
 use Rattle.clover_sched.specs.Ends.{ended, MayBegin}
 use Rattle.clover_sched.specs.Folds.{listed, accesses_in, entries_in, words_by, words_after, made_by, made_in, Doing, actor_of, does, doing}
@@ -40,8 +40,8 @@ use Rattle.clover_sched.specs.declared.event.Event.TheVariants.{Begin, Step, Ref
 use Rattle.clover_sched.specs.declared.event.Note.{Note}
 use Rattle.clover_sched.specs.declared.event.Note.TheVariants.{Quiet, Busy, Missing}
 use Rattle.clover_sched.proofs.Pasts.{accesses_more, entries_more, words_more, made_more, goes_more, doing_own, doing_other, asked_least, asked_own, ended_more}
-use Rattle.clover_sched.proofs.Finding.{begins_alone}
-use Rattle.clover_sched.proofs.Alone.{alone_more}
+use Rattle.clover_sched.proofs.Finding.{begins_alone, chain_here}
+use Rattle.clover_sched.proofs.Alone.{all_found_more, alone_more}
 use Rattle.clover_sched.proofs.Bound.{AreBindings, bindings_are}
 use Rattle.clover_sched.proofs.Cursoring.{cursor_held}
 use Rattle.clover_sched.proofs.Remembering.{IsOn, AnswersOnly, ended_still, ended_other, answers_own, under_on, remembers_asked, remembers_step, may_begin}
@@ -50,8 +50,8 @@ use Rattle.clover_sched.proofs.Remembering.{IsOn, AnswersOnly, ended_still, ende
 pub pushed : (o : Opening) (m n : Parts) (rs : List Record) (r : Record) → IsAt o m rs → Follows o rs r → n.setup ≡ m.setup → n.names ≡ m.names → IsPoolAt o n.pool (rs ++ r ∷ []) → length n.clients ≡ length m.clients
     → ((i : ℕ) (x : ClientState) → nth n.clients i ≡ Some x → IsClientAt o n.pool i x (rs ++ r ∷ []))
     → ((d : Doing) → o.setup.clients < actor_of r.event → d.task ≡ None → (does d r r.event).task ≡ None)
-    → Legal finite.empty [] (entries_in (rs ++ r ∷ [])) → AloneSoFar o n.pool.words n.clients (rs ++ r ∷ []) → IsAt o n (rs ++ r ∷ [])
-pushed o m n rs r at follows setup names pool clients each far legal alone = record {
+    → Legal finite.empty [] (entries_in (rs ++ r ∷ [])) → AllFound o (rs ++ r ∷ []) → AloneSoFar o n.pool.words n.clients (rs ++ r ∷ []) → IsAt o n (rs ++ r ∷ [])
+pushed o m n rs r at follows setup names pool clients each far legal found alone = record {
   run = goes_more o [] rs r at.run follows;
   setup = setup ∙ at.setup;
   names = at.names ∙ ap (bindings_from 0) (sym names);
@@ -64,6 +64,7 @@ pushed o m n rs r at follows setup names pool clients each far legal alone = rec
       (λ e. ap (λ (d : Doing). d.task) (doing_own a rs r e) ∙ far (doing a rs) (subst (λ (b : ℕ). o.setup.clients < b) (sym e) above) (at.far a above))
       (λ e. ap (λ (d : Doing). d.task) (doing_other a rs r e) ∙ at.far a above);
   legal = legal;
+  found = found;
   alone = alone;
 }
 
@@ -144,6 +145,11 @@ module _ (o : Opening) (m : Parts) (rs : List Record) (at : IsAt o m rs) where
   no_step : (e : Event) (note : Note) (c : ℕ) → IsOwnStep c (still e note) → ⊥
   no_step e note c s = let q : None ≡ Some s.access = s.is in absurd cc
 
+  -- nor does it change a slot's chain
+  found_still : (e : Event) (note : Note) → AllFound o (rs ++ still e note ∷ [])
+  found_still e note = all_found_more o rs (still e note) at.found (λ call slot named.
+      subst (λ (ws : List ℕ). HasChain o.setup.pool ws slot) (sym (words_more o.setup.pool o.words rs (still e note))) (at.found rs [] call slot (sym (append-nil rs)) named))
+
   -- nor does it end one
   still_ended : (c : ℕ) (e : Event) (note : Note) → ended c (rs ++ still e note ∷ []) ≡ ended c rs
   still_ended c e note = ended_more c rs (still e note) ∙ ended_still c (doing c rs).task note (ended c rs)
@@ -164,7 +170,7 @@ module _ (o : Opening) (m : Parts) (rs : List Record) (at : IsAt o m rs) where
 
   -- nothing is another
   stayed : (e : Event) (note : Note) → Follows o rs (still e note) → ((d : Doing) → does d (still e note) e ≡ d) → Silent e note → IsAt o m (rs ++ still e note ∷ [])
-  stayed e note follows same silent = pushed o m m rs r at follows refl refl (still_pool o m.pool rs r at.pool refl refl) refl each (λ d above h. ap (λ (z : Doing). z.task) (same d) ∙ h) (still_legal r refl) (alone_still e note m.clients (silent_opening e note m.clients silent))
+  stayed e note follows same silent = pushed o m m rs r at follows refl refl (still_pool o m.pool rs r at.pool refl refl) refl each (λ d above h. ap (λ (z : Doing). z.task) (same d) ∙ h) (still_legal r refl) (found_still e note) (alone_still e note m.clients (silent_opening e note m.clients silent))
     where
       r : Record
       r = still e note
@@ -221,7 +227,7 @@ module _ (o : Opening) (m : Parts) (rs : List Record) (at : IsAt o m rs) where
       (each_set (λ (j : ℕ) (z : ClientState). IsClientAt o m.pool j z (rs ++ still e note ∷ [])) m.clients i y (own_client o m.pool i y rs (still e note) actor stands matches few (subst (Remembers o.names y.cursors) (sym (still_ended (suc i) e note)) cursors))
       (λ j z apart there. let was = at.each j z there in other_client o m.pool m.pool j z rs (still e note) was (λ (s : actor_of e ≡ suc j). apart (omega (arith, s, actor))) was.stands refl (still_ended (suc j) e note)))
       (λ d above h. absurd (absent i x here (subst (λ (b : ℕ). o.setup.clients < b) actor above)))
-      (still_legal (still e note) refl) (alone_still e note (set m.clients i y) opens)
+      (still_legal (still e note) refl) (found_still e note) (alone_still e note (set m.clients i y) opens)
 
   -- a client with nothing under way has no task
   idle_task : (i : ℕ) (x : ClientState) → nth m.clients i ≡ Some x → x.under ≡ Nothing → (doing (suc i) rs).task ≡ None
@@ -297,7 +303,7 @@ module _ (o : Opening) (m : Parts) (rs : List Record) (at : IsAt o m rs) where
   pub refused_far : (a : ℕ) → o.setup.clients < a → IsAt o m (rs ++ still (Refuse a) Quiet ∷ [])
   refused_far a above = pushed o m m rs (still (Refuse a) Quiet) at (refl, refl, refl) refl refl (still_pool o m.pool rs (still (Refuse a) Quiet) at.pool refl refl) refl
       (λ i x here. let was = at.each i x here in other_client o m.pool m.pool i x rs (still (Refuse a) Quiet) was (λ (e : a ≡ suc i). absent i x here (subst (λ (b : ℕ). o.setup.clients < b) e above)) was.stands refl (still_ended (suc i) (Refuse a) Quiet))
-      (λ d over h. h) (still_legal (still (Refuse a) Quiet) refl)
+      (λ d over h. h) (still_legal (still (Refuse a) Quiet) refl) (found_still (Refuse a) Quiet)
       (alone_still (Refuse a) Quiet m.clients (silent_opening (Refuse a) Quiet m.clients (λ c call s. let q : Refuse a ≡ Begin c (ClientTask call s.written) = s.event in absurd cc)))
 
 -- the entries of a client are the same where the entry is another client's
@@ -393,7 +399,8 @@ stepped_client o m rs at i x y q note here w running legal =
     (λ j z apart there. let was = at.each j z there in other_client o m.pool q j z rs r was (λ (s : suc i ≡ suc j). apart (omega arith)) (stands_on o i j z w.access w.entry m.pool q apart client w.moved was.stands) (w.moved.others j apart)
     (ended_more (suc j) rs r ∙ ended_other (suc j) (suc i) (doing (suc j) rs).task note w.access (ended (suc j) rs) answers (λ (s : suc i ≡ suc j). apart (omega arith)))))
     (λ d above h. absurd (let l = was.stands.seat in omega arith))
-    (subst (λ (l : List Entry). Legal finite.empty [] l) pool.entries legal) alone
+    (subst (λ (l : List Entry). Legal finite.empty [] l) pool.entries legal)
+    (all_found_more o rs r at.found (λ call slot named. chain_here o (rs ++ r ∷ []) q i y w.stands running pool.words call slot named None tt)) alone
   where
     no_begin : (c : ℕ) (call : Call) → OpensCall c call (step_record i w.access w.entry note) → ⊥
     no_begin c call opens = let e : Step (suc i) ≡ Begin c (ClientTask call opens.written) = opens.event in absurd cc

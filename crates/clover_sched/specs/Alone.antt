@@ -55,6 +55,18 @@ pub record Finds (o : Opening) (c : ℕ) (before : List Record) (call : Call) : 
   pub version : Option Value
   pub has : HasVersion o.setup.pool (words_after o.setup.pool o.words before) tail version
 
+-- the slot's chain leads in these words from its root over some tags to a tail, which has a version
+pub record HasChain (p : Pool) (ws : List ℕ) (slot : ℕ) : Type 0 where
+  pub tags : List ℕ
+  pub tail : ℕ
+  pub leads : LeadsOver p ws ((mem_of p ws).root slot) tags tail
+  pub version : Option Value
+  pub has : HasVersion p ws tail version
+
+-- between any two records, before the first and behind the last, the slot of each call's key has such a chain
+abbrev pub AllFound : Opening → List Record → Type 0
+AllFound o rs = (before after : List Record) (call : Call) (slot : ℕ) → rs ≡ before ++ after → Within (slot, key_of call) o.names → HasChain o.setup.pool (words_after o.setup.pool o.words before) slot
+
 -- somewhere in the records a client begins a call, and from there on makes these steps alone
 pub record RunsAlone (o : Opening) (rs : List Record) : Type 0 where
   pub before : List Record

@@ -24,7 +24,7 @@ use Rattle.clover_sched.specs.declared.client.Underway.{Underway}
 use Rattle.clover_sched.specs.declared.client.Underway.TheVariants.{Nothing, Write, Raise}
 use Rattle.clover_sched.specs.declared.event.Event.{Event}
 use Rattle.clover_sched.specs.declared.event.Event.TheVariants.{Begin, Step, Refuse}
-use Rattle.clover_sched.specs.Alone.{AloneSoFar}
+use Rattle.clover_sched.specs.Alone.{AllFound, AloneSoFar}
 use Rattle.clover_sched.specs.Client.{Stands, Matches, IsTask, spent, since_of}
 use Rattle.clover_sched.specs.Ends.{ended, IsLatest}
 use Rattle.clover_sched.specs.Folds.{entries_in, accesses_in, words_after, made_in, doing, along}
@@ -86,6 +86,7 @@ pub record IsAt (o : Opening) (m : Parts) (rs : List Record) : Type 0 where
   -- a client that there is not has no task
   pub far : (a : ℕ) → o.setup.clients < a → (doing a rs).task ≡ None
   pub legal : Legal finite.empty [] (entries_in rs)
+  pub found : AllFound o rs
   pub alone : AloneSoFar o m.pool.words m.clients rs
 
 abbrev pub IsBehind : Parts → Type 0

@@ -95,6 +95,7 @@ impl Machine {
     {
         let mut pool = PlainPool::make(alloc, setup, trace)?;
         pool.preset(names.keys());
+        pool.stands();
         let clients = idle_clients(alloc, setup.clients)?;
         Ok(Machine {
             setup,

@@ -31,7 +31,7 @@ apart : (c : In_ok-clients) → AreDistinct c.args.names
 apart c = subst AreDistinct c.keys.ensures.value (distinct_keys c.keys.result.now (subst (λ (l : List (List ℕ)). (i j : ℕ) (k : List ℕ) → slice_get l i ≡ Some k → slice_get l j ≡ Some k → i ≡ j) (sym c.keys.ensures.value) c.keys.ensures.distinct))
 
 pub invariant_of-result : goal.invariant_of-result
-invariant_of-result c = (opening c.args.setup c.args.names c.preset.new.self, [], made_at (record { setup = c.args.setup; names = c.args.names; pool = c.preset.new.self; clients = c.in_ok-clients.clients.items }) c.args.setup c.args.names refl refl c.requires.slots (apart c) (fresh c) c.in_ok-clients.ensures)
+invariant_of-result c = (opening c.args.setup c.args.names c.preset.new.self, [], made_at (record { setup = c.args.setup; names = c.args.names; pool = c.preset.new.self; clients = c.in_ok-clients.clients.items }) c.args.setup c.args.names refl refl c.requires.slots (apart c) c.stands.ensures.running (fresh c) c.in_ok-clients.ensures)
 
 pub returns-clause-at : goal.returns-clause-at
-returns-clause-at c = (opening c.args.setup c.args.names c.preset.new.self, is_opening c.args.setup c.args.names c.preset.new.self (fresh c), made_at (record { setup = c.args.setup; names = c.args.names; pool = c.preset.new.self; clients = c.in_ok-clients.clients.items }) c.args.setup c.args.names refl refl c.requires.slots (apart c) (fresh c) c.in_ok-clients.ensures)
+returns-clause-at c = (opening c.args.setup c.args.names c.preset.new.self, is_opening c.args.setup c.args.names c.preset.new.self (fresh c), made_at (record { setup = c.args.setup; names = c.args.names; pool = c.preset.new.self; clients = c.in_ok-clients.clients.items }) c.args.setup c.args.names refl refl c.requires.slots (apart c) c.stands.ensures.running (fresh c) c.in_ok-clients.ensures)
