@@ -9,17 +9,17 @@ use Rattle.clover_words.specs.declared.meta.Kind.TheVariants.{Value as IsValue, 
 use Rattle.clover_words.specs.declared.pool.Pool.{Pool}
 use Rattle.clover_words.specs.declared.word.Word.TheVariants.{Next as NextOf}
 use Rattle.clover_words.specs.declared.word.Side.TheVariants.{Current}
-use Rattle.clover_words.specs.Meta.{MetaParts, IsMeta, meta_word}
+use Rattle.clover_words.specs.Meta.{MetaParts, IsMeta, meta_word, tombstone}
 use Rattle.clover_words.specs.Pack.{AreBytes, packed, words_of, with_eight}
 use Rattle.clover_words.specs.Place.{copy_in}
 use Rattle.clover_words.proofs.Packing.{packed_set, packed_kept, room_kept, unpacked}
 use Rattle.clover_words.proofs.Spellings.{one_meta}
+use Rattle.clover_words.specs.Tag.{home}
+use Rattle.clover_words.specs.Version.{unlinked, buffer_at, content_at}
 use Rattle.clover_map.specs.declared.bytes.Value.{Value}
 use Rattle.clover_map.specs.declared.call.Call.TheVariants.{Get}
-use Rattle.clover_rule.specs.Content.{content, tombstone, value_meta}
-use Rattle.clover_rule.specs.Memory.{home}
-use Rattle.clover_rule.specs.Steps.{DecideNext, found, words_after_step, unlinked}
-use Rattle.clover_rule.specs.Words.{buffer_at, content_at}
+use Rattle.clover_rule.specs.Content.{content, value_meta}
+use Rattle.clover_rule.specs.Steps.{DecideNext, found, words_after_step}
 use Rattle.clover_rule.specs.declared.view.View.{View}
 use Rattle.clover_rule.proofs.Spelling.{nth_all, short_enough}
 use Rattle.clover_walk.specs.Alone.{alone, HasVersion, ReachesAfter, raised, version_words}

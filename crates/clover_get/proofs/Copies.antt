@@ -8,17 +8,17 @@ use Rattle.clover_words.specs.declared.bytes.ValueBuf.{ValueBuf}
 use Rattle.clover_words.specs.declared.meta.Kind.TheVariants.{Value as IsValue, Tombstone}
 use Rattle.clover_words.specs.declared.pool.Pool.{Pool}
 use Rattle.clover_words.specs.declared.word.Word.TheVariants.{Meta, Value as ValueOf}
-use Rattle.clover_words.specs.Meta.{meta_word}
+use Rattle.clover_words.specs.Meta.{meta_word, tombstone}
 use Rattle.clover_words.specs.Pack.{packed, words_of}
 use Rattle.clover_words.proofs.Packing.{packed_spells}
+use Rattle.clover_words.specs.Tag.{home}
+use Rattle.clover_words.specs.Version.{buffer_at}
 use Rattle.clover_map.specs.declared.call.Call.TheVariants.{Get}
 use Rattle.clover_map.specs.declared.call.Reply.TheVariants.{Found, Absent}
-use Rattle.clover_rule.specs.Content.{InRange, tombstone, value_meta, Unpacks}
+use Rattle.clover_rule.specs.Content.{InRange, value_meta, Unpacks}
 use Rattle.clover_rule.specs.Lists.{Within}
-use Rattle.clover_rule.specs.Memory.{home}
-use Rattle.clover_rule.specs.Steps.{DecideNext, LoadContent, Asks}
+use Rattle.clover_rule.specs.Steps.{LoadNext, DecideNext, LoadContent, Asks}
 use Rattle.clover_rule.specs.Told.{IsMetaWord}
-use Rattle.clover_rule.specs.Words.{buffer_at}
 use Rattle.clover_rule.specs.declared.access.Act.{Act}
 use Rattle.clover_rule.specs.declared.access.Act.TheVariants.{Load}
 use Rattle.clover_rule.specs.declared.view.Content.{Content}
@@ -79,6 +79,9 @@ module _ (p : Pool) (w : Walking) (t : ℕ) (v : View) (of : p ≡ w.pool) (hold
 
   pub asks_dead : CopiedDead w.slot t v → Asks p (DecideNext w.slot t (Get (key_at v.pass.names w.slot)) Absent) v
   asks_dead c = (buffer_in p (home t) range_here.0, record { client = holds.client; tail = tail_known; name = holds.named; reply = c.meta })
+
+  pub asks_next : Asks p (LoadNext w.slot t) v
+  asks_next = (buffer_in p (home t) range_here.0, (holds.client, tail_known))
 
   pub asks_content : (j : ℕ) → j < 1 + p.words → Asks p (LoadContent w.slot t j) v
   asks_content j h = (content_in p (home t) j range_here.0 h, (holds.client, tail_known))

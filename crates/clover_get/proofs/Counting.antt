@@ -1,9 +1,17 @@
 -- How many accesses a get makes: each step of its walk and each last load that misses stays within what the turns allow.
 use Prim.Native.Nat.{suc}
-use Rattle.std.proofs.Common.{◌≡◌, ◌≢◌, ℕ, ◌+◌, ◌*◌, ◌≤◌, List, [], length, Bool, true, false, cond, eqb, refl, sym, subst, eqb-true, arith}
+use Rattle.std.proofs.Common.{◌≡◌, ◌≢◌, ℕ, ◌+◌, ◌*◌, ◌≤◌, List, [], length, Bool, true, false, cond, eqb, refl, sym, ap, ◌∙◌, subst, eqb-true, arith}
 use Rattle.std.specs.Prelude.{Option, Some, None}
-use Rattle.clover_rule.specs.Memory.{Next, word, age}
-use Rattle.clover_rule.specs.Steps.{unlinked}
+use Rattle.clover_words.specs.declared.pool.Pool.{Pool}
+use Rattle.clover_words.specs.Tag.{age}
+use Rattle.clover_words.specs.Version.{unlinked}
+use Rattle.clover_port.specs.Told.{Open, Made}
+use Rattle.clover_rule.specs.Memory.{Next, word}
+use Rattle.clover_rule.specs.Steps.{Step, act_of}
+use Rattle.clover_rule.specs.declared.access.Act.{Act}
+use Rattle.clover_rule.specs.declared.view.View.{View}
+use Rattle.clover_rule.proofs.Tools.{length_snoc}
+use Rattle.clover_walk.proofs.Endings.{stepped}
 use Rattle.clover_rule.specs.Words.{next_of, next_code, root_of}
 use Rattle.clover_walk.specs.Walking.{Walking, Stand, AtShort, AtRoot, AtTag, AtLink, OnTail, Ended, IsOnWay, turned, hops, followed, shortened, rooted, goes_from, goes_on, begins, next_start, since_turn}
 use Rattle.clover_walk.specs.declared.start.Start.{Start}
@@ -75,3 +83,8 @@ misses w t x n at code d h =
 -- what the turns allow is within the bound of a call
 pub bounded : (turns words extra n : ℕ) → extra ≤ 5 + words → n ≤ turns * (words + 5) + extra → n ≤ (turns + 1) * (words + 5) + 2 * words + 4
 bounded turns words extra n e h = omega arith
+
+-- the accesses of a call after one more
+pub one_more : (p : Pool) (a : Step) (b : Bool) (v : View) (o : Option Open) (x : ℕ) (v1 : View) (o1 : Option Open) → Made p a b v o x v1 o1 → length v1.pass.since ≡ suc (cond b 0 (length v.pass.since))
+one_more p a b v o x v1 o1 made =
+    ap (length {A = Act}) (stepped p a b v o x v1 o1 made).since ∙ length_snoc (act_of a x) (cond b [] v.pass.since) ∙ ap suc (length_first b v.pass.since)

@@ -8,8 +8,9 @@ use Rattle.clover_words.specs.declared.meta.Kind.{Kind}
 use Rattle.clover_words.specs.declared.meta.Kind.TheVariants.{Value as IsValue, Tombstone}
 use Rattle.clover_words.specs.declared.pool.Pool.{Pool}
 use Rattle.clover_words.specs.Meta.{MetaParts, IsVersion, meta_word}
-use Rattle.clover_words.specs.Pack.{packed, words_of, with_eight}
+use Rattle.clover_words.specs.Pack.{packed, words_of}
 use Rattle.clover_words.specs.Tag.{TagParts, tag_number}
+use Rattle.clover_words.specs.Version.{unlinked}
 use Rattle.clover_map.specs.declared.call.Call.{Call}
 use Rattle.clover_map.specs.declared.call.Call.TheVariants.{Get}
 use Rattle.clover_map.specs.declared.call.Reply.{Reply}
@@ -18,29 +19,28 @@ use Rattle.clover_port.specs.Told.{Open, Made}
 use Rattle.clover_rule.specs.Accesses.{AtTail, SawWhole, SawDead}
 use Rattle.clover_rule.specs.Content.{InRange}
 use Rattle.clover_rule.specs.Lists.{Within}
-use Rattle.clover_rule.specs.Steps.{Step, LoadContent, DecideNext, number_of, unlinked, act_of, turn_at, counted, decided, seen}
+use Rattle.clover_rule.specs.Steps.{Step, LoadContent, DecideNext, number_of, act_of, turn_at, counted, decided, seen}
 use Rattle.clover_rule.specs.Told.{AreOneVersion}
 use Rattle.clover_rule.specs.Words.{next_of}
 use Rattle.clover_rule.specs.declared.view.Role.{Role}
 use Rattle.clover_rule.specs.declared.view.Role.TheVariants.{Client}
 use Rattle.clover_rule.specs.declared.view.View.{View}
-use Rattle.clover_walk.specs.Walking.{Walking, Stand, StandsOn as WalkStandsOn, Holds, goes_on, key_at, budget, most_accesses}
+use Rattle.clover_walk.specs.Walking.{Walking, Stand, StandsOn as WalkStandsOn, Holds, key_at, budget, most_accesses}
 use Rattle.clover_walk.proofs.Endings.{stepped, copied_one, at_tail}
 use Rattle.clover_get.specs.declared.turn.GetTurn.TheVariants.{More, Found as IsFound, Absent as IsAbsent}
 use Rattle.clover_get.specs.Copying.{Copied}
-use Rattle.clover_get.specs.Getting.{Getting, Stage, AtMeta, AtValue, AtFound, AtDead, AtBad, Over, getting, sought, Reads, read_stage, read_kind, valued, value_in, GoesOn, FillsFrom, get_step}
-use Rattle.clover_get.specs.Going.{Went, key_of}
+use Rattle.clover_get.specs.Getting.{Getting, Stage, AtMeta, AtValue, AtFound, AtDead, AtBad, Over, getting, Reads, read_stage, read_kind, valued, value_in}
+use Rattle.clover_get.specs.Going.{Went}
 use Rattle.clover_get.specs.Holding.{GetHolds, StandsOn, IsAt, copied}
 use Rattle.clover_get.proofs.Copies.{more_value, first_value, first_dead, first_bad, undecoded, too_long}
-use Rattle.clover_get.proofs.Counting.{bounded}
 use Rattle.clover_get.proofs.Versions.{saw_whole}
-use Rattle.clover_get.proofs.Walks.{made_later, one_more}
+use Rattle.clover_get.proofs.Counting.{bounded, one_more}
 
 -- a value of so many bytes takes no more words than the buffers have
 words_fit : (n w : ℕ) → n ≤ 8 * w → words_of n ≤ w
 words_fit n w h = omega arith
 
-module _ (p : Pool) (f f1 : ℕ) (w : Walking) (t : ℕ) (v : View) (o : Option Open) (x : ℕ) (v1 : View) (o1 : Option Open) (of : p ≡ w.pool) where
+module _ (p : Pool) (w : Walking) (t : ℕ) (v : View) (o : Option Open) (x : ℕ) (v1 : View) (o1 : Option Open) (of : p ≡ w.pool) where
   -- what the walk stands on stays so where a content word was loaded
   still_holds : (j : ℕ) → Holds w v → IsAt w t → Made p (LoadContent w.slot t j) false v o x v1 o1 → Holds w v1
   still_holds j h at made =
@@ -80,18 +80,15 @@ module _ (p : Pool) (f f1 : ℕ) (w : Walking) (t : ℕ) (v : View) (o : Option 
         (omega arith);
   }
 
-  tail_went : (a : Step) (s : Stage) (g1 : Getting) (into into1 : ValueBuf) (extra : ℕ) → Holds w v1 → IsAt w t → (made : (x : ℕ) × Made p a w.first v o x v1 o1 × GoesOn (getting w s) into1.length x g1 × FillsFrom s x into into1)
-      → a ≡ get_step (getting w s) (key_of (getting w s) v) into
-      → GetHolds g1 v1 into1 → length v1.pass.since ≤ w.turns * (w.pool.words + 5) + extra → extra ≤ 5 + w.pool.words → Went p f f1 (getting w s) g1 into into1 v o v1 o1 More
-  tail_went a s g1 into into1 extra h at made is holds n few = record {
-    made = (made.0, subst (λ (b : Step). Made p b w.first v o made.0 v1 o1) is made.1, made.2, made.3);
+  tail_went : (s : Stage) (g1 : Getting) (into into1 : ValueBuf) (extra : ℕ) → Holds w v1 → IsAt w t → GetHolds g1 v1 into1 → length v1.pass.since ≤ w.turns * (w.pool.words + 5) + extra → extra ≤ 5 + w.pool.words
+      → Went p (getting w s) g1 into into1 v o v1 o1 More
+  tail_went s g1 into into1 extra h at holds n few = record {
     found = tt;
     at = tt;
     absent = tt;
     known = tt;
     behind = tt;
     ahead = let e = turns_now h at in let b : w.turns < budget p = subst (λ (q : Pool). w.turns < budget q) (sym of) h.below in subst (λ (k : ℕ). k < budget p) e b;
-    unreached = tt;
     stands = holds;
     ends = tt;
     bound = allows extra few (turns_now h at) n;
@@ -130,19 +127,19 @@ module _ (p : Pool) (f f1 : ℕ) (w : Walking) (t : ℕ) (v : View) (o : Option 
   meta_stands (Some m) into1 at made r size = kind_stands m.kind m.flags m.length into1 at made r.found.0 r.found.1 size
 
   pub meta_went : (om : Option MetaParts) (g1 : Getting) (into into1 : ValueBuf) → GetHolds (getting w (AtMeta t)) v into → Made p (LoadContent w.slot t 0) false v o x v1 o1 → Reads x om
-      → g1 ≡ getting w (read_stage w.pool t om) → IfSome om (λ m. into1.length ≡ m.length) → into1.bytes ≡ into.bytes → Went p f f1 (getting w (AtMeta t)) g1 into into1 v o v1 o1 More
-  meta_went om g1 into into1 h made r value size bytes =
+      → g1 ≡ getting w (read_stage w.pool t om) → IfSome om (λ m. into1.length ≡ m.length) → Went p (getting w (AtMeta t)) g1 into into1 v o v1 o1 More
+  meta_went om g1 into into1 h made r value size =
       let at = h.stage in
       let s = meta_stands om into1 at made r size in
       let n = counts (LoadContent w.slot t 0) 3 at made h.bound in
       let k = still_holds 0 h.walk at made in
-      tail_went (LoadContent w.slot t 0) (AtMeta t) g1 into into1 4 k at (x, made_later at.1 made, (om, r, value), (bytes, λ m i e. subst (λ (z : Option MetaParts). IfSome z (λ (y : MetaParts). into1.length ≡ y.length)) (r.only m i e) size)) refl
+      tail_went (AtMeta t) g1 into into1 4 k at
       (subst (λ (z : Getting). GetHolds z v1 into1) (sym value) (on_tail (read_stage w.pool t om) into1 4 k at s.0 n s.1)) n (omega arith)
 
   pub value_went : (fl j : ℕ) (g1 : Getting) (into into1 : ValueBuf) → GetHolds (getting w (AtValue t fl j)) v into → Made p (LoadContent w.slot t (suc j)) false v o x v1 o1
       → g1 ≡ getting w (valued t fl into1.length (suc j)) → into1.length ≡ into.length → packed into1.bytes j ≡ x → ((k : ℕ) → k ≢ j → packed into1.bytes k ≡ packed into.bytes k)
-      → into1.bytes ≡ with_eight into.bytes j x → Went p f f1 (getting w (AtValue t fl j)) g1 into into1 v o v1 o1 More
-  value_went fl j g1 into into1 h made value size packs others bytes =
+      → Went p (getting w (AtValue t fl j)) g1 into into1 v o v1 o1 More
+  value_went fl j g1 into into1 h made value size packs others =
       let at = h.stage.0 in
       let less : j < words_of into.length = h.stage.1 in
       let c = copied_one p w.slot t (suc j) false v o x v1 o1 made in
@@ -154,11 +151,11 @@ module _ (p : Pool) (f f1 : ℕ) (w : Walking) (t : ℕ) (v : View) (o : Option 
       let n0 = counts (LoadContent w.slot t (suc j)) (4 + j) at made h.bound in
       let n : length v1.pass.since ≤ w.turns * (w.pool.words + 5) + (4 + suc j) = omega arith in
       let k = still_holds (suc j) h.walk at made in
-      tail_went (LoadContent w.slot t (suc j)) (AtValue t fl j) g1 into into1 (4 + suc j) k at (x, made_later at.1 made, value, (bytes, size)) refl
+      tail_went (AtValue t fl j) g1 into into1 (4 + suc j) k at
       (subst (λ (z : Getting). GetHolds z v1 into1) (sym value) (on_tail (valued t fl into1.length (suc j)) into1 (4 + suc j) k at stands.0 n stands.1)) n (omega arith)
 
 -- the last load showed the tag unlinked
-module _ (p : Pool) (f f1 : ℕ) (w : Walking) (tag : TagParts) (v : View) (o : Option Open) (x : ℕ) (v1 : View) (o1 : Option Open) (of : p ≡ w.pool) where
+module _ (p : Pool) (w : Walking) (tag : TagParts) (v : View) (o : Option Open) (x : ℕ) (v1 : View) (o1 : Option Open) (of : p ≡ w.pool) where
   -- the turns are as they were, since a load that shows the tail makes none
   no_turn_more : (c : Call) (r : Reply) → Holds w v → IsAt w (tag_number tag) → Made p (DecideNext w.slot (tag_number tag) c r) false v o x v1 o1 → x ≡ unlinked (tag_number tag) → v1.pass.turns ≡ w.turns
   no_turn_more c r h at made e =
@@ -182,7 +179,7 @@ module _ (p : Pool) (f f1 : ℕ) (w : Walking) (tag : TagParts) (v : View) (o : 
 
   pub found_went : (fl : ℕ) (g1 : Getting) (into : ValueBuf) → GetHolds (getting w (AtFound (tag_number tag) fl)) v into
       → Made p (DecideNext w.slot (tag_number tag) (Get (key_at v.pass.names w.slot)) (Found (tag_number tag) (value_in fl into))) false v o x v1 o1 → x ≡ unlinked (tag_number tag) → g1 ≡ getting w Over
-      → Went p f f1 (getting w (AtFound (tag_number tag) fl)) g1 into into v o v1 o1 (IsFound tag fl)
+      → Went p (getting w (AtFound (tag_number tag) fl)) g1 into into v o v1 o1 (IsFound tag fl)
   found_went fl g1 into h made e value =
       let at = h.stage.0 in
       let key : Call = Get (key_at v.pass.names w.slot) in
@@ -190,44 +187,40 @@ module _ (p : Pool) (f f1 : ℕ) (w : Walking) (tag : TagParts) (v : View) (o : 
       let a : Step = DecideNext w.slot (tag_number tag) key reply in
       let m = at_number key reply e made in
       let q = no_turn_more key reply h.walk at made e in
-      let n = counts p f f1 w (tag_number tag) v o x v1 o1 of a (4 + w.pool.words) at made h.bound in
+      let n = counts p w (tag_number tag) v o x v1 o1 of a (4 + w.pool.words) at made h.bound in
       let one : AreOneVersion w.pool w.slot (tag_number tag) v = subst (λ (z : Pool). AreOneVersion z w.slot (tag_number tag) v) of (m.told.says refl).1 in
       let saw : SawWhole (tag_number tag) (value_in fl into) v.pass.since = saw_whole w.pool w.slot (tag_number tag) fl v into h.stage.1 one in
       record {
-        made = (x, made_later at.1 made, value ∙ sym (ap (λ (b : Bool). cond b (getting w Over) (sought (goes_on w x))) (eq-eqb x (unlinked (tag_number tag)) e)), refl);
         found = (record { slot = w.slot; tag = tag_number tag; made = m; decides = at_tail p w.slot (tag_number tag) key reply (SawWhole (tag_number tag) (value_in fl into)) v o v1 o1 m saw }, refl, refl);
         at = (refl, refl);
         absent = tt;
         known = known_still key reply h.walk at made e;
         behind = tt;
         ahead = below h.walk q;
-        unreached = tt;
         stands = tt;
         ends = ap (λ (z : Getting). z.stage) value;
-        bound = allows p f f1 w (tag_number tag) v o x v1 o1 of (5 + w.pool.words) (omega arith) (sym q) (omega arith);
+        bound = allows p w (tag_number tag) v o x v1 o1 of (5 + w.pool.words) (omega arith) (sym q) (omega arith);
       }
 
   pub dead_went : (g1 : Getting) (into : ValueBuf) → GetHolds (getting w (AtDead (tag_number tag))) v into
       → Made p (DecideNext w.slot (tag_number tag) (Get (key_at v.pass.names w.slot)) Absent) false v o x v1 o1 → x ≡ unlinked (tag_number tag) → g1 ≡ getting w Over
-      → Went p f f1 (getting w (AtDead (tag_number tag))) g1 into into v o v1 o1 (IsAbsent tag)
+      → Went p (getting w (AtDead (tag_number tag))) g1 into into v o v1 o1 (IsAbsent tag)
   dead_went g1 into h made e value =
       let at = h.stage.0 in
       let key : Call = Get (key_at v.pass.names w.slot) in
       let a : Step = DecideNext w.slot (tag_number tag) key Absent in
       let m = at_number key Absent e made in
       let q = no_turn_more key Absent h.walk at made e in
-      let n = counts p f f1 w (tag_number tag) v o x v1 o1 of a 4 at made h.bound in
+      let n = counts p w (tag_number tag) v o x v1 o1 of a 4 at made h.bound in
       let ended : AtTail p m.now.words key (tag_number tag) (SawDead (tag_number tag)) v1.pass.since = at_tail p w.slot (tag_number tag) key Absent (SawDead (tag_number tag)) v o v1 o1 m h.stage.1.load in
       record {
-        made = (x, made_later at.1 made, value ∙ sym (ap (λ (b : Bool). cond b (getting w Over) (sought (goes_on w x))) (eq-eqb x (unlinked (tag_number tag)) e)), refl);
         found = tt;
         at = tt;
         absent = (record { slot = w.slot; tag = tag_number tag; made = m; decides = inl (tag_number tag, ended) }, refl, refl);
         known = known_still key Absent h.walk at made e;
         behind = tt;
         ahead = below h.walk q;
-        unreached = tt;
         stands = tt;
         ends = ap (λ (z : Getting). z.stage) value;
-        bound = allows p f f1 w (tag_number tag) v o x v1 o1 of 5 (omega arith) (sym q) (omega arith);
+        bound = allows p w (tag_number tag) v o x v1 o1 of 5 (omega arith) (sym q) (omega arith);
       }

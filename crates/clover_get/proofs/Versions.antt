@@ -8,13 +8,13 @@ use Rattle.clover_words.specs.declared.pool.Pool.{Pool}
 use Rattle.clover_words.specs.declared.word.Word.TheVariants.{Meta, Value as ValueOf}
 use Rattle.clover_words.specs.Meta.{meta_word}
 use Rattle.clover_words.specs.Pack.{packed, words_of}
+use Rattle.clover_words.specs.Tag.{home}
+use Rattle.clover_words.specs.Version.{buffer_at}
 use Rattle.clover_map.specs.declared.bytes.Value.{Value}
 use Rattle.clover_rule.specs.Accesses.{SawWhole}
 use Rattle.clover_rule.specs.Content.{content}
 use Rattle.clover_rule.specs.Lists.{nth, Within}
-use Rattle.clover_rule.specs.Memory.{home}
 use Rattle.clover_rule.specs.Told.{AreOneVersion}
-use Rattle.clover_rule.specs.Words.{buffer_at}
 use Rattle.clover_rule.specs.declared.access.Act.TheVariants.{Load}
 use Rattle.clover_rule.specs.declared.view.View.{View}
 use Rattle.clover_rule.proofs.Spelling.{nth_all, read_content}

@@ -5,13 +5,12 @@ use Rattle.clover_words.specs.declared.bytes.ValueBuf.{ValueBuf}
 use Rattle.clover_words.specs.declared.meta.Kind.TheVariants.{Value as IsValue}
 use Rattle.clover_words.specs.declared.pool.Pool.{Pool}
 use Rattle.clover_words.specs.declared.word.Word.TheVariants.{Meta, Value as ValueOf}
-use Rattle.clover_words.specs.Meta.{meta_word}
+use Rattle.clover_words.specs.Meta.{meta_word, tombstone}
 use Rattle.clover_words.specs.Pack.{packed}
-use Rattle.clover_rule.specs.Content.{tombstone}
+use Rattle.clover_words.specs.Tag.{home}
+use Rattle.clover_words.specs.Version.{buffer_at}
 use Rattle.clover_rule.specs.Lists.{Within}
-use Rattle.clover_rule.specs.Memory.{home}
 use Rattle.clover_rule.specs.Told.{IsMetaWord}
-use Rattle.clover_rule.specs.Words.{buffer_at}
 use Rattle.clover_rule.specs.declared.access.Act.{Act}
 use Rattle.clover_rule.specs.declared.access.Act.TheVariants.{Load}
 use Rattle.clover_rule.specs.declared.view.Content.{Content}

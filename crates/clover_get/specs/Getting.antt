@@ -7,10 +7,11 @@ use Rattle.clover_words.specs.declared.meta.Kind.TheVariants.{Value as IsValue, 
 use Rattle.clover_words.specs.declared.pool.Pool.{Pool}
 use Rattle.clover_words.specs.Meta.{MetaParts, IsMeta, meta_word}
 use Rattle.clover_words.specs.Pack.{words_of, with_eight}
+use Rattle.clover_words.specs.Version.{unlinked}
 use Rattle.clover_map.specs.declared.bytes.Value.{Value}
 use Rattle.clover_map.specs.declared.call.Call.TheVariants.{Get}
 use Rattle.clover_map.specs.declared.call.Reply.TheVariants.{Found, Absent}
-use Rattle.clover_rule.specs.Steps.{Step, LoadNext, DecideNext, LoadContent, unlinked}
+use Rattle.clover_rule.specs.Steps.{Step, LoadNext, DecideNext, LoadContent}
 use Rattle.clover_walk.specs.Walking.{Walking, Stand as Standing, OnTail, Ended, walk_step, goes_on}
 
 -- where a get stands: on its walk, at the tail's meta word, at a value word of the tail, at the last load for a value or for a tombstone, at a tag whose meta word was no version's, or at its end

@@ -6,18 +6,17 @@ use Rattle.clover_words.specs.Tag.{tag_number}
 use Rattle.clover_map.specs.declared.bytes.Value.{Value}
 use Rattle.clover_map.specs.declared.call.Call.TheVariants.{Get}
 use Rattle.clover_map.specs.declared.call.Reply.TheVariants.{Found, Absent}
-use Rattle.clover_port.specs.Told.{Open, Made, Rose}
+use Rattle.clover_port.specs.Told.{Open, Made}
 use Rattle.clover_rule.specs.Content.{InRange}
 use Rattle.clover_rule.specs.Lists.{Within}
 use Rattle.clover_rule.specs.declared.view.View.{View}
 use Rattle.clover_walk.specs.Ending.{Ended}
-use Rattle.clover_walk.specs.Turning.{Answers, OnGoing as OnWalking, IfBehind as IfWalkBehind, OnAhead as OnWalkAhead}
-use Rattle.clover_walk.specs.Walking.{Walking, Holds, key_at, budget, most_accesses}
+use Rattle.clover_walk.specs.Walking.{key_at, budget, most_accesses}
 use Rattle.clover_walk.specs.declared.turn.Turn.{Turn}
 use Rattle.clover_walk.specs.declared.turn.Turn.TheVariants.{More as WalksOn, AtTail, Behind as WalkBehind, Unreached as WalkUnreached}
 use Rattle.clover_get.specs.declared.turn.GetTurn.TheVariants.{More, Behind, Unreached}
 use Rattle.clover_get.specs.declared.turn.GetTurn.{GetTurn}
-use Rattle.clover_get.specs.Answering.{OnReached, OnUnreached, OnGoing, OnOver, OnAhead, IfFound, IfAbsent, IfAnswered, IfBehind}
+use Rattle.clover_get.specs.Answering.{OnReached, OnGoing, OnOver, OnAhead, IfFound, IfAbsent, IfAnswered, IfBehind}
 use Rattle.clover_get.specs.Getting.{Getting, AtFound, Over, get_step, value_in, GoesOn, FillsFrom}
 use Rattle.clover_get.specs.Holding.{GetHolds}
 
@@ -37,15 +36,14 @@ FoundAt p g t x v o v1 o1 = (e : Ended p (Get (key_of g v)) (Found t x) v o v1 o
 abbrev pub AbsentAt : Pool → Getting → ℕ → View → Option Open → View → Option Open → Type 0
 AbsentAt p g t v o v1 o1 = (e : Ended p (Get (key_of g v)) Absent v o v1 o1) × (e.slot ≡ g.walk.slot) × (e.tag ≡ t)
 
-pub record Went (p : Pool) (faults faults1 : ℕ) (g g1 : Getting) (into into1 : ValueBuf) (v : View) (o : Option Open) (v1 : View) (o1 : Option Open) (r : GetTurn) : Type 0 where
-  pub made : OnReached r (OneAccess p g g1 into into1 v o v1 o1)
+-- what a step with this answer says of the call, the room and what the actor knows
+pub record Went (p : Pool) (g g1 : Getting) (into into1 : ValueBuf) (v : View) (o : Option Open) (v1 : View) (o1 : Option Open) (r : GetTurn) : Type 0 where
   pub found : IfFound r (λ t f. FoundAt p g (tag_number t) (value_in f into1) v o v1 o1)
   pub at : IfFound r (λ t f. (g.stage ≡ AtFound (tag_number t) f) × (into1 ≡ into))
   pub absent : IfAbsent r (λ t. AbsentAt p g (tag_number t) v o v1 o1)
   pub known : IfAnswered r (λ t. InRange g.walk.pool (tag_number t) × Within (g.walk.slot, tag_number t) v1.pass.durable)
   pub behind : IfBehind r (λ n. (n ≡ budget p) × (v1.pass.turns ≡ budget p))
   pub ahead : OnAhead r (v1.pass.turns < budget p)
-  pub unreached : OnUnreached r (Rose faults faults1 × (v1 ≡ v) × (o1 ≡ o) × (g1 ≡ g) × (into1 ≡ into))
   pub stands : OnGoing r (GetHolds g1 v1 into1)
   pub ends : OnOver r (g1.stage ≡ Over)
   pub bound : OnReached r (length v1.pass.since ≤ most_accesses p v1.pass.turns)
@@ -56,12 +54,3 @@ answer_of WalksOn = More
 answer_of (AtTail t) = More
 answer_of (WalkBehind n) = Behind n
 answer_of WalkUnreached = Unreached
-
--- the walk came to this answer, and stands or has ended so
-pub record Follows (p : Pool) (w : Walking) (v : View) (r : GetTurn) : Type 0 where
-  pub turn : Turn
-  pub answers : Answers w turn
-  pub is : r ≡ answer_of turn
-  pub stands : OnWalking turn (Holds w v)
-  pub behind : IfWalkBehind turn (λ n. (n ≡ budget p) × (v.pass.turns ≡ budget p))
-  pub ahead : OnWalkAhead turn (v.pass.turns < budget p)

@@ -6,3 +6,4 @@ pub mod Going
 pub mod Standing
 pub mod Kept
 pub mod Alone
+pub mod Finding

@@ -1,24 +1,30 @@
-// A get: where it stands, and how it goes on.
-ghost use Rattle.std.specs.Prelude.{◌≡◌, ◌≤◌, ◌<◌, ℕ, Option, Some, IfSome, IfNone, length};
+// A get: where it stands, which access it asks for, and how it goes on.
+ghost use Rattle.std.specs.Prelude.{◌≡◌, ◌<◌, ◌≤◌, ◌↔◌, ℕ, List, Option, Some, IfSome, IfNone, IsTrue, MatchResult, length};
 ghost use Rattle.clover_words.specs.Meta.{MetaParts};
+ghost use Rattle.clover_words.specs.Place.{IsWithin};
 ghost use Rattle.clover_words.specs.Tag.{tag_number};
+ghost use Rattle.clover_words.specs.declared.bytes.ValueBuf.{ValueBuf as Room};
+ghost use Rattle.clover_words.specs.Version.{unlinked};
 ghost use Rattle.clover_rule.specs.Content.{InRange};
 ghost use Rattle.clover_rule.specs.Lists.{Within};
-ghost use Rattle.clover_port.specs.Told.{Rose};
-ghost use Rattle.clover_walk.specs.Turning.{Answers, OnReached as WalkReached, OnUnreached as WalkUnreached};
-ghost use Rattle.clover_walk.specs.Walking.{ShowsNext, goes_on, budget, most_accesses};
-ghost use Rattle.clover_get.specs.Answering.{OnReached, OnUnreached, OnGoing, OnOver, OnAhead, IfFound, IfAbsent, IfAnswered, IfBehind, ExactGet};
-ghost use Rattle.clover_get.specs.Getting.{Seeking, AtMeta, AtValue, AtFound, AtDead, AtBad, Over, IsOpen, Reads, getting, read_stage, valued, sought, value_in};
-ghost use Rattle.clover_get.specs.Going.{OneAccess, FoundAt, AbsentAt, Went, Follows, answer_of, key_of};
+ghost use Rattle.clover_rule.specs.Steps.{word_of};
+ghost use Rattle.clover_port.specs.Asked.{IsOp, IsFinding};
+ghost use Rattle.clover_walk.specs.Finding.{MayFind};
+ghost use Rattle.clover_walk.specs.Turning.{Answers};
+ghost use Rattle.clover_walk.specs.Walking.{goes_on, walk_step, budget, most_accesses};
+ghost use Rattle.clover_get.specs.Answering.{OnReached, OnUnreached, OnGoing, OnOver, OnAhead, IfFound, IfAbsent, IfAnswered, IfBehind};
+ghost use Rattle.clover_get.specs.Finding.{GetFinds, GetAnswers, Came, PacksFrom};
+ghost use Rattle.clover_get.specs.Getting.{Seeking, AtFound, Over, IsOpen, Reads, GoesOn, FillsFrom, getting, get_step, read_stage, valued, sought, value_in};
+ghost use Rattle.clover_get.specs.Going.{FoundAt, AbsentAt, Went, answer_of, key_of};
 ghost use Rattle.clover_get.specs.Holding.{GetHolds};
 ghost use Rattle.clover_get.specs.Standing.{standing};
 
-use crate::last::{load_dead, load_found, shows_unlinked};
 use crate::stage::Stage;
 use crate::turn::GetTurn;
-use clover_port::Port;
-use clover_walk::{Turn, Walk, load_content, load_next};
-use clover_words::{Kind, Meta, Pool, Tag, ValueBuf, unpack};
+use clover_port::{Failed, Op, Port, perform};
+use clover_rule::StepName;
+use clover_walk::{Turn, Walk};
+use clover_words::{Kind, Meta, Pool, Tag, ValueBuf, Word, unpack};
 use std::marker::{Brand, Model};
 
 /// A get of the key that a slot binds. It makes one access a step, and takes no memory.
@@ -67,22 +73,17 @@ impl GetCall {
         requires open { IsOpen self.old.stage }
         requires pool { P.pool port.old ≡ self.old.walk.pool }
         requires holds { GetHolds self.old (P.view port.old) into.old }
-        ensures made { OnReached result (OneAccess (P.pool port.old) self.old self.new into.old into.new (P.view port.old) (P.told port.old) (P.view port.new) (P.told port.new)) }
+        ensures made { OnReached result ((x : ℕ) × P.made port.old (get_step self.old (key_of self.old (P.view port.old)) into.old) self.old.walk.first x port.new × GoesOn self.old into.new.length x self.new × FillsFrom self.old.stage x into.old into.new) }
         ensures found { IfFound result (λ tag flags. FoundAt (P.pool port.old) self.old (tag_number tag) (value_in flags into.new) (P.view port.old) (P.told port.old) (P.view port.new) (P.told port.new)) }
         ensures at { IfFound result (λ tag flags. (self.old.stage ≡ AtFound (tag_number tag) flags) × (into.new ≡ into.old)) }
         ensures absent { IfAbsent result (λ tail. AbsentAt (P.pool port.old) self.old (tag_number tail) (P.view port.old) (P.told port.old) (P.view port.new) (P.told port.new)) }
         ensures known { IfAnswered result (λ tag. InRange self.old.walk.pool (tag_number tag) × Within (self.old.walk.slot, tag_number tag) (P.view port.new).pass.durable) }
         ensures behind { IfBehind result (λ turns. (turns ≡ budget (P.pool port.old)) × ((P.view port.new).pass.turns ≡ budget (P.pool port.old))) }
         ensures ahead { OnAhead result ((P.view port.new).pass.turns < budget (P.pool port.old)) }
-        ensures unreached { OnUnreached result (Rose (P.faults port.old) (P.faults port.new) × (P.view port.new ≡ P.view port.old) × (P.told port.new ≡ P.told port.old) × (self.new ≡ self.old) × (into.new ≡ into.old)) }
+        ensures unreached { OnUnreached result (P.failed port.old port.new × (self.new ≡ self.old) × (into.new ≡ into.old)) }
         ensures stands { OnGoing result (GetHolds self.new (P.view port.new) into.new) }
         ensures ends { OnOver result (self.new.stage ≡ Over) }
         ensures bound { OnReached result (length (P.view port.new).pass.since ≤ most_accesses (P.pool port.old) (P.view port.new).pass.turns) }
-        ensures same { (P.pool port.new ≡ P.pool port.old) × (P.table port.new ≡ P.table port.old) × (P.lender port.new ≡ P.lender port.old) }
-        ensures accessed { P.accessed port.old port.new }
-        ensures count { P.faults port.old ≤ P.faults port.new }
-        ensures kept { OnReached result (P.faults port.new ≡ P.faults port.old) }
-        ensures exact { ExactGet (P.refuses port.old) result }
     {
         self.advance(port, into)
     }
@@ -107,193 +108,83 @@ impl GetCall {
         }
     }
 
-    // Makes the access that the stage says.
-    fn advance<P: Port>(&mut self, port: &mut P, into: &mut ValueBuf) -> GetTurn
-        requires open { IsOpen self.old.stage }
-        requires pool { P.pool port.old ≡ self.old.walk.pool }
-        requires holds { GetHolds self.old (P.view port.old) into.old }
-        ensures went { Went (P.pool port.old) (P.faults port.old) (P.faults port.new) self.old self.new into.old into.new (P.view port.old) (P.told port.old) (P.view port.new) (P.told port.new) result }
-        ensures same { (P.pool port.new ≡ P.pool port.old) × (P.table port.new ≡ P.table port.old) × (P.lender port.new ≡ P.lender port.old) }
-        ensures accessed { P.accessed port.old port.new }
-        ensures count { P.faults port.old ≤ P.faults port.new }
-        ensures kept { OnReached result (P.faults port.new ≡ P.faults port.old) }
-        ensures exact { ExactGet (P.refuses port.old) result }
+    /// The access that the get asks for next.
+    pub fn next(&self) -> Op
+        ensures op { (key : List ℕ) (room : Room) → IsOp (get_step self.now key room) result }
+        ensures finds { IsFinding result }
+        ensures within { self.now.stage ≡ Seeking → IsWithin self.now.walk.pool (word_of (walk_step self.now.walk)) }
+    {
+        match self.stage {
+            Stage::Seeking | Stage::Over => self.walk.next(),
+            Stage::AtMeta(tag) => Op::Load(Word::Meta(tag.buffer())),
+            Stage::AtValue {
+                tag,
+                flags: _,
+                next,
+            } => Op::Load(Word::Value(tag.buffer(), next)),
+            Stage::AtFound { tag, flags: _ } | Stage::AtDead(tag) | Stage::AtBad(tag) => {
+                Op::Load(tag.next_word())
+            }
+        }
+    }
+
+    /// Goes on by what the access found. It never answers `Unreached`.
+    pub fn on(&mut self, found: u64, into: &mut ValueBuf) -> GetTurn
+        requires found { GetFinds self.old into.old found }
+        requires below { self.old.walk.turns < budget self.old.walk.pool }
+        ensures goes { GoesOn self.old into.new.length found self.new }
+        ensures fills { FillsFrom self.old.stage found into.old into.new }
+        ensures packs { PacksFrom self.old.stage found into.old into.new }
+        ensures answers { GetAnswers self.old found result }
     {
         let stage = self.stage;
         match stage {
-            Stage::Seeking => self.seek(port, into),
-            Stage::AtMeta(tag) => self.read_meta(port, tag, into),
-            Stage::AtValue { tag, flags, next } => self.read_value(port, tag, flags, next, into),
-            Stage::AtFound { tag, flags } => self.end_found(port, tag, flags, into),
-            Stage::AtDead(tag) => self.end_dead(port, tag, into),
-            Stage::AtBad(tag) => self.read_again(port, tag, into),
+            Stage::Seeking | Stage::AtBad(_) => self.go_on(found),
+            Stage::AtMeta(tag) => {
+                self.take_meta(tag, found, into);
+                GetTurn::More
+            }
+            Stage::AtValue { tag, flags, next } => {
+                unpack(found, next, into);
+                self.stage = value_stage(tag, flags, into.length, next + 1);
+                GetTurn::More
+            }
+            Stage::AtFound { tag, flags } if found == tag.unlinked() => {
+                self.stage = Stage::Over;
+                GetTurn::Found { tag, flags }
+            }
+            Stage::AtDead(tag) if found == tag.unlinked() => {
+                self.stage = Stage::Over;
+                GetTurn::Absent { tail: tag }
+            }
+            Stage::AtFound { tag: _, flags: _ } | Stage::AtDead(_) => self.go_on(found),
             Stage::Over => unreachable!(),
         }
     }
 
-    // Makes the walk's next access.
-    fn seek<P: Port>(&mut self, port: &mut P, into: &mut ValueBuf) -> GetTurn
-        requires at { self.old.stage ≡ Seeking }
+    // Makes the next access, and goes on by it.
+    fn advance<P: Port>(&mut self, port: &mut P, into: &mut ValueBuf) -> GetTurn
+        requires open { IsOpen self.old.stage }
         requires pool { P.pool port.old ≡ self.old.walk.pool }
         requires holds { GetHolds self.old (P.view port.old) into.old }
-        ensures went { Went (P.pool port.old) (P.faults port.old) (P.faults port.new) self.old self.new into.old into.new (P.view port.old) (P.told port.old) (P.view port.new) (P.told port.new) result }
-        ensures same { (P.pool port.new ≡ P.pool port.old) × (P.table port.new ≡ P.table port.old) × (P.lender port.new ≡ P.lender port.old) }
-        ensures accessed { P.accessed port.old port.new }
-        ensures count { P.faults port.old ≤ P.faults port.new }
-        ensures kept { OnReached result (P.faults port.new ≡ P.faults port.old) }
-        ensures exact { ExactGet (P.refuses port.old) result }
+        ensures made { OnReached result ((x : ℕ) × P.made port.old (get_step self.old (key_of self.old (P.view port.old)) into.old) self.old.walk.first x port.new × GoesOn self.old into.new.length x self.new × FillsFrom self.old.stage x into.old into.new) }
+        ensures went { Went (P.pool port.old) self.old self.new into.old into.new (P.view port.old) (P.told port.old) (P.view port.new) (P.told port.new) result }
+        ensures unreached { OnUnreached result (P.failed port.old port.new × (self.new ≡ self.old) × (into.new ≡ into.old)) }
     {
-        let _ = into.length;
-        let turn = self.walk.step(port);
-        self.follow(turn)
-    }
-
-    // Loads the meta word.
-    fn read_meta<P: Port>(&mut self, port: &mut P, tag: Tag, into: &mut ValueBuf) -> GetTurn
-        requires at { self.old.stage ≡ AtMeta (tag_number tag) }
-        requires pool { P.pool port.old ≡ self.old.walk.pool }
-        requires holds { GetHolds self.old (P.view port.old) into.old }
-        ensures went { Went (P.pool port.old) (P.faults port.old) (P.faults port.new) self.old self.new into.old into.new (P.view port.old) (P.told port.old) (P.view port.new) (P.told port.new) result }
-        ensures same { (P.pool port.new ≡ P.pool port.old) × (P.table port.new ≡ P.table port.old) × (P.lender port.new ≡ P.lender port.old) }
-        ensures accessed { P.accessed port.old port.new }
-        ensures count { P.faults port.old ≤ P.faults port.new }
-        ensures kept { OnReached result (P.faults port.new ≡ P.faults port.old) }
-        ensures exact { ExactGet (P.refuses port.old) result }
-    {
-        match load_content::<P, Brand>(port, false, self.walk.slot(), tag, 0) {
-            Ok(word) => {
-                self.take_meta(tag, word, into);
-                GetTurn::More
-            }
+        match access::<P, Brand>(self, port, into) {
+            Ok(found) => self.on(found, into),
             Err(_) => GetTurn::Unreached,
         }
     }
 
-    // Loads the value word of this number, and unpacks it into the room.
-    fn read_value<P: Port>(
-        &mut self,
-        port: &mut P,
-        tag: Tag,
-        flags: u32,
-        next: u32,
-        into: &mut ValueBuf,
-    ) -> GetTurn
-        requires at { self.old.stage ≡ AtValue (tag_number tag) flags next }
-        requires pool { P.pool port.old ≡ self.old.walk.pool }
-        requires holds { GetHolds self.old (P.view port.old) into.old }
-        ensures went { Went (P.pool port.old) (P.faults port.old) (P.faults port.new) self.old self.new into.old into.new (P.view port.old) (P.told port.old) (P.view port.new) (P.told port.new) result }
-        ensures same { (P.pool port.new ≡ P.pool port.old) × (P.table port.new ≡ P.table port.old) × (P.lender port.new ≡ P.lender port.old) }
-        ensures accessed { P.accessed port.old port.new }
-        ensures count { P.faults port.old ≤ P.faults port.new }
-        ensures kept { OnReached result (P.faults port.new ≡ P.faults port.old) }
-        ensures exact { ExactGet (P.refuses port.old) result }
+    // Goes on with the walk by a next word, or by what else the walk's access found.
+    fn go_on(&mut self, found: u64) -> GetTurn
+        requires found { MayFind self.old.walk found }
+        requires below { self.old.walk.turns < budget self.old.walk.pool }
+        ensures value { self.new ≡ sought (goes_on self.old.walk found) }
+        ensures came { Came self.old.walk found result }
     {
-        match load_content::<P, Brand>(port, false, self.walk.slot(), tag, next + 1) {
-            Ok(word) => {
-                unpack(word, next, into);
-                self.stage = value_stage(tag, flags, into.length, next + 1);
-                GetTurn::More
-            }
-            Err(_) => GetTurn::Unreached,
-        }
-    }
-
-    // Loads the next word for the last time, with the value in the room.
-    fn end_found<P: Port>(
-        &mut self,
-        port: &mut P,
-        tag: Tag,
-        flags: u32,
-        into: &mut ValueBuf,
-    ) -> GetTurn
-        requires at { self.old.stage ≡ AtFound (tag_number tag) flags }
-        requires pool { P.pool port.old ≡ self.old.walk.pool }
-        requires holds { GetHolds self.old (P.view port.old) into.old }
-        ensures went { Went (P.pool port.old) (P.faults port.old) (P.faults port.new) self.old self.new into.old into.new (P.view port.old) (P.told port.old) (P.view port.new) (P.told port.new) result }
-        ensures same { (P.pool port.new ≡ P.pool port.old) × (P.table port.new ≡ P.table port.old) × (P.lender port.new ≡ P.lender port.old) }
-        ensures accessed { P.accessed port.old port.new }
-        ensures count { P.faults port.old ≤ P.faults port.new }
-        ensures kept { OnReached result (P.faults port.new ≡ P.faults port.old) }
-        ensures exact { ExactGet (P.refuses port.old) result }
-    {
-        match load_found::<P, Brand>(port, self.walk.slot(), tag, flags, into) {
-            Ok(word) => {
-                if shows_unlinked(tag, word) {
-                    self.stage = Stage::Over;
-                    GetTurn::Found { tag, flags }
-                } else {
-                    self.go_on(port, word)
-                }
-            }
-            Err(_) => GetTurn::Unreached,
-        }
-    }
-
-    // Loads the next word for the last time, at a tombstone.
-    fn end_dead<P: Port>(&mut self, port: &mut P, tag: Tag, into: &mut ValueBuf) -> GetTurn
-        requires at { self.old.stage ≡ AtDead (tag_number tag) }
-        requires pool { P.pool port.old ≡ self.old.walk.pool }
-        requires holds { GetHolds self.old (P.view port.old) into.old }
-        ensures went { Went (P.pool port.old) (P.faults port.old) (P.faults port.new) self.old self.new into.old into.new (P.view port.old) (P.told port.old) (P.view port.new) (P.told port.new) result }
-        ensures same { (P.pool port.new ≡ P.pool port.old) × (P.table port.new ≡ P.table port.old) × (P.lender port.new ≡ P.lender port.old) }
-        ensures accessed { P.accessed port.old port.new }
-        ensures count { P.faults port.old ≤ P.faults port.new }
-        ensures kept { OnReached result (P.faults port.new ≡ P.faults port.old) }
-        ensures exact { ExactGet (P.refuses port.old) result }
-    {
-        let _ = into.length;
-        match load_dead::<P, Brand>(port, self.walk.slot(), tag) {
-            Ok(word) => {
-                if shows_unlinked(tag, word) {
-                    self.stage = Stage::Over;
-                    GetTurn::Absent { tail: tag }
-                } else {
-                    self.go_on(port, word)
-                }
-            }
-            Err(_) => GetTurn::Unreached,
-        }
-    }
-
-    // Loads the next word of a tag whose meta word was no version's. It cannot show the tag unlinked.
-    fn read_again<P: Port>(&mut self, port: &mut P, tag: Tag, into: &mut ValueBuf) -> GetTurn
-        requires at { self.old.stage ≡ AtBad (tag_number tag) }
-        requires pool { P.pool port.old ≡ self.old.walk.pool }
-        requires holds { GetHolds self.old (P.view port.old) into.old }
-        ensures went { Went (P.pool port.old) (P.faults port.old) (P.faults port.new) self.old self.new into.old into.new (P.view port.old) (P.told port.old) (P.view port.new) (P.told port.new) result }
-        ensures same { (P.pool port.new ≡ P.pool port.old) × (P.table port.new ≡ P.table port.old) × (P.lender port.new ≡ P.lender port.old) }
-        ensures accessed { P.accessed port.old port.new }
-        ensures count { P.faults port.old ≤ P.faults port.new }
-        ensures kept { OnReached result (P.faults port.new ≡ P.faults port.old) }
-        ensures exact { ExactGet (P.refuses port.old) result }
-    {
-        let _ = into.length;
-        match load_next::<P, Brand>(port, false, self.walk.slot(), tag) {
-            Ok(word) => self.go_on(port, word),
-            Err(_) => GetTurn::Unreached,
-        }
-    }
-
-    // Goes on along the chain by a next word that was loaded at the tail.
-    fn go_on<P: Port>(&mut self, port: &mut P, word: u64) -> GetTurn
-        requires pool { P.pool port.old ≡ self.old.walk.pool }
-        requires shows { ShowsNext self.old.walk (P.view port.old) word }
-        ensures value { self.new ≡ sought (goes_on self.old.walk word) }
-        ensures follows { Follows (P.pool port.old) self.new.walk (P.view port.new) result }
-        ensures port { port.new ≡ port.old }
-    {
-        let turn = self.walk.seen(port, word);
-        self.follow(turn)
-    }
-
-    // Stands where the walk came to.
-    fn follow(&mut self, turn: Turn) -> GetTurn
-        requires answers { WalkReached turn (Answers self.old.walk turn) }
-        ensures value { WalkReached turn (self.new ≡ sought self.old.walk) }
-        ensures still { WalkUnreached turn (self.new ≡ self.old) }
-        ensures answer { result ≡ answer_of turn }
-    {
-        match turn {
+        match self.walk.on(found) {
             Turn::More => {
                 self.stage = Stage::Seeking;
                 GetTurn::More
@@ -306,7 +197,7 @@ impl GetCall {
                 self.stage = Stage::Over;
                 GetTurn::Behind { turns }
             }
-            Turn::Unreached => GetTurn::Unreached,
+            Turn::Unreached => unreachable!(),
         }
     }
 
@@ -346,4 +237,20 @@ fn meta_stage(pool: &Pool, tag: Tag, meta: Meta) -> Stage
         Kind::Value if meta.length > 8 * pool.words => Stage::AtBad(tag),
         Kind::Value => value_stage(tag, meta.flags, meta.length, 0),
     }
+}
+
+// Makes the access that the get asks for, as the step that M names.
+fn access<P: Port, M: StepName>(
+    call: &GetCall,
+    port: &mut P,
+    into: &ValueBuf,
+) -> Result<u64, Failed>
+    requires name { (M.step ≡ get_step call.now (key_of call.now (P.view port.old)) into.now) × (M.first ≡ call.now.walk.first) }
+    requires open { IsOpen call.now.stage }
+    requires pool { P.pool port.old ≡ call.now.walk.pool }
+    requires holds { GetHolds call.now (P.view port.old) into.now }
+    ensures ends { MatchResult result (λ x. P.made port.old (get_step call.now (key_of call.now (P.view port.old)) into.now) call.now.walk.first x port.new) (λ e. P.failed port.old port.new) }
+{
+    let _ = into.length;
+    perform::<P, M>(port, call.next())
 }

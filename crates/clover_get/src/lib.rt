@@ -4,7 +4,6 @@
 #![tactic(auto)]
 
 mod call;
-mod last;
 mod laws;
 mod stage;
 mod turn;

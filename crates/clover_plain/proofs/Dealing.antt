@@ -8,14 +8,13 @@ use Rattle.clover_words.specs.declared.pool.Pool.{Pool}
 use Rattle.clover_words.specs.declared.setup.Setup.{Setup}
 use Rattle.clover_words.specs.Place.{IsBuffer}
 use Rattle.clover_words.specs.Preset.{buffers_total, dealt_number}
-use Rattle.clover_words.specs.Tag.{TagParts, IsTag}
+use Rattle.clover_words.specs.Tag.{TagParts, IsTag, home, age}
 use Rattle.clover_words.proofs.Places.{split}
+use Rattle.clover_words.specs.Version.{buffer_at}
+use Rattle.clover_words.proofs.Versions.{home_tag, age_tag, buffer_tag}
 use Rattle.clover_rule.specs.Content.{inside}
 use Rattle.clover_rule.specs.Lists.{Each, Within}
-use Rattle.clover_rule.specs.Memory.{home, age}
 use Rattle.clover_rule.specs.Views.{Apart}
-use Rattle.clover_rule.specs.Words.{buffer_at}
-use Rattle.clover_rule.proofs.Codecs.{home_tag, age_tag, buffer_tag}
 use Rattle.clover_rule.proofs.Keeping.{inside_of}
 use Rattle.clover_rule.proofs.Steps.{each_of}
 use Rattle.clover_rule.proofs.Ties.{below, test_below, buffer_in}

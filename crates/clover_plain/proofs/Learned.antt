@@ -4,12 +4,13 @@ use Rattle.std.specs.Prelude.{Option, Some, None}
 use Rattle.clover_words.specs.declared.word.Word.{Word}
 use Rattle.clover_words.specs.declared.word.Side.{Side}
 use Rattle.clover_words.specs.declared.word.Side.TheVariants.{Current, Flushed}
+use Rattle.clover_words.specs.Version.{unlinked}
 use Rattle.clover_map.specs.declared.call.Entry.{Entry}
 use Rattle.clover_map.specs.declared.call.Reply.TheVariants.{Absent}
 use Rattle.clover_rule.specs.Knowing.{link_entry, link_view}
 use Rattle.clover_rule.specs.Lists.{IsPrefix}
 use Rattle.clover_rule.specs.Memory.{Next, word}
-use Rattle.clover_rule.specs.Steps.{Step, LoadNext, DecideNext, RaiseNext, LinkNext, StoreContent, FlushContent, LoadContent, ReadRoot, ReadShort, StoreShort, ReadCount, AbsentCount, act_of, word_of, side_of, next_view, next_history, seen, started, decided, missed, counts, unlinked, client, reply_of, rest_of}
+use Rattle.clover_rule.specs.Steps.{Step, LoadNext, DecideNext, RaiseNext, LinkNext, StoreContent, FlushContent, LoadContent, ReadRoot, ReadShort, StoreShort, ReadCount, AbsentCount, act_of, word_of, side_of, next_view, next_history, seen, started, decided, missed, counts, client, reply_of, rest_of}
 use Rattle.clover_rule.specs.Words.{next_of, root_of}
 use Rattle.clover_rule.specs.declared.access.Act.{Act}
 use Rattle.clover_rule.specs.declared.access.Act.TheVariants.{Load, Store, Exchange, Raise}

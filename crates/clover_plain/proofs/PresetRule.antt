@@ -17,14 +17,18 @@ use Rattle.clover_words.specs.Place.{HasSide, copy_in, pool_words}
 use Rattle.clover_words.proofs.Places.{split}
 use Rattle.clover_words.specs.Pack.{words_of}
 use Rattle.clover_words.specs.Preset.{buffers_total, tombstone_number, dealt_number}
-use Rattle.clover_rule.specs.Content.{inside, tombstone, spelling, words_from, IsKey}
+use Rattle.clover_words.specs.Meta.{tombstone}
+use Rattle.clover_words.specs.Tag.{home}
+use Rattle.clover_words.specs.Next.{root_code}
+use Rattle.clover_words.specs.Version.{buffer_at, content_at}
+use Rattle.clover_rule.specs.Content.{inside, spelling, words_from, IsKey}
 use Rattle.clover_rule.specs.Lists.{nth, Within}
 use Rattle.clover_rule.specs.Meets.{Decodes, IsCode}
-use Rattle.clover_rule.specs.Memory.{word, home, gen}
+use Rattle.clover_rule.specs.Memory.{word, gen}
 use Rattle.clover_rule.specs.Opening.{Starts}
 use Rattle.clover_rule.specs.Preset.{PresetWords, PresetKeys, PresetViews, bindings_from}
 use Rattle.clover_rule.specs.Rule.{Rule, longest}
-use Rattle.clover_rule.specs.Words.{root_code, root_of, next_of, buffer_at, content_at, guarded, mem_of}
+use Rattle.clover_rule.specs.Words.{root_of, next_of, guarded, mem_of}
 use Rattle.clover_rule.specs.declared.view.Role.TheVariants.{Client, Serving}
 use Rattle.clover_rule.specs.declared.view.View.{View}
 use Rattle.clover_rule.proofs.Longest.{longest_law}

@@ -11,11 +11,12 @@ use Rattle.clover_words.specs.declared.word.Side.{Side}
 use Rattle.clover_words.specs.Place.{IsWithin, HasSide, copy_in}
 use Rattle.clover_words.specs.Preset.{buffers_total, tombstone_number, dealt_number}
 use Rattle.clover_words.specs.Tag.{tag_number}
-use Rattle.clover_rule.specs.Content.{tombstone, spelling}
+use Rattle.clover_words.specs.Meta.{tombstone}
+use Rattle.clover_words.specs.Next.{root_code}
+use Rattle.clover_rule.specs.Content.{spelling}
 use Rattle.clover_rule.specs.Lists.{nth}
 use Rattle.clover_rule.specs.Preset.{bindings_from}
 use Rattle.clover_rule.specs.Views.{alone, start_pass}
-use Rattle.clover_rule.specs.Words.{root_code}
 use Rattle.clover_rule.specs.declared.view.Pass.{Pass}
 use Rattle.clover_rule.specs.declared.view.Role.TheVariants.{Client}
 use Rattle.clover_rule.specs.declared.view.View.{View}

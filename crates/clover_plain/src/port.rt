@@ -1,9 +1,7 @@
 // An actor's port: each access is made at once, by a step of the pool, or refused.
-ghost use Rattle.std.specs.Prelude.{◌≡◌, ◌≤◌, ◌<◌, ◌&&◌, ◌+◌, ◌-◌, ◌^◌, ℕ, true, false, length, min, Some, IfOk, OnOk, OnErr};
-ghost use Rattle.clover_rule.specs.Steps.{Asks, act_of};
-ghost use Rattle.clover_rule.specs.Meant.{load_step, store_step, exchange_step, raise_step, IsLoad, IsStore, IsExchange, IsRaise};
-ghost use Rattle.clover_port.specs.Told.{Made, MadeBlind, Rose, Exact};
-ghost use Rattle.clover_plain.specs.Plain.{Stepped, Refused, Accessed, view_at, open_of, no_table};
+ghost use Rattle.std.specs.Prelude.{◌≡◌, ◌≤◌, ◌<◌, ◌&&◌, true, false, length};
+ghost use Rattle.clover_port.specs.Told.{Rose};
+ghost use Rattle.clover_plain.specs.Plain.{Refused};
 
 use crate::pool::PlainPool;
 use clover_port::{Failed, Port};
@@ -30,8 +28,12 @@ pub struct PlainPort<'a> {
 }
 
 impl<'a> Port for PlainPort<'a> {
-    ghost use Rattle.std.specs.Prelude.{◌≡◌, Some};
-    ghost use Rattle.clover_plain.specs.Plain.{open_of, view_at, no_table, Accessed};
+    ghost use Rattle.std.specs.Prelude.{◌≡◌, ◌≤◌, true, false, Some};
+    ghost use Rattle.std.proofs.Common.{refl};
+    ghost use Rattle.clover_rule.specs.Steps.{Step, act_of};
+    ghost use Rattle.clover_port.specs.Told.{Made, Rose};
+    ghost use Rattle.clover_plain.specs.Plain.{Stepped, Refused, open_of, view_at, no_table};
+    ghost use Rattle.clover_plain.specs.Ports.{pool_same, refused_view, refused_told, not_true, not_false};
 
     ghost view = { λ p. view_at p.pool.now p.seat };
 
@@ -43,26 +45,21 @@ impl<'a> Port for PlainPort<'a> {
 
     ghost lender = { λ p. p.pool.ghost_name };
 
-    ghost accessed = { λ p q. (q.seat ≡ p.seat) × Accessed p.seat p.list p.pool.now q.pool.now };
-
     ghost faults = { λ p. p.faults };
 
     ghost refuses = { λ p. Some p.refuse };
 
-    fn load<M: StepName>(&mut self, word: Word) -> Result<u64, Failed>
-        requires step { IsLoad (load_step M.kind M.slot M.tag M.call M.reply word) word }
-        requires rule { Asks self.old.pool.now.setup.pool (load_step M.kind M.slot M.tag M.call M.reply word) (view_at self.old.pool.now self.old.seat) }
-        ensures made { IfOk result (λ x. Made self.old.pool.now.setup.pool (load_step M.kind M.slot M.tag M.call M.reply word) M.first (view_at self.old.pool.now self.old.seat) (Some (open_of self.old.pool.now)) x (view_at self.new.pool.now self.new.seat) (Some (open_of self.new.pool.now))) }
-        ensures failed { OnErr result (Rose self.old.faults self.new.faults × (view_at self.new.pool.now self.new.seat ≡ view_at self.old.pool.now self.old.seat) × (Some (open_of self.new.pool.now) ≡ Some (open_of self.old.pool.now))) }
-        ensures same { (self.new.pool.now.setup.pool ≡ self.old.pool.now.setup.pool) × (no_table ≡ no_table) × (self.new.pool.ghost_name ≡ self.old.pool.ghost_name) }
-        ensures accessed { (self.new.seat ≡ self.old.seat) × Accessed self.old.seat self.old.list self.old.pool.now self.new.pool.now }
-        ensures count { self.old.faults ≤ self.new.faults }
-        ensures kept { OnOk result (self.new.faults ≡ self.old.faults) }
-        ensures exact { Exact (Some self.old.refuse) result }
-        ensures stepped { IfOk result (λ x. Stepped (load_step M.kind M.slot M.tag M.call M.reply word) M.first self.old.list self.old.seat x self.old.pool.now self.new.pool.now) }
-        ensures refused { OnErr result (Refused (act_of (load_step M.kind M.slot M.tag M.call M.reply word) 0) self.old.seat self.old.pool.now self.new.pool.now) }
-        ensures next { (self.new.seat ≡ self.old.seat) × (self.new.refuse ≡ false) × (self.new.list ≡ false) }
-    {
+    ghost made = { λ p a b x q. Stepped a b p.list p.seat x p.pool.now q.pool.now × Made p.pool.now.setup.pool a b (view_at p.pool.now p.seat) (Some (open_of p.pool.now)) x (view_at q.pool.now q.seat) (Some (open_of q.pool.now)) × (q.seat ≡ p.seat) × (q.faults ≡ p.faults) × (q.pool.ghost_name ≡ p.pool.ghost_name) × (p.refuse ≡ false) × (q.refuse ≡ false) × (q.list ≡ false) };
+
+    ghost failed = { λ p q. ((a : Step) × Refused (act_of a 0) p.seat p.pool.now q.pool.now) × (q.seat ≡ p.seat) × Rose p.faults q.faults × (q.pool.ghost_name ≡ p.pool.ghost_name) × (p.refuse ≡ true) × (q.refuse ≡ false) × (q.list ≡ false) × (p.faults ≤ q.faults) };
+
+    ghost made_tells = { λ p q a b x h. h.1 };
+
+    ghost made_leaves = { λ p q a b x h. (pool_same h.0.same, refl, h.4, h.3, not_true h.5) };
+
+    ghost failed_leaves = { λ p q h. (pool_same h.0.1.same, refl, h.3, h.2, refused_view p.seat q.seat h.1 h.0.1, refused_told p.seat h.0.1, not_false h.4, h.7) };
+
+    fn load<M: StepName>(&mut self, word: Word) -> Result<u64, Failed> {
         if self.refuse {
             self.fail(Act::Load { word, got: 0 });
             return Err(Failed);
@@ -72,20 +69,7 @@ impl<'a> Port for PlainPort<'a> {
         Ok(self.pool.load::<M>(self.seat, list, word))
     }
 
-    fn store<M: StepName>(&mut self, word: Word, side: Side, value: u64) -> Result<(), Failed>
-        requires step { IsStore (store_step M.kind M.slot M.tag word side value) word side value }
-        requires rule { Asks self.old.pool.now.setup.pool (store_step M.kind M.slot M.tag word side value) (view_at self.old.pool.now self.old.seat) }
-        ensures made { OnOk result (MadeBlind self.old.pool.now.setup.pool (store_step M.kind M.slot M.tag word side value) M.first (view_at self.old.pool.now self.old.seat) (Some (open_of self.old.pool.now)) (view_at self.new.pool.now self.new.seat) (Some (open_of self.new.pool.now))) }
-        ensures failed { OnErr result (Rose self.old.faults self.new.faults × (view_at self.new.pool.now self.new.seat ≡ view_at self.old.pool.now self.old.seat) × (Some (open_of self.new.pool.now) ≡ Some (open_of self.old.pool.now))) }
-        ensures same { (self.new.pool.now.setup.pool ≡ self.old.pool.now.setup.pool) × (no_table ≡ no_table) × (self.new.pool.ghost_name ≡ self.old.pool.ghost_name) }
-        ensures accessed { (self.new.seat ≡ self.old.seat) × Accessed self.old.seat self.old.list self.old.pool.now self.new.pool.now }
-        ensures count { self.old.faults ≤ self.new.faults }
-        ensures kept { OnOk result (self.new.faults ≡ self.old.faults) }
-        ensures exact { Exact (Some self.old.refuse) result }
-        ensures stepped { OnOk result ((x : ℕ) × Stepped (store_step M.kind M.slot M.tag word side value) M.first self.old.list self.old.seat x self.old.pool.now self.new.pool.now) }
-        ensures refused { OnErr result (Refused (act_of (store_step M.kind M.slot M.tag word side value) 0) self.old.seat self.old.pool.now self.new.pool.now) }
-        ensures next { (self.new.seat ≡ self.old.seat) × (self.new.refuse ≡ false) × (self.new.list ≡ false) }
-    {
+    fn store<M: StepName>(&mut self, word: Word, side: Side, value: u64) -> Result<(), Failed> {
         if self.refuse {
             self.fail(Act::Store { word, side, value });
             return Err(Failed);
@@ -96,20 +80,12 @@ impl<'a> Port for PlainPort<'a> {
         Ok(())
     }
 
-    fn exchange<M: StepName>(&mut self, word: Word, expected: u64, new: u64) -> Result<u64, Failed>
-        requires step { IsExchange (exchange_step M.slot M.tag M.call new) word expected new }
-        requires rule { Asks self.old.pool.now.setup.pool (exchange_step M.slot M.tag M.call new) (view_at self.old.pool.now self.old.seat) }
-        ensures made { IfOk result (λ x. Made self.old.pool.now.setup.pool (exchange_step M.slot M.tag M.call new) M.first (view_at self.old.pool.now self.old.seat) (Some (open_of self.old.pool.now)) x (view_at self.new.pool.now self.new.seat) (Some (open_of self.new.pool.now))) }
-        ensures failed { OnErr result (Rose self.old.faults self.new.faults × (view_at self.new.pool.now self.new.seat ≡ view_at self.old.pool.now self.old.seat) × (Some (open_of self.new.pool.now) ≡ Some (open_of self.old.pool.now))) }
-        ensures same { (self.new.pool.now.setup.pool ≡ self.old.pool.now.setup.pool) × (no_table ≡ no_table) × (self.new.pool.ghost_name ≡ self.old.pool.ghost_name) }
-        ensures accessed { (self.new.seat ≡ self.old.seat) × Accessed self.old.seat self.old.list self.old.pool.now self.new.pool.now }
-        ensures count { self.old.faults ≤ self.new.faults }
-        ensures kept { OnOk result (self.new.faults ≡ self.old.faults) }
-        ensures exact { Exact (Some self.old.refuse) result }
-        ensures stepped { IfOk result (λ x. Stepped (exchange_step M.slot M.tag M.call new) M.first self.old.list self.old.seat x self.old.pool.now self.new.pool.now) }
-        ensures refused { OnErr result (Refused (act_of (exchange_step M.slot M.tag M.call new) 0) self.old.seat self.old.pool.now self.new.pool.now) }
-        ensures next { (self.new.seat ≡ self.old.seat) × (self.new.refuse ≡ false) × (self.new.list ≡ false) }
-    {
+    fn exchange<M: StepName>(
+        &mut self,
+        word: Word,
+        expected: u64,
+        new: u64,
+    ) -> Result<u64, Failed> {
         if self.refuse {
             self.fail(Act::Exchange {
                 word,
@@ -127,20 +103,7 @@ impl<'a> Port for PlainPort<'a> {
         )
     }
 
-    fn raise<M: StepName>(&mut self, word: Word, value: u64) -> Result<u64, Failed>
-        requires step { IsRaise (raise_step M.slot M.tag value) word value }
-        requires rule { Asks self.old.pool.now.setup.pool (raise_step M.slot M.tag value) (view_at self.old.pool.now self.old.seat) }
-        ensures made { IfOk result (λ x. Made self.old.pool.now.setup.pool (raise_step M.slot M.tag value) M.first (view_at self.old.pool.now self.old.seat) (Some (open_of self.old.pool.now)) x (view_at self.new.pool.now self.new.seat) (Some (open_of self.new.pool.now))) }
-        ensures failed { OnErr result (Rose self.old.faults self.new.faults × (view_at self.new.pool.now self.new.seat ≡ view_at self.old.pool.now self.old.seat) × (Some (open_of self.new.pool.now) ≡ Some (open_of self.old.pool.now))) }
-        ensures same { (self.new.pool.now.setup.pool ≡ self.old.pool.now.setup.pool) × (no_table ≡ no_table) × (self.new.pool.ghost_name ≡ self.old.pool.ghost_name) }
-        ensures accessed { (self.new.seat ≡ self.old.seat) × Accessed self.old.seat self.old.list self.old.pool.now self.new.pool.now }
-        ensures count { self.old.faults ≤ self.new.faults }
-        ensures kept { OnOk result (self.new.faults ≡ self.old.faults) }
-        ensures exact { Exact (Some self.old.refuse) result }
-        ensures stepped { IfOk result (λ x. Stepped (raise_step M.slot M.tag value) M.first self.old.list self.old.seat x self.old.pool.now self.new.pool.now) }
-        ensures refused { OnErr result (Refused (act_of (raise_step M.slot M.tag value) 0) self.old.seat self.old.pool.now self.new.pool.now) }
-        ensures next { (self.new.seat ≡ self.old.seat) × (self.new.refuse ≡ false) × (self.new.list ≡ false) }
-    {
+    fn raise<M: StepName>(&mut self, word: Word, value: u64) -> Result<u64, Failed> {
         if self.refuse {
             self.fail(Act::Raise {
                 word,
@@ -163,7 +126,7 @@ impl<'a> PlainPort<'a> {
         ensures next { (self.new.seat ≡ self.old.seat) × (self.new.refuse ≡ false) × (self.new.list ≡ false) }
         ensures lender { self.new.pool.ghost_name ≡ self.old.pool.ghost_name }
         ensures rises { self.old.faults ≤ self.new.faults }
-        ensures count { self.new.faults ≡ min (self.old.faults + 1) (2 ^ 64 - 1) }
+        ensures count { Rose self.old.faults self.new.faults }
     {
         self.refuse = false;
         self.list = false;

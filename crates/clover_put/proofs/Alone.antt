@@ -12,14 +12,16 @@ use Rattle.clover_words.specs.declared.word.Word.TheVariants.{Next as NextOf, Ro
 use Rattle.clover_words.specs.declared.word.Side.{Side}
 use Rattle.clover_words.specs.declared.word.Side.TheVariants.{Current, Flushed}
 use Rattle.clover_words.specs.Place.{IsWithin, copy_in, address_of}
-use Rattle.clover_words.specs.Tag.{tag_number}
+use Rattle.clover_words.specs.Tag.{tag_number, home, age}
 use Rattle.clover_words.proofs.Places.{copy_kept, has_current}
+use Rattle.clover_words.specs.Meta.{tombstone}
+use Rattle.clover_words.specs.Version.{unlinked, buffer_at, content_at}
 use Rattle.clover_map.specs.declared.bytes.Value.{Value}
-use Rattle.clover_rule.specs.Content.{inside, InRange, content, tombstone, value_meta}
+use Rattle.clover_rule.specs.Content.{inside, InRange, content, value_meta}
 use Rattle.clover_rule.specs.Lists.{Each}
-use Rattle.clover_rule.specs.Memory.{Mem, word, gen, home, age}
-use Rattle.clover_rule.specs.Steps.{LoadContent, found, words_after_step, unlinked, turn_of, turn_at}
-use Rattle.clover_rule.specs.Words.{next_of, root_of, buffer_at, content_at, mem_of}
+use Rattle.clover_rule.specs.Memory.{Mem, word, gen}
+use Rattle.clover_rule.specs.Steps.{LoadContent, found, words_after_step, turn_of, turn_at}
+use Rattle.clover_rule.specs.Words.{next_of, root_of, mem_of}
 use Rattle.clover_rule.specs.declared.view.View.{View}
 use Rattle.clover_rule.proofs.Spelling.{short_enough}
 use Rattle.clover_rule.proofs.Ties.{kind_of as word_kind, content_kind, buffer_in, content_in, content_side, buffer_same, guard}

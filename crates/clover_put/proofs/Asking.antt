@@ -1,16 +1,16 @@
 -- What each access of a put asks for is known where the put stands.
 use Rattle.std.proofs.Common.{◌≡◌, ℕ, ◌<◌, List, ◌∷◌, refl, sym, ap, ◌∙◌, inl, arith, subst}
 use Rattle.clover_words.specs.declared.pool.Pool.{Pool}
+use Rattle.clover_words.specs.Tag.{home}
+use Rattle.clover_words.specs.Version.{buffer_at}
 use Rattle.clover_rule.specs.Content.{InRange, Fits, content}
 use Rattle.clover_rule.specs.Lists.{Within, nth}
-use Rattle.clover_rule.specs.Memory.{home}
 use Rattle.clover_words.specs.declared.word.Word.TheVariants.{Next as NextOf}
 use Rattle.clover_map.specs.declared.bytes.Value.{Value}
 use Rattle.clover_map.specs.declared.call.Reply.TheVariants.{Absent, Differs}
 use Rattle.clover_words.specs.Place.{IsWithin}
 use Rattle.clover_rule.specs.History.{named}
 use Rattle.clover_rule.specs.Steps.{StoreContent, FlushContent, StoreShort, LinkNext, DecideNext, Asks}
-use Rattle.clover_rule.specs.Words.{buffer_at}
 use Rattle.clover_walk.specs.Walking.{Stand, OnTail, StandsOn, key_at}
 use Rattle.std.specs.Prelude.{Option}
 use Rattle.clover_rule.specs.declared.view.View.{View}

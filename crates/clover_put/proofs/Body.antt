@@ -5,11 +5,11 @@ use Rattle.std.specs.Prelude.{Option, Some, None}
 use Rattle.std.proofs.lemmas.Bool.Decides.{nat_tests}
 use Rattle.clover_words.specs.declared.meta.Kind.{Kind}
 use Rattle.clover_words.specs.declared.meta.Kind.TheVariants.{Value as IsValue, Tombstone}
-use Rattle.clover_words.specs.Meta.{MetaParts, IsMeta, meta_word}
+use Rattle.clover_words.specs.Meta.{MetaParts, IsMeta, meta_word, tombstone}
 use Rattle.clover_words.specs.Tag.{TagParts}
 use Rattle.clover_words.specs.Pack.{packed, words_of}
 use Rattle.clover_map.specs.declared.bytes.Value.{Value}
-use Rattle.clover_rule.specs.Content.{content, tombstone, value_meta, Fits}
+use Rattle.clover_rule.specs.Content.{content, value_meta, Fits}
 use Rattle.clover_rule.specs.Lists.{nth}
 use Rattle.clover_rule.proofs.Spelling.{length_words, nth_words}
 use Rattle.clover_words.specs.declared.pool.Pool.{Pool}

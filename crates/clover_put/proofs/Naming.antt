@@ -1,20 +1,19 @@
 -- The steps that an access of a put is named as.
 use Rattle.std.proofs.Common.{◌≡◌, ℕ, sym, ap, ◌∙◌}
 use Rattle.std.specs.Prelude.{Option, Some}
-use Rattle.clover_words.specs.Tag.{TagParts, IsTag, tag_number}
+use Rattle.clover_words.specs.Tag.{TagParts, IsTag, tag_number, home}
 use Rattle.clover_words.specs.Next.{next_word}
 use Rattle.clover_words.specs.declared.word.Side.TheVariants.{Current, Flushed}
 use Rattle.clover_words.specs.declared.word.Word.{Word}
 use Rattle.clover_words.specs.declared.word.Word.TheVariants.{Next as NextOf}
+use Rattle.clover_words.specs.Version.{unlinked, buffer_at, content_at}
+use Rattle.clover_words.proofs.Versions.{linked_is}
 use Rattle.clover_map.specs.declared.call.Call.{Call}
 use Rattle.clover_rule.specs.Meant.{store_step, exchange_step, IsStore, IsExchange}
-use Rattle.clover_rule.specs.Memory.{home}
-use Rattle.clover_rule.specs.Steps.{Step, StoreContent, FlushContent, LinkNext, unlinked, act_of}
-use Rattle.clover_rule.specs.Words.{buffer_at, content_at}
+use Rattle.clover_rule.specs.Steps.{Step, StoreContent, FlushContent, LinkNext, act_of}
 use Rattle.clover_rule.specs.declared.access.Act.TheVariants.{Store, Exchange}
 use Rattle.clover_rule.specs.declared.step.Kind.{Kind}
 use Rattle.clover_rule.specs.declared.step.Kind.TheVariants.{Fill}
-use Rattle.clover_rule.proofs.Codecs.{linked_is}
 use Rattle.clover_walk.proofs.Naming.{target_is}
 use Rattle.clover_walk.proofs.Tailing.{place_again}
 

@@ -6,17 +6,16 @@ use Rattle.clover_words.specs.declared.pool.Pool.{Pool}
 use Rattle.clover_words.specs.declared.meta.Kind.TheVariants.{Value as IsValue, Tombstone}
 use Rattle.clover_words.specs.declared.word.Word.{Word}
 use Rattle.clover_words.specs.declared.word.Word.TheVariants.{Next as NextOf}
+use Rattle.clover_words.specs.Tag.{home, TagParts, tag_number}
+use Rattle.clover_words.specs.Version.{unlinked, buffer_at}
 use Rattle.clover_map.specs.declared.call.Reply.TheVariants.{Absent, Differs}
 use Rattle.clover_port.specs.Told.{Open, Made}
 use Rattle.clover_rule.specs.Content.{InRange}
 use Rattle.clover_rule.specs.Lists.{Within}
-use Rattle.clover_rule.specs.Memory.{home}
-use Rattle.clover_rule.specs.Steps.{Step, LoadNext, LinkNext, DecideNext, act_of, unlinked, word_of}
+use Rattle.clover_rule.specs.Steps.{Step, LoadNext, LinkNext, DecideNext, act_of, word_of}
 use Rattle.clover_rule.specs.Told.{Says, IsMetaWord, IsShown}
-use Rattle.clover_rule.specs.Words.{buffer_at}
 use Rattle.clover_rule.specs.declared.view.View.{View}
 use Rattle.clover_rule.proofs.Steps.{each_within}
-use Rattle.clover_words.specs.Tag.{TagParts, tag_number}
 use Rattle.clover_walk.specs.Walking.{Walking, Stand, AtShort, AtRoot, AtTag, AtLink as OnLink, OnTail, Ended, Holds, IsOnWay, ShowsNext, walk_step, step_at, goes_on, budget, since_turn}
 use Rattle.clover_walk.specs.Turning.{OnReached as WalkReached, ExactTurn, Answers as WalkAnswers, IfAtTail, IfBehind as WalkIfBehind, OnAhead as WalkAhead, OnGoing as WalkGoing}
 use Rattle.clover_walk.specs.declared.turn.Turn.{Turn}

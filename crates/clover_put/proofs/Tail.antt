@@ -6,20 +6,20 @@ use Rattle.clover_words.specs.declared.meta.Kind.{Kind}
 use Rattle.clover_words.specs.declared.meta.Kind.TheVariants.{Value as IsValue, Tombstone}
 use Rattle.clover_words.specs.declared.pool.Pool.{Pool}
 use Rattle.clover_words.specs.declared.word.Word.TheVariants.{Meta}
-use Rattle.clover_words.specs.Meta.{meta_word}
-use Rattle.clover_words.specs.Tag.{TagParts, tag_number}
+use Rattle.clover_words.specs.Meta.{meta_word, tombstone}
+use Rattle.clover_words.specs.Tag.{TagParts, tag_number, home}
+use Rattle.clover_words.specs.Version.{unlinked, buffer_at}
 use Rattle.clover_map.specs.declared.bytes.Value.{Value}
 use Rattle.clover_map.specs.declared.call.Reply.{Reply}
 use Rattle.clover_map.specs.declared.call.Reply.TheVariants.{Absent, Differs}
 use Rattle.clover_port.specs.Told.{Open, Made, Rose}
 use Rattle.clover_rule.specs.Accesses.{SawDead, SawLive, SawFor, StoredBoth, Decides, Committed, AtTail}
-use Rattle.clover_rule.specs.Content.{InRange, content, tombstone}
+use Rattle.clover_rule.specs.Content.{InRange, content}
 use Rattle.clover_rule.specs.History.{named}
 use Rattle.clover_rule.specs.Knowing.{SawTombstone, SawValue, link_view}
 use Rattle.clover_rule.specs.Lists.{nth, Within}
-use Rattle.clover_rule.specs.Memory.{home}
-use Rattle.clover_rule.specs.Steps.{Step, LoadContent, LinkNext, DecideNext, RaiseNext, StoreShort, MayCall, MayReply, unlinked, value_of, reply_of, turn_at, counted, act_of, client, rest_of, decided, seen}
-use Rattle.clover_rule.specs.Words.{buffer_at, next_of}
+use Rattle.clover_rule.specs.Steps.{Step, LoadContent, LinkNext, DecideNext, RaiseNext, StoreShort, MayCall, MayReply, value_of, reply_of, turn_at, counted, act_of, client, rest_of, decided, seen}
+use Rattle.clover_rule.specs.Words.{next_of}
 use Rattle.clover_rule.specs.declared.access.Act.{Act}
 use Rattle.clover_rule.specs.declared.access.Act.TheVariants.{Load}
 use Rattle.clover_rule.specs.declared.view.View.{View}

@@ -3,13 +3,14 @@ use Prim.Native.Nat.{suc}
 use Rattle.std.proofs.Common.{◌≡◌, ◌≢◌, ℕ, ◌+◌, ◌*◌, ◌≤◌, List, ◌∷◌, length, Bool, true, false, cond, eqb, refl, sym, ap, ◌∙◌, arith, subst, eqb-true}
 use Rattle.std.specs.Prelude.{Option, Some, None}
 use Rattle.clover_words.specs.declared.pool.Pool.{Pool}
-use Rattle.clover_words.specs.Tag.{tag_number}
+use Rattle.clover_words.specs.Tag.{tag_number, age}
+use Rattle.clover_words.specs.Version.{unlinked}
 use Rattle.clover_port.specs.Told.{Open, Made}
 use Rattle.clover_rule.specs.Accesses.{SawFor}
 use Rattle.clover_rule.specs.Content.{InRange}
 use Rattle.clover_rule.specs.Lists.{Within}
-use Rattle.clover_rule.specs.Memory.{Next, word, age}
-use Rattle.clover_rule.specs.Steps.{MayCall, unlinked}
+use Rattle.clover_rule.specs.Memory.{Next, word}
+use Rattle.clover_rule.specs.Steps.{MayCall}
 use Rattle.clover_rule.specs.Words.{next_of, next_code, root_of}
 use Rattle.clover_rule.specs.declared.view.View.{View}
 use Rattle.clover_walk.specs.Walking.{Walking, Stand, AtShort, AtRoot, AtTag, AtLink as OnLink, OnTail, Ended, Holds, IsOnWay, key_at, goes_on, goes_from, followed, hops, turned, shortened, rooted, next_start, begins, most_accesses, since_turn}

@@ -2,11 +2,10 @@
 use Prim.Native.Nat.{suc}
 use Rattle.std.specs.Prelude.{◌≡◌, ◌≢◌, ℕ, ◌+◌, ◌*◌, ◌<◌, ◌≤◌, List, [], ◌∷◌, ◌++◌, length, cond, eqb, Option, Some, None}
 use Rattle.clover_words.specs.declared.pool.Pool.{Pool}
-use Rattle.clover_words.specs.Tag.{tag_number}
+use Rattle.clover_words.specs.Tag.{tag_number, home}
 use Rattle.clover_map.specs.declared.bytes.Value.{Value}
 use Rattle.clover_rule.specs.Content.{InRange}
 use Rattle.clover_rule.specs.Lists.{Each}
-use Rattle.clover_rule.specs.Memory.{home}
 use Rattle.clover_rule.specs.Steps.{found, turn_of}
 use Rattle.clover_rule.specs.declared.view.View.{View}
 use Rattle.clover_walk.specs.Alone.{after_alone, Way, ComesBy, HasVersion, version_words}

@@ -1,13 +1,13 @@
 -- What the client must know where a put stands, and how many accesses the call has made at most.
 use Rattle.std.specs.Prelude.{◌≡◌, ℕ, ◌+◌, ◌*◌, ◌<◌, ◌≤◌, List, ◌∷◌, length, false, cond, eqb, Some, None}
+use Rattle.clover_words.specs.Tag.{home}
+use Rattle.clover_words.specs.Version.{content_at}
 use Rattle.clover_map.specs.declared.call.Reply.TheVariants.{Absent, Differs}
 use Rattle.clover_words.specs.declared.word.Side.TheVariants.{Current, Flushed}
 use Rattle.clover_rule.specs.Accesses.{SawDead, SawFor, SawLive}
 use Rattle.clover_rule.specs.Content.{InRange}
 use Rattle.clover_rule.specs.Lists.{nth, Within}
-use Rattle.clover_rule.specs.Memory.{home}
 use Rattle.clover_rule.specs.Steps.{MayCall, MayReply}
-use Rattle.clover_rule.specs.Words.{content_at}
 use Rattle.clover_rule.specs.declared.access.Act.TheVariants.{Store}
 use Rattle.clover_rule.specs.declared.view.View.{View}
 use Rattle.clover_walk.specs.Walking.{OnTail, IsOnWay, Holds, since_turn}

@@ -5,12 +5,14 @@ use Rattle.clover_words.specs.declared.meta.Kind.{Kind}
 use Rattle.clover_words.specs.declared.meta.Kind.TheVariants.{Value as IsValue, Tombstone}
 use Rattle.clover_words.specs.Pack.{packed}
 use Rattle.clover_words.specs.Tag.{tag_number}
+use Rattle.clover_words.specs.Meta.{tombstone}
+use Rattle.clover_words.specs.Version.{unlinked}
 use Rattle.clover_map.specs.declared.bytes.Value.{Value}
 use Rattle.clover_map.specs.declared.call.Call.{Call}
 use Rattle.clover_map.specs.declared.call.Call.TheVariants.{Put as PutCall, Delete as DeleteCall, Swap as SwapCall}
 use Rattle.clover_map.specs.declared.call.Reply.TheVariants.{Absent, Differs}
-use Rattle.clover_rule.specs.Content.{content, tombstone, value_meta}
-use Rattle.clover_rule.specs.Steps.{Step, StoreShort, LoadNext, DecideNext, LinkNext, RaiseNext, StoreContent, FlushContent, LoadContent, unlinked}
+use Rattle.clover_rule.specs.Content.{content, value_meta}
+use Rattle.clover_rule.specs.Steps.{Step, StoreShort, LoadNext, DecideNext, LinkNext, RaiseNext, StoreContent, FlushContent, LoadContent}
 use Rattle.clover_rule.specs.declared.view.View.{View}
 use Rattle.clover_walk.specs.Walking.{Walking, Stand, AtShort as ToShort, AtRoot, AtTag, AtLink as OnLink, OnTail, Ended, begun, walk_step, goes_on, key_at}
 use Rattle.clover_put.specs.declared.job.Job.{Job}

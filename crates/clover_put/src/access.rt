@@ -1,13 +1,12 @@
 // One access of each kind that a put makes beside those of its walk. The caller names the step by M.
 ghost use Rattle.std.specs.Prelude.{◌≡◌, ◌≤◌, ℕ, false, take, Some, IfOk, OnOk, OnErr};
 ghost use Rattle.clover_words.specs.Next.{next_word};
-ghost use Rattle.clover_words.specs.Tag.{IsTag, tag_number};
+ghost use Rattle.clover_words.specs.Tag.{IsTag, tag_number, home};
 ghost use Rattle.clover_words.specs.declared.word.Word.{Word};
 ghost use Rattle.clover_words.specs.declared.word.Word.TheVariants.{Next as NextOf};
+ghost use Rattle.clover_words.specs.Version.{unlinked, content_at, buffer_at};
 ghost use Rattle.clover_map.specs.declared.call.Reply.TheVariants.{Absent, Differs};
-ghost use Rattle.clover_rule.specs.Memory.{home};
-ghost use Rattle.clover_rule.specs.Steps.{StoreContent, FlushContent, StoreShort, LinkNext, DecideNext, Asks, unlinked};
-ghost use Rattle.clover_rule.specs.Words.{content_at, buffer_at};
+ghost use Rattle.clover_rule.specs.Steps.{StoreContent, FlushContent, StoreShort, LinkNext, DecideNext, Asks};
 ghost use Rattle.clover_rule.specs.declared.step.Kind.TheVariants.{Fill, Lead, Decide};
 ghost use Rattle.clover_port.specs.Told.{Made, MadeBlind, Rose, Exact};
 ghost use Rattle.clover_walk.specs.Walking.{key_at};

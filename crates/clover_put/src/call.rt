@@ -2,10 +2,10 @@
 ghost use Rattle.std.specs.Prelude.{◌≡◌, ◌≢◌, ◌≤◌, ◌<◌, ◌+◌, ◌*◌, ◌↔◌, ℕ, Option, Some, None, length, take, IsTrue, IfOk, IfErr, IsErr, IfSome, IsNone};
 ghost use Rattle.clover_words.specs.declared.meta.Kind.{Kind as WordKind};
 ghost use Rattle.clover_words.specs.Tag.{tag_number};
+ghost use Rattle.clover_words.specs.Version.{unlinked};
+ghost use Rattle.clover_words.specs.Meta.{IsMeta, meta_word as spelled};
 ghost use Rattle.clover_rule.specs.Content.{InRange};
 ghost use Rattle.clover_rule.specs.Lists.{nth, Within};
-ghost use Rattle.clover_rule.specs.Steps.{unlinked};
-ghost use Rattle.clover_words.specs.Meta.{IsMeta, meta_word as spelled};
 ghost use Rattle.clover_map.specs.declared.call.Reply.TheVariants.{Absent, Differs};
 ghost use Rattle.clover_port.specs.Told.{Made, Rose};
 ghost use Rattle.clover_walk.specs.Ending.{Ended, Commits};

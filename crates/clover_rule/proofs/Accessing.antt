@@ -5,11 +5,11 @@ use Rattle.std.proofs.lemmas.List.{set-get_or}
 use Rattle.clover_words.specs.declared.word.Word.TheVariants.{Next as NextOf}
 use Rattle.clover_words.specs.declared.word.Side.TheVariants.{Current}
 use Rattle.clover_words.specs.Place.{address_of}
+use Rattle.clover_words.specs.Tag.{home}
+use Rattle.clover_words.specs.Version.{content_at, buffer_at}
 use Rattle.clover_rule.specs.Laws.{PartsLaw, StepLaw, ToldLaw, TableStepLaw, AccessLaw}
-use Rattle.clover_rule.specs.Memory.{home}
 use Rattle.clover_rule.specs.Steps.{LoadNext, DecideNext, RaiseNext, LinkNext, StoreContent, FlushContent, LoadContent, ReadRoot, ReadShort, StoreShort, ReadCount, AbsentCount, word_of}
 use Rattle.clover_rule.specs.Told.{Told}
-use Rattle.clover_rule.specs.Words.{content_at, buffer_at}
 use Rattle.clover_rule.proofs.Keeps.{keeps}
 use Rattle.clover_rule.proofs.Telling.{told, table_law}
 use Rattle.clover_rule.proofs.TwelveParts.{rule_holds}

@@ -6,6 +6,7 @@ use Rattle.clover_words.specs.declared.pool.Pool.{Pool}
 use Rattle.clover_words.specs.declared.word.Word.TheVariants.{Next as NextOf, Root, Key}
 use Rattle.clover_words.specs.declared.word.Side.TheVariants.{Current, Flushed}
 use Rattle.clover_words.proofs.Places.{has_current}
+use Rattle.clover_words.specs.Version.{buffer_at, content_at}
 use Rattle.clover_map.specs.declared.call.Entry.{Entry}
 use Rattle.clover_map.specs.Tagged.{Tagged}
 use Rattle.clover_map.specs.declared.bytes.Held.{Held}
@@ -17,7 +18,7 @@ use Rattle.clover_rule.specs.Meets.{Meets, IsCode}
 use Rattle.clover_rule.specs.Memory.{Mem, word}
 use Rattle.clover_rule.specs.Sound.{Sound}
 use Rattle.clover_rule.specs.Story.{Story, Durable}
-use Rattle.clover_rule.specs.Words.{guarded, mem_of, next_of, root_of, buffer_at, content_at}
+use Rattle.clover_rule.specs.Words.{guarded, mem_of, next_of, root_of}
 use Rattle.clover_rule.specs.declared.view.View.{View}
 use Rattle.clover_rule.proofs.Steps.{each_within}
 use Rattle.clover_rule.proofs.Snocs.{within_nth}

@@ -4,11 +4,12 @@ use native.Mathlib.Decide.{ℕ_discrete}
 use mathlib.Core.Logic.{dite}
 use Rattle.std.specs.Prelude.{Option, Some, None}
 use Rattle.std.proofs.lemmas.List.{nil_from_length}
+use Rattle.clover_words.specs.Tag.{home, age}
 use Rattle.clover_map.specs.declared.call.Entry.{Entry}
 use Rattle.clover_rule.specs.Content.{spelling, Fits, IsKey}
 use Rattle.clover_rule.specs.History.{Version, Map, commits, ends, at_key}
 use Rattle.clover_rule.specs.Lists.{nth, upd}
-use Rattle.clover_rule.specs.Memory.{home, age, gen, Mem}
+use Rattle.clover_rule.specs.Memory.{gen, Mem}
 use Rattle.clover_rule.specs.Server.{Ready, IsStoring, Stage, Help, is_home, book_of, Serves, Whole, IsWhole}
 use Rattle.clover_rule.specs.ServerSteps.{BindRoot, server_after, served_view, ServerLaw}
 use Rattle.clover_rule.specs.Story.{Place, Chained, Story, tag_in_version, tag_at, Core, Tale, unsure}

@@ -3,10 +3,11 @@ use Rattle.std.proofs.Common.{◌≡◌, ℕ, suc, ◌<◌, ◌≤◌, ◌≢◌
 use native.Mathlib.Decide.{ℕ_discrete, dec_le}
 use mathlib.Core.Logic.{dite}
 use Rattle.std.specs.Prelude.{Option, Some, None}
+use Rattle.clover_words.specs.Tag.{home, age}
 use Rattle.clover_rule.specs.Changes.{linked_story}
 use Rattle.clover_rule.specs.History.{Version}
 use Rattle.clover_rule.specs.Lists.{nth, upd}
-use Rattle.clover_rule.specs.Memory.{home, age, word, gen, Mem}
+use Rattle.clover_rule.specs.Memory.{word, gen, Mem}
 use Rattle.clover_rule.specs.Story.{Chained, Taken, Loose, Story, tag_at, only, Standing, Core, Passed, Waits}
 use Rattle.clover_rule.proofs.Tools.{upd_same, upd_else, nth_snoc, nth_within}
 use Rattle.clover_rule.proofs.Standings.{tag_within, only_none}

@@ -1,6 +1,8 @@
 -- The deciding steps of put, delete and swap over the whole rule.
 use Rattle.std.proofs.Common.{◌≡◌, ℕ, suc, ◌<◌, ◌≤◌, ◌≢◌, List, [], ◌∷◌, ◌++◌, refl, sym, ap, ◌∙◌, arith, subst}
 use Rattle.std.specs.Prelude.{Option, Some, None}
+use Rattle.clover_words.specs.Meta.{tombstone, meta_word}
+use Rattle.clover_words.specs.Tag.{home, age}
 use Rattle.clover_map.specs.declared.bytes.Value.{Value}
 use Rattle.clover_map.specs.declared.call.Entry.{Entry}
 use Rattle.clover_map.specs.declared.call.Call.{Call}
@@ -11,18 +13,17 @@ use Rattle.clover_map.specs.declared.call.Reply.TheVariants.{Absent, Deleted, Di
 use Rattle.clover_map.specs.Does.{held}
 use Rattle.clover_map.specs.declared.call.Reply.TheVariants.{Found}
 use Rattle.clover_rule.specs.Changes.{linked_mem, linked_story}
-use Rattle.clover_rule.specs.Content.{Fits, tombstone, value_meta}
+use Rattle.clover_rule.specs.Content.{Fits, value_meta}
 use Rattle.clover_rule.specs.History.{Version, Map, used_by, Does, named, committed, pair_of, paired, tag_in, Fresh, grown, leads}
 use Rattle.clover_rule.specs.Knowing.{MayLink, link_entry, link_view, SawValue, SawTombstone, CopiedValue}
 use Rattle.clover_rule.specs.Lists.{Each, nth, Within}
-use Rattle.clover_rule.specs.Memory.{home, age, word, gen, Mem}
+use Rattle.clover_rule.specs.Memory.{word, gen, Mem}
 use Rattle.clover_rule.specs.Server.{Ready, Whole}
 use Rattle.clover_rule.specs.Story.{Loose, Story}
 use Rattle.clover_rule.specs.Views.{Basis, renewed}
 use Rattle.clover_rule.specs.declared.view.Role.TheVariants.{Client}
 use Rattle.clover_rule.specs.declared.view.View.{View}
 use Rattle.clover_words.specs.declared.pool.Pool.{Pool}
-use Rattle.clover_words.specs.Meta.{meta_word}
 use Rattle.clover_words.specs.declared.meta.Kind.TheVariants.{Value as IsValue}
 use Rattle.clover_rule.proofs.Spelling.{meta_dead, meta_live, first_word, read_content}
 use Rattle.clover_rule.proofs.Commit.{can as commit_can, grows as commit_grows, rule' as commit_rule, owned as commit_owned, slot_bound as commit_bound, tail_durable as commit_durable}

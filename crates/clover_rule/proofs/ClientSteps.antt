@@ -3,12 +3,13 @@ use Rattle.std.proofs.Common.{◌≡◌, ℕ, suc, ◌<◌, ◌≤◌, ◌≢◌
 use native.Mathlib.Decide.{ℕ_discrete, dec_le}
 use mathlib.Core.Logic.{dite}
 use Rattle.std.specs.Prelude.{Option, Some, None}
+use Rattle.clover_words.specs.Tag.{home, age}
 use Rattle.clover_map.specs.declared.call.Entry.{Entry}
 use Rattle.clover_rule.specs.Changes.{linked_mem, linked_story, raised_mem, raised_story}
 use Rattle.clover_rule.specs.Content.{InRange, Fits}
 use Rattle.clover_rule.specs.History.{Version, Map, used_by}
 use Rattle.clover_rule.specs.Lists.{Each, nth, Within}
-use Rattle.clover_rule.specs.Memory.{home, age, word, gen, Mem, greater}
+use Rattle.clover_rule.specs.Memory.{word, gen, Mem, greater}
 use Rattle.clover_rule.specs.Server.{Ready, IsWaiting, IsRecycling, AtStage, Help, root_in, is_home, book_of, Serves, Whole}
 use Rattle.clover_rule.specs.Story.{Place, Chained, Taken, Story, tag_at, Core}
 use Rattle.clover_rule.specs.Views.{book, Basis, renewed}

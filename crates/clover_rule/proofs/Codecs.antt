@@ -5,32 +5,16 @@ use Rattle.clover_words.specs.declared.pool.Pool.{Pool}
 use Rattle.clover_words.specs.declared.word.Buffer.{Buffer}
 use Rattle.clover_words.specs.declared.word.Word.TheVariants.{Next as NextOf, Root, Short}
 use Rattle.clover_words.specs.Place.{IsBuffer}
-use Rattle.clover_words.specs.Tag.{TagParts, IsTag, tag_number}
-use Rattle.clover_words.specs.Next.{NextParts, IsNext, IsLink, next_word, root_word}
+use Rattle.clover_words.specs.Tag.{TagParts, IsTag, tag_number, home, age}
+use Rattle.clover_words.specs.Next.{NextParts, IsNext, IsLink, next_word, root_word, root_code}
+use Rattle.clover_words.specs.Version.{unlinked, linked, buffer_at}
 use Rattle.clover_rule.specs.Content.{InRange}
-use Rattle.clover_rule.specs.Memory.{word, home, age}
-use Rattle.clover_rule.specs.Steps.{unlinked, linked}
+use Rattle.clover_rule.specs.Memory.{word}
 use Rattle.clover_rule.specs.Told.{IsShown}
-use Rattle.clover_rule.specs.Words.{next_of, root_of, next_code, root_code, buffer_at}
+use Rattle.clover_rule.specs.Words.{next_of, root_of, next_code}
 use Rattle.clover_words.proofs.Spellings.{tag_small}
 use Rattle.clover_rule.proofs.Ties.{next_again, root_again, buffer_in}
 use Rattle.clover_rule.proofs.Keeping.{inside_of}
-
--- a tag's number says its buffer and its generation
-pub home_tag : (t : TagParts) → IsTag t → home (tag_number t) ≡ t.node * 65536 + t.index
-unfolding home
-home_tag t h = let a = h.generation in let b = h.index in omega arith
-
-pub age_tag : (t : TagParts) → IsTag t → age (tag_number t) ≡ t.generation
-unfolding age
-age_tag t h = let a = h.generation in omega arith
-
-pub buffer_tag : (t : TagParts) → IsTag t → buffer_at (home (tag_number t)) ≡ record { node = t.node; index = t.index }
-buffer_tag t h =
-    let e = home_tag t h in let a = h.index in
-    let q : home (tag_number t) / 65536 ≡ t.node = omega arith in
-    let r : home (tag_number t) % 65536 ≡ t.index = omega arith in
-    λ i. record { node = q i; index = r i }
 
 -- the parts of a tag's number
 abbrev pub tag_parts : ℕ → TagParts
@@ -67,13 +51,6 @@ link_below (Some t) h = let a = tag_small t h in omega arith
 
 pub next_of_word : (n : NextParts) → IsNext n → next_of (next_word n) ≡ word n.own (tag_option n.link)
 next_of_word n h = ap next_of (sym (next_code_is n)) ∙ next_again n.own (tag_option n.link) (link_below n.link h.link)
-
--- a tag's unlinked next word, and its link to another tag
-pub unlinked_is : (t : TagParts) → IsTag t → unlinked (tag_number t) ≡ next_word (record { own = t.generation; link = None })
-unlinked_is t h = ap (λ (a : ℕ). a * 2 ^ 43 + 0) (age_tag t h)
-
-pub linked_is : (t u : TagParts) → IsTag t → linked (tag_number t) (tag_number u) ≡ next_word (record { own = t.generation; link = Some u })
-linked_is t u h = ap (λ (a : ℕ). a * 2 ^ 43 + (2 ^ 42 + tag_number u)) (age_tag t h)
 
 -- what the rule says that a next word may show is a next word, and what it says of roots is a root
 pub shown_next : (p : Pool) (b : Buffer) (x : ℕ) → IsShown p (NextOf b) x → (n : NextParts) × IsNext n × (next_word n ≡ x)

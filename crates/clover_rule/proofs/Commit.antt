@@ -3,6 +3,7 @@ use Rattle.std.proofs.Common.{◌≡◌, ℕ, suc, ◌≤◌, ◌≢◌, ◌⊎�
 use native.Mathlib.Decide.{ℕ_discrete}
 use Rattle.std.specs.Prelude.{Option, Some, None}
 use Rattle.std.proofs.lemmas.Bool.Decides.{nat_tests}
+use Rattle.clover_words.specs.Tag.{home, age}
 use Rattle.clover_map.specs.declared.bytes.Value.{Value}
 use Rattle.clover_map.specs.declared.call.Call.{Call}
 use Rattle.clover_map.specs.declared.call.Reply.{Reply}
@@ -11,7 +12,7 @@ use Rattle.clover_rule.specs.Changes.{linked_mem, linked_story}
 use Rattle.clover_rule.specs.History.{Version, Map, own, used_by, commits, joined, key_of, commit_of, lost_in, Fresh, grown, Does, named, committed, leads, same_key}
 use Rattle.clover_rule.specs.Knowing.{MayLink, link_entry, link_view}
 use Rattle.clover_rule.specs.Lists.{Each, nth, Within}
-use Rattle.clover_rule.specs.Memory.{home, age, word, gen, Mem}
+use Rattle.clover_rule.specs.Memory.{word, gen, Mem}
 use Rattle.clover_rule.specs.Story.{Chained, Stocked, Story, tag_in_version, tag_at, Core, Tale, Durable, unsure}
 use Rattle.clover_rule.specs.Views.{Holds, Stands, IsLink, Past, Owned, Apart, OwnCalls, ViewOk, Spent, Basis, renewed, without, Numbered}
 use Rattle.clover_rule.specs.declared.view.Content.{Content}

@@ -3,10 +3,11 @@ use Rattle.std.proofs.Common.{◌≡◌, ℕ, ◌≤◌, ◌≢◌, List, [], �
 use native.Mathlib.Decide.{ℕ_discrete}
 use mathlib.Core.Logic.{dite}
 use Rattle.std.specs.Prelude.{Option, Some, None}
+use Rattle.clover_words.specs.Tag.{home}
 use Rattle.clover_map.specs.declared.call.Entry.{Entry}
 use Rattle.clover_rule.specs.History.{Version, Map}
 use Rattle.clover_rule.specs.Lists.{upd}
-use Rattle.clover_rule.specs.Memory.{home, gen, link, Mem}
+use Rattle.clover_rule.specs.Memory.{gen, link, Mem}
 use Rattle.clover_rule.specs.Server.{Ready, moving, unnamed, holding, IsStoring, Stage, root_in, is_home, book_of, waiting_name, Serves, Whole}
 use Rattle.clover_rule.specs.Story.{Place, Chained, Stocked, Taken, Story, tag_in_version, tag_at}
 use Rattle.clover_rule.specs.Views.{find_book, book_at, book, Holds, Stands, Spent, Basis}

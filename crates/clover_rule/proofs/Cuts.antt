@@ -5,12 +5,13 @@ use mathlib.Core.Logic.{dite}
 use Rattle.std.specs.Prelude.{Option, Some, None}
 use Rattle.std.proofs.lemmas.Bool.{lt-ltb, le-ltb}
 use Rattle.std.proofs.lemmas.Bool.Decides.{nat_tests}
+use Rattle.clover_words.specs.Tag.{home, age}
 use Rattle.clover_map.specs.declared.call.Entry.{Entry}
 use Rattle.clover_map.specs.declared.bytes.Held.{Held}
 use Rattle.clover_rule.specs.History.{same_key, Version, Map, pair_of, ends, kept, commits, Unread, Survives, key_of, commit_of, lost_in, joined, leads}
 use Rattle.clover_rule.specs.Image.{Image, IsImage, Chain, is_none, leads_to, missing, sift, tags, Reads, ReadsMap}
 use Rattle.clover_rule.specs.Lists.{Each, nth}
-use Rattle.clover_rule.specs.Memory.{home, age, gen, link, Mem}
+use Rattle.clover_rule.specs.Memory.{gen, link, Mem}
 use Rattle.clover_rule.specs.Story.{Story, tag_in_version, tag_at, only, Core, Tale, unsure, Durable}
 use Rattle.clover_rule.proofs.Tools.{nth_within, nth_none}
 use Rattle.clover_rule.proofs.Histories.{kept_legal, unread_last, leads_commits, ends_more}

@@ -4,6 +4,7 @@ use native.Mathlib.Decide.{dec_le}
 use mathlib.Core.Logic.{dite}
 use Rattle.std.specs.Prelude.{Option, Some, None}
 use Rattle.std.proofs.lemmas.Bool.Decides.{nat_tests}
+use Rattle.clover_words.specs.Tag.{home, age}
 use Rattle.clover_map.specs.declared.call.Call.{Call}
 use Rattle.clover_map.specs.declared.call.Reply.{Reply}
 use Rattle.clover_map.specs.declared.call.Entry.{Entry}
@@ -12,7 +13,7 @@ use Rattle.clover_rule.specs.Content.{content}
 use Rattle.clover_rule.specs.History.{pair_of, Version, Map, own, used_by, commits, ends, joined, key_of, commit_of, lost_in, grown, Does, named, committed, leads, same_key}
 use Rattle.clover_rule.specs.Knowing.{link_entry}
 use Rattle.clover_rule.specs.Lists.{Each, nth, Within}
-use Rattle.clover_rule.specs.Memory.{home, age, word, gen, Mem}
+use Rattle.clover_rule.specs.Memory.{word, gen, Mem}
 use Rattle.clover_rule.specs.Story.{Story, tag_in_version, tag_at, Tale, Durable, unsure}
 use Rattle.clover_rule.specs.Views.{IsCopied, OwnCalls, ViewOk, Spent, Basis, renewed, shown}
 use Rattle.clover_rule.specs.declared.view.Role.{Role}

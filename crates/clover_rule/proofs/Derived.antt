@@ -4,10 +4,11 @@ use native.Mathlib.Decide.{ℕ_discrete, dec_le}
 use Rattle.std.specs.Prelude.{Option, Some, None}
 use Rattle.std.proofs.lemmas.Bool.{lt-ltb}
 use Rattle.std.proofs.lemmas.Bool.Decides.{nat_tests}
+use Rattle.clover_words.specs.Tag.{home, age}
 use Rattle.clover_rule.specs.History.{Version}
 use Rattle.clover_rule.specs.Image.{tags}
 use Rattle.clover_rule.specs.Lists.{nth, Within}
-use Rattle.clover_rule.specs.Memory.{home, age, Next, word, gen, link, Mem}
+use Rattle.clover_rule.specs.Memory.{Next, word, gen, link, Mem}
 use Rattle.clover_rule.specs.Parts.{Walk, ChainsStand, AllButLast, Falls, IsKnown, IsTarget}
 use Rattle.clover_rule.specs.Story.{Place, Chained, Stocked, Free, Worn, Taken, Loose, Story, tag_in_version, tag_at, only, Core, Durable}
 use Rattle.clover_rule.specs.Views.{IsLink, Past}

@@ -5,12 +5,13 @@ use mathlib.Core.Logic.{dite}
 use Rattle.std.specs.Prelude.{Option, Some, None}
 use Rattle.std.proofs.lemmas.Bool.{lt-ltb}
 use Rattle.std.proofs.lemmas.Bool.Decides.{nat_tests}
+use Rattle.clover_words.specs.Tag.{home, age}
 use Rattle.clover_map.specs.declared.call.Entry.{Entry}
 use Rattle.clover_rule.specs.Changes.{recycled_mem, recycled_story}
 use Rattle.clover_rule.specs.Content.{InRange, inside}
 use Rattle.clover_rule.specs.History.{Map}
 use Rattle.clover_rule.specs.Lists.{nth, upd}
-use Rattle.clover_rule.specs.Memory.{home, age, Next, word, gen, Mem, greater, order}
+use Rattle.clover_rule.specs.Memory.{Next, word, gen, Mem, greater, order}
 use Rattle.clover_rule.specs.Server.{Ready, Stage, Help, root_in, is_home, book_of, Serves, Whole, IsWhole}
 use Rattle.clover_rule.specs.ServerSteps.{ServerStep, LoadRoot, FlushLink, StoreRoot, StoreFlushedRoot, ExchangeRoot, FreeOld, Begin, FlushMeta, StoreKey, FlushKey, BindRoot, BindFlushedRoot, StoreCount, freed, served_view, ServerLaw}
 use Rattle.clover_rule.specs.Story.{Place, Chained, Free, Worn, Taken, Story, tag_at, Core, Standing, only}

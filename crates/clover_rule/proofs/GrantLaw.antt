@@ -2,8 +2,9 @@
 use Rattle.std.proofs.Common.{◌≡◌, ℕ, ◌≢◌, List, [], ◌∷◌, refl, sym, ap, ◌∙◌, subst}
 use native.Mathlib.Decide.{ℕ_discrete}
 use mathlib.Core.Logic.{dite}
+use Rattle.clover_words.specs.Tag.{home}
 use Rattle.clover_rule.specs.Lists.{Each, upd}
-use Rattle.clover_rule.specs.Memory.{home, Mem}
+use Rattle.clover_rule.specs.Memory.{Mem}
 use Rattle.clover_rule.specs.Story.{Place, Chained, Loose, Story, Core}
 use Rattle.clover_rule.specs.Views.{handed}
 use Rattle.clover_rule.proofs.Tools.{upd_same, upd_else}

@@ -2,10 +2,11 @@
 use Rattle.std.proofs.Common.{◌≡◌, ℕ, ◌≢◌, ◌⊎◌, List, [], ◌∷◌, ◌++◌, length, set, append_assoc, append-nil, refl, sym, ap, ◌∙◌, inl, inr, ⊎_elim, arith, subst}
 use native.Mathlib.Decide.{ℕ_discrete}
 use Rattle.std.specs.Prelude.{Option, Some}
+use Rattle.clover_words.specs.Tag.{home}
 use Rattle.clover_map.specs.declared.call.Entry.{Entry}
 use Rattle.clover_rule.specs.History.{Map}
 use Rattle.clover_rule.specs.Lists.{Each, nth, Within, IsPrefix}
-use Rattle.clover_rule.specs.Memory.{home, gen, Mem}
+use Rattle.clover_rule.specs.Memory.{gen, Mem}
 use Rattle.clover_rule.specs.Server.{is_home, book_of, Serves, Whole}
 use Rattle.clover_rule.specs.Story.{Place, Stocked, Story}
 use Rattle.clover_rule.specs.Views.{alone, empty_pass, Owned, Apart, ViewOk, handed}

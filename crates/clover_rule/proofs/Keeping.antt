@@ -10,18 +10,21 @@ use Rattle.clover_words.specs.declared.word.Side.{Side}
 use Rattle.clover_words.specs.declared.word.Side.TheVariants.{Current, Flushed}
 use Rattle.clover_words.specs.Place.{IsBuffer, IsWithin, HasSide, address_of, copy_in}
 use Rattle.clover_words.proofs.Places.{copy_set, one_address, address_below}
+use Rattle.clover_words.specs.Tag.{home, age}
+use Rattle.clover_words.specs.Next.{root_code}
+use Rattle.clover_words.specs.Version.{buffer_at, content_at}
 use Rattle.clover_map.specs.declared.call.Entry.{Entry}
 use Rattle.clover_map.specs.Tagged.{Tagged}
 use Rattle.clover_rule.specs.Content.{inside, InRange}
 use Rattle.clover_rule.specs.History.{shows}
 use Rattle.clover_rule.specs.Lists.{Within, nth}
 use Rattle.clover_rule.specs.Meets.{IsCode, Decodes, OfRun, Meets}
-use Rattle.clover_rule.specs.Memory.{home, Next, word, age}
+use Rattle.clover_rule.specs.Memory.{Next, word}
 use Rattle.clover_rule.specs.Server.{Whole}
 use Rattle.clover_rule.specs.Steps.{IsClient, counted}
 use Rattle.clover_rule.specs.Story.{Stocked, Story}
 use Rattle.clover_rule.specs.Views.{renewed}
-use Rattle.clover_rule.specs.Words.{root_code, next_code, root_of, next_of, buffer_at, content_at, mem_of}
+use Rattle.clover_rule.specs.Words.{next_code, root_of, next_of, mem_of}
 use Rattle.clover_rule.specs.declared.access.Act.{Act}
 use Rattle.clover_rule.specs.declared.view.View.{View}
 use Rattle.clover_rule.proofs.Ties.{guard_true, test_below, and_true}

@@ -12,6 +12,9 @@ use Rattle.clover_words.specs.declared.word.Side.{Side}
 use Rattle.clover_words.specs.declared.word.Side.TheVariants.{Current, Flushed}
 use Rattle.clover_words.specs.Place.{IsWithin, HasSide, address_of, copy_in}
 use Rattle.clover_words.proofs.Places.{address_below}
+use Rattle.clover_words.specs.Tag.{home, age}
+use Rattle.clover_words.specs.Version.{unlinked, linked, buffer_at, content_at}
+use Rattle.clover_words.specs.Next.{root_code}
 use Rattle.clover_map.specs.declared.call.Call.{Call}
 use Rattle.clover_map.specs.declared.call.Call.TheVariants.{Get, Put, Delete, Swap}
 use Rattle.clover_map.specs.declared.call.Reply.{Reply}
@@ -25,12 +28,12 @@ use Rattle.clover_rule.specs.History.{shows, named, committed, leads, used_by, D
 use Rattle.clover_rule.specs.Knowing.{link_view, link_entry, stored_view, flushed_view, MayLink}
 use Rattle.clover_rule.specs.Lists.{Within, upd, nth, Each}
 use Rattle.clover_rule.specs.Meets.{IsCode, Meets, IsMet}
-use Rattle.clover_rule.specs.Memory.{Next, word, gen, link, order, greater, Mem, home, age}
+use Rattle.clover_rule.specs.Memory.{Next, word, gen, link, order, greater, Mem}
 use Rattle.clover_rule.specs.Server.{Whole, Ready}
-use Rattle.clover_rule.specs.Steps.{IsClient, client, counted, Step, LoadNext, DecideNext, RaiseNext, LinkNext, StoreContent, FlushContent, LoadContent, ReadRoot, ReadShort, StoreShort, ReadCount, AbsentCount, word_of, side_of, becomes, unlinked, linked, act_of, turn_at, Asks, MayDecide, MayReply, MayCommit, MayCall, MayMiss, learned, seen, decided, started, counts, missed, rest_of, value_of, reply_of, next_view, next_history, found, words_after_step, number_of}
+use Rattle.clover_rule.specs.Steps.{IsClient, client, counted, Step, LoadNext, DecideNext, RaiseNext, LinkNext, StoreContent, FlushContent, LoadContent, ReadRoot, ReadShort, StoreShort, ReadCount, AbsentCount, word_of, side_of, becomes, act_of, turn_at, Asks, MayDecide, MayReply, MayCommit, MayCall, MayMiss, learned, seen, decided, started, counts, missed, rest_of, value_of, reply_of, next_view, next_history, found, words_after_step, number_of}
 use Rattle.clover_rule.specs.Story.{Chained, Stocked, Durable, Story, tag_at, only}
 use Rattle.clover_rule.specs.Views.{IsLink, renewed, raise_view, Owned}
-use Rattle.clover_rule.specs.Words.{root_code, next_code, root_of, next_of, buffer_at, content_at, mem_of}
+use Rattle.clover_rule.specs.Words.{next_code, root_of, next_of, mem_of}
 use Rattle.clover_rule.specs.declared.view.Link.{Link}
 use Rattle.clover_rule.specs.declared.view.Role.{Role}
 use Rattle.clover_rule.specs.declared.view.Role.TheVariants.{Client}

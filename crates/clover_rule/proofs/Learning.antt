@@ -2,10 +2,11 @@
 use Rattle.std.proofs.Common.{◌≡◌, ℕ, List, ◌∷◌, Bool, true, false, cond, eqb, refl, sym, ap, ◌∙◌, arith, subst, eqb-true}
 use Rattle.std.specs.Prelude.{Option, Some, None}
 use Rattle.std.proofs.lemmas.List.{set-set}
+use Rattle.clover_words.specs.Tag.{home, age}
 use Rattle.clover_map.specs.declared.call.Entry.{Entry}
 use Rattle.clover_rule.specs.History.{Map, used_by}
 use Rattle.clover_rule.specs.Lists.{upd, Each, Within, nth}
-use Rattle.clover_rule.specs.Memory.{Next, word, home, age, Mem}
+use Rattle.clover_rule.specs.Memory.{Next, word, Mem}
 use Rattle.clover_rule.specs.Server.{Whole}
 use Rattle.clover_rule.specs.Steps.{IsClient, client, seen, started, counts, counted}
 use Rattle.clover_rule.specs.Story.{Story, tag_at, Durable}

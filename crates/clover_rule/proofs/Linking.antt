@@ -3,10 +3,11 @@ use Rattle.std.proofs.Common.{◌≡◌, ℕ, suc, ◌<◌, ◌≤◌, ◌≢◌
 use native.Mathlib.Decide.{ℕ_discrete, dec_le}
 use mathlib.Core.Logic.{dite}
 use Rattle.std.specs.Prelude.{Some, None}
+use Rattle.clover_words.specs.Tag.{home, age}
 use Rattle.clover_rule.specs.Changes.{linked_mem, linked_story}
 use Rattle.clover_rule.specs.History.{Version}
 use Rattle.clover_rule.specs.Lists.{nth}
-use Rattle.clover_rule.specs.Memory.{home, age, word, gen, link, Mem}
+use Rattle.clover_rule.specs.Memory.{word, gen, link, Mem}
 use Rattle.clover_rule.specs.Story.{Chained, Stocked, Taken, Loose, Story, tag_at, only, safe_at, Standing, Core, Passed, Waits}
 use Rattle.clover_rule.proofs.Tools.{upd_same, upd_else, nth_front, nth_last, nth_none}
 use Rattle.clover_rule.proofs.Standings.{tag_within, tag_past, same_tag, only_same, only_none, word_is}

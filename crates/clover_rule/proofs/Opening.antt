@@ -3,13 +3,14 @@ use Rattle.std.proofs.Common.{◌≡◌, ℕ, zero, suc, ◌<◌, ◌≤◌, ◌
 use Rattle.std.specs.Prelude.{Option, Some, None}
 use Rattle.std.proofs.lemmas.Bool.{lt-ltb}
 use Rattle.std.proofs.lemmas.Bool.Decides.{nat_tests}
+use Rattle.clover_words.specs.Tag.{home, age}
 use Rattle.clover_map.specs.declared.bytes.Value.{Value}
 use Rattle.clover_map.specs.declared.call.Entry.{Entry}
 use Rattle.clover_rule.specs.Content.{content, InRange, Spells, inside, Fits}
 use Rattle.clover_rule.specs.History.{Version, Map}
 use Rattle.clover_rule.specs.Image.{Image, Chain}
 use Rattle.clover_rule.specs.Lists.{Within, Each, nth}
-use Rattle.clover_rule.specs.Memory.{home, age, word, gen, link, Mem}
+use Rattle.clover_rule.specs.Memory.{word, gen, link, Mem}
 use Rattle.clover_rule.specs.Opening.{Owners, Starts, Opens}
 use Rattle.clover_rule.specs.Server.{Serves, Ready, Help, Whole}
 use Rattle.clover_rule.specs.Sound.{Sound, versions_of}

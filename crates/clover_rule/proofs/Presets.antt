@@ -4,12 +4,13 @@ use native.Mathlib.Decide.{ℕ_discrete, dec_le}
 use mathlib.Core.Logic.{dite}
 use Rattle.std.specs.Prelude.{Option, Some, None}
 use Rattle.clover_words.specs.declared.pool.Pool.{Pool}
+use Rattle.clover_words.specs.Tag.{home, age}
 use Rattle.clover_rule.specs.Content.{Spells, InRange, inside}
 use Rattle.clover_rule.specs.History.{shows, Map, same_key, ends}
 use Rattle.clover_rule.specs.Image.{Image, Chain}
 use Rattle.clover_rule.specs.Lists.{nth, Within}
 use Rattle.clover_rule.specs.Meets.{InStocks}
-use Rattle.clover_rule.specs.Memory.{Mem, word, home, age}
+use Rattle.clover_rule.specs.Memory.{Mem, word}
 use Rattle.clover_rule.specs.Opening.{Opens, Owners}
 use Rattle.clover_rule.specs.Preset.{PresetWords, PresetKeys, PresetViews, PresetLaw, bindings_from}
 use Rattle.clover_rule.specs.Server.{Whole}

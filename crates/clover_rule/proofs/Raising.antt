@@ -4,9 +4,10 @@ use native.Mathlib.Decide.{ℕ_discrete, dec_le}
 use mathlib.Core.Logic.{dite}
 use Rattle.std.specs.Prelude.{Option, Some, None}
 use Rattle.std.proofs.lemmas.Bool.Decides.{nat_tests}
+use Rattle.clover_words.specs.Tag.{home, age}
 use Rattle.clover_rule.specs.Changes.{greatest, raised_mem, raised_story}
 use Rattle.clover_rule.specs.Lists.{upd}
-use Rattle.clover_rule.specs.Memory.{home, age, Next, word, gen, link, Mem, order, greater}
+use Rattle.clover_rule.specs.Memory.{Next, word, gen, link, Mem, order, greater}
 use Rattle.clover_rule.specs.Story.{Loose, Story, tag_at, only, safe_at, Standing, Core, Passed}
 use Rattle.clover_rule.proofs.Tools.{upd_same, upd_else}
 use Rattle.clover_rule.proofs.Standings.{tag_within, one_buffer}

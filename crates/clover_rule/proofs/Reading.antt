@@ -2,21 +2,23 @@
 use Rattle.std.proofs.Common.{◌≡◌, ◌≢◌, ℕ, ◌==◌, [], ◌∷◌, ◌++◌, Bool, true, false, cond, sym, ap, ◌∙◌, subst, eq-eqb, ne_eqb}
 use Rattle.std.specs.Prelude.{None}
 use Rattle.clover_words.specs.declared.pool.Pool.{Pool}
-use Rattle.clover_words.specs.Tag.{TagParts, IsTag, tag_number}
+use Rattle.clover_words.specs.Tag.{TagParts, IsTag, tag_number, home}
 use Rattle.clover_words.specs.Next.{NextParts, IsNext, next_word}
 use Rattle.clover_words.proofs.Spellings.{one_next}
+use Rattle.clover_words.specs.Version.{unlinked, buffer_at}
+use Rattle.clover_words.proofs.Versions.{unlinked_is, buffer_tag}
 use Rattle.clover_map.specs.declared.call.Call.{Call}
 use Rattle.clover_map.specs.declared.call.Reply.{Reply}
 use Rattle.clover_rule.specs.Knowing.{link_entry, link_view}
 use Rattle.clover_rule.specs.Lists.{Within}
 use Rattle.clover_rule.specs.Meant.{IsLoad}
-use Rattle.clover_rule.specs.Memory.{Next, word, home}
-use Rattle.clover_rule.specs.Steps.{LoadNext, DecideNext, LinkNext, act_of, unlinked, turn_at, counted, seen, decided, client, reply_of, rest_of, next_history, IsClient, Asks}
+use Rattle.clover_rule.specs.Memory.{Next, word}
+use Rattle.clover_rule.specs.Steps.{LoadNext, DecideNext, LinkNext, act_of, turn_at, counted, seen, decided, client, reply_of, rest_of, next_history, IsClient, Asks}
 use Rattle.clover_rule.specs.Told.{Told}
-use Rattle.clover_rule.specs.Words.{next_of, buffer_at}
+use Rattle.clover_rule.specs.Words.{next_of}
 use Rattle.clover_rule.specs.declared.access.Act.TheVariants.{Load}
 use Rattle.clover_rule.specs.declared.view.View.{View}
-use Rattle.clover_rule.proofs.Codecs.{tag_option, next_of_word, unlinked_is, buffer_tag, shown_next}
+use Rattle.clover_rule.proofs.Codecs.{tag_option, next_of_word, shown_next}
 use Rattle.clover_words.specs.declared.word.Word.{Word}
 use Rattle.clover_words.specs.declared.word.Word.TheVariants.{Next as NextOf}
 use Rattle.clover_words.specs.Place.{IsBuffer, IsWithin}

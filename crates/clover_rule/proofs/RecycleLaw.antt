@@ -3,11 +3,12 @@ use Rattle.std.proofs.Common.{◌≡◌, ℕ, suc, ◌≤◌, ◌≢◌, ◌⊎�
 use native.Mathlib.Decide.{ℕ_discrete}
 use mathlib.Core.Logic.{dite}
 use Rattle.std.specs.Prelude.{Some, None}
+use Rattle.clover_words.specs.Tag.{home, age}
 use Rattle.clover_map.specs.declared.call.Entry.{Entry}
 use Rattle.clover_rule.specs.Changes.{recycled_mem, recycled_story}
 use Rattle.clover_rule.specs.History.{Map, used_by}
 use Rattle.clover_rule.specs.Lists.{nth}
-use Rattle.clover_rule.specs.Memory.{home, age, word, gen, Mem}
+use Rattle.clover_rule.specs.Memory.{word, gen, Mem}
 use Rattle.clover_rule.specs.Story.{Chained, Stocked, Taken, Story, Tale}
 use Rattle.clover_rule.specs.Views.{ViewOk, Spent, Basis, renewed}
 use Rattle.clover_rule.specs.declared.view.View.{View}

@@ -4,8 +4,9 @@ use native.Mathlib.Decide.{ℕ_discrete}
 use mathlib.Core.Logic.{dite}
 use Rattle.std.specs.Prelude.{Some, None}
 use Rattle.std.proofs.lemmas.Bool.Decides.{nat_tests}
+use Rattle.clover_words.specs.Tag.{home, age}
 use Rattle.clover_rule.specs.Changes.{recycled_mem, recycled_story}
-use Rattle.clover_rule.specs.Memory.{home, age, word, gen, link, Mem}
+use Rattle.clover_rule.specs.Memory.{word, gen, link, Mem}
 use Rattle.clover_rule.specs.Story.{Chained, Taken, Loose, Story, tag_at, Standing, Core, Passed}
 use Rattle.clover_rule.proofs.Tools.{upd_same, upd_else}
 use Rattle.clover_rule.proofs.Standings.{tag_within, one_buffer}

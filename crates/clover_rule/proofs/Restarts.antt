@@ -1,12 +1,13 @@
 -- Any stop of a restart leaves a sound image with the same map.
 use Rattle.std.proofs.Common.{◌≡◌, ℕ, zero, suc, ◌<◌, ◌≤◌, List, [], ◌∷◌, refl, sym, ap, ◌∙◌, ⊎_elim, arith, subst}
 use Rattle.std.specs.Prelude.{Option, Some, None}
+use Rattle.clover_words.specs.Tag.{home, age}
 use Rattle.clover_map.specs.declared.call.Entry.{Entry}
 use Rattle.clover_rule.specs.Content.{Spells}
 use Rattle.clover_rule.specs.History.{Map, used_by, ends}
 use Rattle.clover_rule.specs.Image.{Image, IsImage, Chain}
 use Rattle.clover_rule.specs.Lists.{Each, nth}
-use Rattle.clover_rule.specs.Memory.{home, age, gen, link, Mem}
+use Rattle.clover_rule.specs.Memory.{gen, link, Mem}
 use Rattle.clover_rule.specs.Server.{Whole}
 use Rattle.clover_rule.specs.Sound.{Sound, Restarting, versions_of}
 use Rattle.clover_rule.specs.Story.{Story}

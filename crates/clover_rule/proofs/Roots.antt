@@ -3,8 +3,9 @@ use Rattle.std.proofs.Common.{◌≡◌, ℕ, suc, ◌<◌, ◌≢◌, ◌⊎◌
 use native.Mathlib.Decide.{ℕ_discrete}
 use mathlib.Core.Logic.{dite}
 use Rattle.std.specs.Prelude.{Some, None}
+use Rattle.clover_words.specs.Tag.{home, age}
 use Rattle.clover_rule.specs.Lists.{upd}
-use Rattle.clover_rule.specs.Memory.{home, age, word, gen, link, Mem}
+use Rattle.clover_rule.specs.Memory.{word, gen, link, Mem}
 use Rattle.clover_rule.specs.Story.{Place, Chained, Taken, Loose, Story, tag_at, Standing, Core}
 use Rattle.clover_rule.proofs.Tools.{upd_same, upd_else}
 use Rattle.clover_rule.proofs.Standings.{tag_within}

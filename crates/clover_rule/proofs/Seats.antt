@@ -4,11 +4,12 @@ use native.Mathlib.Decide.{ℕ_discrete}
 use mathlib.Core.Logic.{dite}
 use Rattle.std.specs.Prelude.{Option, Some}
 use Rattle.std.proofs.lemmas.List.{length-set}
+use Rattle.clover_words.specs.Tag.{home, age}
 use Rattle.clover_map.specs.declared.call.Entry.{Entry}
 use Rattle.clover_rule.specs.Content.{inside}
 use Rattle.clover_rule.specs.History.{Map}
 use Rattle.clover_rule.specs.Lists.{Each, nth, upd, Within, IsPart}
-use Rattle.clover_rule.specs.Memory.{home, age, gen, Mem}
+use Rattle.clover_rule.specs.Memory.{gen, Mem}
 use Rattle.clover_rule.specs.Server.{root_in, is_home, book_of, Serves, Whole}
 use Rattle.clover_rule.specs.Story.{Place, Stocked, Free, Taken, Story}
 use Rattle.clover_rule.specs.Views.{find_book, line, alone, empty_pass, Book, book, Apart, ViewOk, handed, book_at}

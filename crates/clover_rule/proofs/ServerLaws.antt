@@ -3,11 +3,13 @@ use Rattle.std.proofs.Common.{◌≡◌, ℕ, ◌+◌, ◌≤◌, ◌≢◌, Lis
 use native.Mathlib.Decide.{ℕ_discrete}
 use mathlib.Core.Logic.{dite}
 use Rattle.std.specs.Prelude.{Option, Some, None}
+use Rattle.clover_words.specs.Meta.{tombstone}
+use Rattle.clover_words.specs.Tag.{home, age}
 use Rattle.clover_map.specs.declared.call.Entry.{Entry}
-use Rattle.clover_rule.specs.Content.{spelling, tombstone}
+use Rattle.clover_rule.specs.Content.{spelling}
 use Rattle.clover_rule.specs.History.{Map}
 use Rattle.clover_rule.specs.Lists.{nth, upd, Within}
-use Rattle.clover_rule.specs.Memory.{home, age, word, gen, link, Mem}
+use Rattle.clover_rule.specs.Memory.{word, gen, link, Mem}
 use Rattle.clover_rule.specs.Server.{Ready, IsStoring, Stage, Help, book_of, Serves, Whole, IsWhole}
 use Rattle.clover_rule.specs.ServerSteps.{ServerStep, Begin, FlushMeta, StoreKey, FlushKey, server_after, served_view, ServerLaw}
 use Rattle.clover_rule.specs.Story.{Place, Taken, Loose, Story}

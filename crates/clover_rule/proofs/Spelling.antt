@@ -5,12 +5,12 @@ use Rattle.std.proofs.lemmas.Option.{same_Some}
 use Rattle.std.proofs.lemmas.List.{ext_get_or}
 use Rattle.clover_words.specs.Pack.{AreBytes, words_of, packed, eight_at}
 use Rattle.std.specs.Int.{w64, to_be_bytes}
-use Rattle.clover_words.specs.Meta.{meta_word}
+use Rattle.clover_words.specs.Meta.{meta_word, tombstone}
 use Rattle.clover_words.proofs.Packing.{one_byte, packed_spells}
 use Rattle.clover_words.specs.declared.pool.Pool.{Pool}
 use Rattle.clover_words.specs.declared.meta.Kind.TheVariants.{Value as IsValue}
 use Rattle.clover_map.specs.declared.bytes.Value.{Value}
-use Rattle.clover_rule.specs.Content.{content, tombstone, value_meta, all_words, words_from, Fits, spelling, IsKey, Spells, Unpacks}
+use Rattle.clover_rule.specs.Content.{content, value_meta, all_words, words_from, Fits, spelling, IsKey, Spells, Unpacks}
 use Rattle.clover_rule.specs.Lists.{nth}
 
 pub length_words : (bytes : List ℕ) (k n : ℕ) → length (words_from bytes k n) ≡ n

@@ -4,9 +4,9 @@ use native.Mathlib.Decide.{ℕ_discrete}
 use mathlib.Core.Logic.{dite}
 use Rattle.std.specs.Prelude.{Option, Some, None}
 use Rattle.std.proofs.lemmas.Option.{same_Some}
+use Rattle.clover_words.specs.Tag.{home}
 use Rattle.clover_rule.specs.Image.{Image, Chain}
 use Rattle.clover_rule.specs.Lists.{nth}
-use Rattle.clover_rule.specs.Memory.{home}
 use Rattle.clover_rule.specs.Sound.{Sound}
 use Rattle.clover_words.specs.declared.pool.Pool.{Pool}
 

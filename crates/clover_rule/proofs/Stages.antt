@@ -4,12 +4,13 @@ use native.Mathlib.Decide.{ℕ_discrete}
 use mathlib.Core.Logic.{dite}
 use Rattle.std.specs.Prelude.{Option, Some, None}
 use Rattle.std.proofs.lemmas.Bool.Decides.{nat_tests}
+use Rattle.clover_words.specs.Tag.{home, age}
 use Rattle.clover_map.specs.declared.call.Entry.{Entry}
 use Rattle.clover_rule.specs.Changes.{raised_mem, raised_story, greatest}
 use Rattle.clover_rule.specs.Content.{inside}
 use Rattle.clover_rule.specs.History.{Version, Map}
 use Rattle.clover_rule.specs.Lists.{nth, upd, Within, IsPrefix}
-use Rattle.clover_rule.specs.Memory.{home, age, Next, word, gen, Mem, greater, order}
+use Rattle.clover_rule.specs.Memory.{Next, word, gen, Mem, greater, order}
 use Rattle.clover_rule.specs.Server.{holding, IsRecycling, Stage, root_in, is_home, book_of, Serves, Whole, IsWhole}
 use Rattle.clover_rule.specs.ServerSteps.{LoadRoot, FlushLink, StoreRoot, StoreFlushedRoot, BindFlushedRoot, StoreCount, served_view}
 use Rattle.clover_rule.specs.Story.{Taken, Story, tag_at, now_at, unsure}

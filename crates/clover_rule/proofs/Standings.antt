@@ -4,9 +4,10 @@ use native.Mathlib.Decide.{dec_le}
 use mathlib.Core.Logic.{dite}
 use Rattle.std.specs.Prelude.{Option, Some, None}
 use Rattle.std.proofs.lemmas.Bool.{le-ltb}
+use Rattle.clover_words.specs.Tag.{home, age}
 use Rattle.clover_rule.specs.History.{Version}
 use Rattle.clover_rule.specs.Lists.{nth}
-use Rattle.clover_rule.specs.Memory.{home, age, Next, word, gen, link, Mem}
+use Rattle.clover_rule.specs.Memory.{Next, word, gen, link, Mem}
 use Rattle.clover_rule.specs.Story.{Story, tag_in_version, tag_at, only, Core}
 use Rattle.clover_rule.proofs.Tools.{nth_within, nth_past}
 

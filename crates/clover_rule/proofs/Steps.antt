@@ -3,10 +3,11 @@ use Rattle.std.proofs.Common.{◌≡◌, ℕ, zero, suc, ◌≤◌, ◌≢◌, �
 use native.Mathlib.Decide.{ℕ_discrete}
 use Rattle.std.specs.Prelude.{Some}
 use Rattle.std.proofs.lemmas.Option.{same_Some}
+use Rattle.clover_words.specs.Tag.{home}
 use Rattle.clover_map.specs.declared.call.Entry.{Entry}
 use Rattle.clover_rule.specs.History.{Version, own}
 use Rattle.clover_rule.specs.Lists.{Each, nth, IsPart, Within, IsPrefix}
-use Rattle.clover_rule.specs.Memory.{home, Next, word, gen, Mem}
+use Rattle.clover_rule.specs.Memory.{Next, word, gen, Mem}
 use Rattle.clover_rule.specs.Story.{Stocked, Story, tag_in_version, tag_at, Durable}
 use Rattle.clover_rule.specs.Views.{IsLink, Past, IsCopied, Owned, OwnCalls, ViewOk, renewed}
 use Rattle.clover_rule.specs.declared.view.Content.{Content}

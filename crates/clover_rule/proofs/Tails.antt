@@ -5,22 +5,25 @@ use Rattle.clover_words.specs.declared.pool.Pool.{Pool}
 use Rattle.clover_words.specs.declared.word.Word.TheVariants.{Next as NextOf}
 use Rattle.clover_words.specs.declared.word.Side.TheVariants.{Current}
 use Rattle.clover_words.specs.Place.{IsWithin, copy_in}
+use Rattle.clover_words.specs.Meta.{tombstone}
+use Rattle.clover_words.specs.Tag.{home, age}
+use Rattle.clover_words.specs.Version.{unlinked, buffer_at}
 use Rattle.clover_map.specs.declared.bytes.Value.{Value}
 use Rattle.clover_map.specs.declared.call.Entry.{Entry}
 use Rattle.clover_map.specs.Tagged.{Tagged}
 use Rattle.clover_rule.specs.Accesses.{IsTail}
-use Rattle.clover_rule.specs.Content.{content, Fits, tombstone, value_meta}
+use Rattle.clover_rule.specs.Content.{content, Fits, value_meta}
 use Rattle.clover_rule.specs.History.{Version, shows, named}
 use Rattle.clover_rule.specs.Image.{tags}
 use Rattle.clover_rule.specs.Lists.{nth, Within}
 use Rattle.clover_rule.specs.Meets.{Meets}
-use Rattle.clover_rule.specs.Memory.{Mem, word, gen, home, age}
+use Rattle.clover_rule.specs.Memory.{Mem, word, gen}
 use Rattle.clover_rule.specs.Parts.{Walk}
-use Rattle.clover_rule.specs.Steps.{Step, Asks, LoadNext, DecideNext, RaiseNext, LinkNext, StoreContent, FlushContent, LoadContent, ReadRoot, ReadShort, StoreShort, ReadCount, AbsentCount, found, unlinked}
+use Rattle.clover_rule.specs.Steps.{Step, Asks, LoadNext, DecideNext, RaiseNext, LinkNext, StoreContent, FlushContent, LoadContent, ReadRoot, ReadShort, StoreShort, ReadCount, AbsentCount, found}
 use Rattle.clover_rule.specs.Story.{Story, tag_at, tag_in_version}
 use Rattle.clover_rule.specs.Told.{IsMetaWord, AreOneVersion, Says}
 use Rattle.clover_rule.specs.Views.{IsCopied}
-use Rattle.clover_rule.specs.Words.{mem_of, next_of, buffer_at}
+use Rattle.clover_rule.specs.Words.{mem_of, next_of}
 use Rattle.clover_rule.specs.declared.view.View.{View}
 use Rattle.clover_rule.proofs.Decide.{tail_durable, slot_bound, last, version, copied_word}
 use Rattle.clover_rule.proofs.Derived.{chains}

@@ -9,18 +9,20 @@ use Rattle.clover_words.specs.declared.word.Word.TheVariants.{Next as NextOf, Ro
 use Rattle.clover_words.specs.declared.word.Side.{Side}
 use Rattle.clover_words.specs.declared.word.Side.TheVariants.{Current, Flushed}
 use Rattle.clover_words.specs.Place.{IsWithin, HasSide, copy_in}
+use Rattle.clover_words.specs.Tag.{home}
+use Rattle.clover_words.specs.Version.{buffer_at, content_at}
 use Rattle.clover_map.specs.declared.call.Entry.{Entry}
 use Rattle.clover_map.specs.Tagged.{Tagged}
 use Rattle.clover_rule.specs.Content.{InRange, IsKey}
 use Rattle.clover_rule.specs.History.{shows}
 use Rattle.clover_rule.specs.Lists.{Within, nth}
 use Rattle.clover_rule.specs.Meets.{Meets, IsMet}
-use Rattle.clover_rule.specs.Memory.{Next, Mem, gen, link, home}
+use Rattle.clover_rule.specs.Memory.{Next, Mem, gen, link}
 use Rattle.clover_rule.specs.Server.{Ready}
 use Rattle.clover_rule.specs.Steps.{Step, Asks, LoadNext, DecideNext, RaiseNext, LinkNext, StoreContent, FlushContent, LoadContent, ReadRoot, ReadShort, StoreShort, ReadCount, AbsentCount, word_of, side_of, next_view, next_history, found, words_after_step}
 use Rattle.clover_rule.specs.Story.{Story, Durable, tag_at}
 use Rattle.clover_rule.specs.Told.{Facts, IsShown, ToldAt, Told, TableLaw}
-use Rattle.clover_rule.specs.Words.{buffer_at, content_at, mem_of}
+use Rattle.clover_rule.specs.Words.{mem_of}
 use Rattle.clover_rule.specs.declared.view.View.{View}
 use Rattle.clover_rule.proofs.Steps.{each_map, each_of, within_prefix, set_here}
 use Rattle.clover_rule.proofs.Standings.{tag_within}

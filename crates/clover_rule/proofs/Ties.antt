@@ -10,10 +10,12 @@ use Rattle.clover_words.specs.declared.word.Side.{Side}
 use Rattle.clover_words.specs.declared.word.Side.TheVariants.{Current, Flushed}
 use Rattle.clover_words.specs.Place.{IsBuffer, IsWithin, HasSide, address_of, copy_in}
 use Rattle.clover_words.proofs.Places.{copy_set, copy_kept}
+use Rattle.clover_words.specs.Next.{root_code}
+use Rattle.clover_words.specs.Version.{buffer_at, content_at}
 use Rattle.clover_rule.specs.Content.{inside}
 use Rattle.clover_rule.specs.Lists.{upd}
 use Rattle.clover_rule.specs.Memory.{word, Mem}
-use Rattle.clover_rule.specs.Words.{root_code, next_code, root_of, next_of, buffer_at, content_at, guarded, mem_of}
+use Rattle.clover_rule.specs.Words.{next_code, root_of, next_of, guarded, mem_of}
 use Rattle.clover_rule.proofs.Tools.{upd_same, upd_else}
 
 pub record SameMem (m n : Mem) : Type 0 where

@@ -5,6 +5,7 @@ use mathlib.Core.Logic.{dite}
 use Rattle.std.specs.Prelude.{Option, Some, None}
 use Rattle.std.proofs.lemmas.Option.{same_Some}
 use Rattle.std.proofs.lemmas.Bool.{lt-ltb}
+use Rattle.clover_words.specs.Tag.{age, home}
 use Rattle.clover_map.specs.declared.bytes.Value.{Value}
 use Rattle.clover_map.specs.declared.bytes.Held.{Held}
 use Rattle.clover_map.specs.declared.call.Entry.{Entry}
@@ -16,7 +17,7 @@ use Rattle.clover_rule.specs.History.{Version, commits, commit_of, key_of, leads
 use Rattle.clover_rule.specs.Image.{tags}
 use Rattle.clover_rule.specs.Lists.{nth, Within, Each}
 use Rattle.clover_rule.specs.Meets.{Meets}
-use Rattle.clover_rule.specs.Memory.{age, Next, word, gen, link, home, order, Mem}
+use Rattle.clover_rule.specs.Memory.{Next, word, gen, link, order, Mem}
 use Rattle.clover_rule.specs.Parts.{Falls}
 use Rattle.clover_rule.specs.Rule.{held_by, BuffersInOnePlace, ChainsAndContents, Rule, LinksAndRootsFlushed, NextWordsRise, StocksAtRest, AtRest, DurableTagsKnown, TargetsStand, CopiesAreWhole, ShortcutsKnown, NamesAndCount, tail_pair, HistoryAndMap, ViewsAndHistory}
 use Rattle.clover_rule.specs.Server.{IsWaiting, waiting_name, moving, holding, AtStage, root_in, is_home, book_of}

@@ -5,21 +5,23 @@ use Rattle.clover_words.specs.declared.pool.Pool.{Pool}
 use Rattle.clover_words.specs.declared.meta.Kind.TheVariants.{Value as IsValue}
 use Rattle.clover_words.specs.declared.word.Word.TheVariants.{Next as NextOf, Meta, Value as ValueOf, Count}
 use Rattle.clover_words.specs.declared.word.Side.TheVariants.{Current, Flushed}
-use Rattle.clover_words.specs.Meta.{meta_word}
+use Rattle.clover_words.specs.Meta.{meta_word, tombstone}
 use Rattle.clover_words.specs.Pack.{packed, words_of}
 use Rattle.clover_words.specs.Place.{address_of, copy_in}
+use Rattle.clover_words.specs.Tag.{home}
+use Rattle.clover_words.specs.Version.{unlinked, linked, buffer_at, content_at}
 use Rattle.clover_map.specs.declared.bytes.Value.{Value}
 use Rattle.clover_map.specs.declared.call.Call.{Call}
 use Rattle.clover_map.specs.declared.call.Call.TheVariants.{Get, Put, Delete, Swap}
 use Rattle.clover_map.specs.declared.call.Reply.{Reply}
 use Rattle.clover_map.specs.declared.call.Reply.TheVariants.{Stored, Found, Absent, Deleted, Differs}
-use Rattle.clover_rule.specs.Content.{content, tombstone, value_meta, Spells}
+use Rattle.clover_rule.specs.Content.{content, value_meta, Spells}
 use Rattle.clover_rule.specs.History.{named}
 use Rattle.clover_rule.specs.Lists.{nth, Within}
-use Rattle.clover_rule.specs.Memory.{Mem, home}
+use Rattle.clover_rule.specs.Memory.{Mem}
 use Rattle.clover_rule.specs.Parts.{Walk}
-use Rattle.clover_rule.specs.Steps.{unlinked, linked, value_of}
-use Rattle.clover_rule.specs.Words.{buffer_at, content_at, mem_of}
+use Rattle.clover_rule.specs.Steps.{value_of}
+use Rattle.clover_rule.specs.Words.{mem_of}
 use Rattle.clover_rule.specs.declared.access.Access.{Access}
 use Rattle.clover_rule.specs.declared.access.Act.{Act}
 use Rattle.clover_rule.specs.declared.access.Act.TheVariants.{Load, Store, Exchange, Raise}

@@ -1,7 +1,8 @@
 -- How the words and the story change by a link, a raise and a recycling.
+use Rattle.clover_words.specs.Tag.{home, age}
 use Rattle.clover_rule.specs.History.{Version}
 use Rattle.clover_rule.specs.Lists.{upd}
-use Rattle.clover_rule.specs.Memory.{home, age, word, Mem, greater}
+use Rattle.clover_rule.specs.Memory.{word, Mem, greater}
 use Rattle.clover_rule.specs.Story.{Story, Chained, Taken}
 use Prim.Native.Nat.{suc}
 use Rattle.std.specs.Prelude.{ℕ, [], ◌∷◌, ◌++◌, length, cond, ltb, Some, None}

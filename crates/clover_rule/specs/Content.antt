@@ -3,17 +3,14 @@ use Prim.Native.Nat.{zero, suc}
 use Rattle.std.specs.Prelude.{◌≡◌, ℕ, ◌+◌, ◌*◌, ◌/◌, ◌%◌, ◌^◌, ◌<◌, ◌≤◌, ◌&&◌, nat_lt, slice_index, List, [], ◌∷◌, length, Bool, true, Option, Some, None}
 use Rattle.std.specs.Int.{w64, to_be_bytes}
 use Rattle.clover_words.specs.declared.pool.Pool.{Pool}
-use Rattle.clover_words.specs.declared.meta.Kind.TheVariants.{Value as IsValue, Tombstone}
-use Rattle.clover_words.specs.Meta.{meta_word}
+use Rattle.clover_words.specs.declared.meta.Kind.TheVariants.{Value as IsValue}
+use Rattle.clover_words.specs.Meta.{meta_word, tombstone}
 use Rattle.clover_words.specs.Pack.{packed, words_of, AreBytes}
+use Rattle.clover_words.specs.Tag.{home, age}
 use Rattle.clover_map.specs.declared.bytes.Value.{Value}
 use Rattle.clover_rule.specs.Lists.{nth}
-use Rattle.clover_rule.specs.Memory.{home, age}
 
--- the meta words of a tombstone and of a value
-abbrev pub tombstone : ℕ
-tombstone = meta_word (record { kind = Tombstone; flags = 0; length = 0 })
-
+-- the meta word of a value
 abbrev pub value_meta : Value → ℕ
 value_meta v = meta_word (record { kind = IsValue; flags = v.flags; length = length v.bytes })
 

@@ -6,6 +6,7 @@ use Rattle.clover_words.specs.declared.word.Word.{Word}
 use Rattle.clover_words.specs.declared.word.Word.TheVariants.{Next as NextOf, Root, Key}
 use Rattle.clover_words.specs.declared.word.Side.TheVariants.{Current, Flushed}
 use Rattle.clover_words.specs.Place.{IsWithin, HasSide, place, copy_in, durable_words}
+use Rattle.clover_words.specs.Version.{buffer_at, content_at}
 use Rattle.clover_map.specs.declared.call.Entry.{Entry}
 use Rattle.clover_map.specs.Tagged.{Tagged}
 use Rattle.clover_map.specs.Legal.{Legal, Leads}
@@ -17,7 +18,7 @@ use Rattle.clover_rule.specs.Meets.{IsCode}
 use Rattle.clover_rule.specs.Memory.{word}
 use Rattle.clover_rule.specs.Rule.{Rule}
 use Rattle.clover_rule.specs.Sound.{Sound, versions_of}
-use Rattle.clover_rule.specs.Words.{next_of, root_of, buffer_at, content_at, guarded}
+use Rattle.clover_rule.specs.Words.{next_of, root_of, guarded}
 use Rattle.clover_rule.specs.declared.view.View.{View}
 
 -- an image is one number for each durable word: its current or its flushed copy

@@ -1,9 +1,10 @@
 -- Images of a power cut, and the chains that are read from them.
 use Prim.Native.Nat.{zero, suc}
 use Rattle.std.specs.Prelude.{◌≡◌, ℕ, ◌≢◌, ◌⊎◌, List, [], ◌∷◌, map, Bool, true, false, cond, ◌&&◌, Option, Some, None}
+use Rattle.clover_words.specs.Tag.{home, age}
 use Rattle.clover_map.specs.declared.bytes.Held.{Held}
 use Rattle.clover_rule.specs.History.{Version, Map, ends}
-use Rattle.clover_rule.specs.Memory.{Mem, Next, gen, link, home, age}
+use Rattle.clover_rule.specs.Memory.{Mem, Next, gen, link}
 use Rattle.clover_rule.specs.Story.{Story, tag_at, unsure}
 
 pub record Image : Type 0 where

@@ -1,7 +1,9 @@
 -- What a client knows of what it loaded and stored, and its view after a store or a commit.
-use Rattle.clover_rule.specs.Content.{value_meta, Unpacks, tombstone, content}
+use Rattle.clover_words.specs.Meta.{tombstone, meta_word}
+use Rattle.clover_words.specs.Tag.{home, age}
+use Rattle.clover_rule.specs.Content.{value_meta, Unpacks, content}
 use Rattle.clover_rule.specs.Lists.{nth, upd, Within}
-use Rattle.clover_rule.specs.Memory.{Mem, home, age}
+use Rattle.clover_rule.specs.Memory.{Mem}
 use Rattle.clover_rule.specs.Views.{shown, without}
 use Rattle.clover_rule.specs.declared.view.Content.{Content}
 use Rattle.clover_rule.specs.declared.view.Role.TheVariants.{Client}
@@ -13,7 +15,6 @@ use Rattle.clover_map.specs.declared.call.Call.{Call}
 use Rattle.clover_map.specs.declared.call.Reply.{Reply}
 use Rattle.clover_map.specs.declared.call.Entry.{Entry}
 use Rattle.clover_words.specs.declared.meta.Kind.TheVariants.{Value as IsValue}
-use Rattle.clover_words.specs.Meta.{meta_word}
 use Rattle.clover_words.specs.Pack.{words_of}
 
 -- what a seat must know to link its own tag t behind u in slot s with the content y

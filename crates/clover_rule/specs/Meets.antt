@@ -5,15 +5,16 @@ use Rattle.clover_words.specs.declared.word.Word.{Word}
 use Rattle.clover_words.specs.declared.word.Word.TheVariants.{Next as NextOf, Root, Short}
 use Rattle.clover_words.specs.declared.word.Side.{Side}
 use Rattle.clover_words.specs.Place.{IsWithin, HasSide, copy_in, pool_words}
+use Rattle.clover_words.specs.Tag.{home}
+use Rattle.clover_words.specs.Next.{root_code}
 use Rattle.clover_map.specs.declared.call.Entry.{Entry}
 use Rattle.clover_map.specs.Tagged.{Tagged}
 use Rattle.std.specs.Prelude.{Some}
 use Rattle.clover_rule.specs.History.{shows}
 use Rattle.clover_rule.specs.Lists.{nth, Within}
-use Rattle.clover_rule.specs.Memory.{home}
 use Rattle.clover_rule.specs.Server.{Whole}
 use Rattle.clover_rule.specs.Story.{Stocked, Story}
-use Rattle.clover_rule.specs.Words.{next_code, root_code, next_of, root_of, mem_of}
+use Rattle.clover_rule.specs.Words.{next_code, next_of, root_of, mem_of}
 use Rattle.clover_rule.specs.declared.view.View.{View}
 
 -- the number is one that this word may have

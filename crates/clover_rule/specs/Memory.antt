@@ -1,13 +1,6 @@
 -- The words of a pool as decoded values: by buffer, by buffer and place, by slot.
 use Prim.Native.Nat.{suc}
-use Rattle.std.specs.Prelude.{ℕ, ◌/◌, ◌%◌, ◌+◌, cond, ltb, Option, Some, None}
-
--- the buffer and the generation of a tag, and the tag of a buffer at a generation
-unfoldable pub home : ℕ → ℕ
-home t = t / 1048576
-
-unfoldable pub age : ℕ → ℕ
-age t = t % 1048576
+use Rattle.std.specs.Prelude.{ℕ, ◌+◌, cond, ltb, Option, Some, None}
 
 -- a next word: its own generation and its link. A `data` type, since the tactics take a constructor apart and a record literal not
 pub data Next : Type 0 where

@@ -1,9 +1,10 @@
 -- How a run begins: what restart leaves, or a preset pool has, and the first views.
+use Rattle.clover_words.specs.Tag.{home, age}
 use Rattle.clover_rule.specs.Content.{inside, IsKey, Spells}
 use Rattle.clover_rule.specs.History.{ends, Map}
 use Rattle.clover_rule.specs.Image.{Image}
 use Rattle.clover_rule.specs.Lists.{IsPrefix, Each, nth, Within}
-use Rattle.clover_rule.specs.Memory.{Mem, gen, link, home, age}
+use Rattle.clover_rule.specs.Memory.{Mem, gen, link}
 use Rattle.clover_rule.specs.Sound.{Sound, versions_of}
 use Rattle.clover_rule.specs.Views.{Apart}
 use Rattle.clover_rule.specs.declared.view.View.{View}

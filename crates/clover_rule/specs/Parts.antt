@@ -1,8 +1,9 @@
 -- Parts of the rule in words of the pool alone, with the chains as lists.
 use Prim.Native.Nat.{suc}
 use Rattle.std.specs.Prelude.{◌≡◌, ℕ, ◌<◌, List, [], ◌∷◌, Option, Some, None}
+use Rattle.clover_words.specs.Tag.{home, age}
 use Rattle.clover_rule.specs.Lists.{Each, Within}
-use Rattle.clover_rule.specs.Memory.{Mem, Next, word, gen, link, home, age, order}
+use Rattle.clover_rule.specs.Memory.{Mem, Next, word, gen, link, order}
 use Rattle.clover_rule.specs.declared.view.Shown.{Shown}
 use Rattle.clover_rule.specs.declared.view.View.{View}
 

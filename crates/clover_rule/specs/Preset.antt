@@ -2,12 +2,14 @@
 use Rattle.std.specs.Prelude.{◌≡◌, ℕ, ◌<◌, ◌≤◌, List, [], ◌∷◌, length, true, Option, Some, None}
 use Prim.Native.Nat.{suc}
 use Rattle.clover_words.specs.declared.pool.Pool.{Pool}
+use Rattle.clover_words.specs.Meta.{tombstone}
+use Rattle.clover_words.specs.Tag.{home, age}
 use Rattle.clover_map.specs.Tagged.{Tagged}
-use Rattle.clover_rule.specs.Content.{inside, tombstone, spelling, IsKey}
+use Rattle.clover_rule.specs.Content.{inside, spelling, IsKey}
 use Rattle.clover_rule.specs.History.{shows}
 use Rattle.clover_rule.specs.Lists.{Within, nth}
 use Rattle.clover_rule.specs.Meets.{OfRun, Decodes}
-use Rattle.clover_rule.specs.Memory.{Mem, word, home, age}
+use Rattle.clover_rule.specs.Memory.{Mem, word}
 use Rattle.clover_rule.specs.Opening.{Starts}
 use Rattle.clover_rule.specs.Rule.{Rule}
 use Rattle.clover_rule.specs.Views.{Numbered}

@@ -1,6 +1,7 @@
 -- The rule: what the words, the views of all actors and one history have to do with each other between any two steps. Its twelve parts, and the helping facts.
 use Rattle.std.specs.Prelude.{◌≡◌, cond, leb, ◌≢◌, ℕ, ◌≤◌, ◌⊎◌, List, [], ◌∷◌, ◌++◌, length, true, Option, Some, None}
 use Rattle.clover_words.specs.declared.pool.Pool.{Pool}
+use Rattle.clover_words.specs.Tag.{home, age}
 use Rattle.clover_map.specs.declared.bytes.Value.{Value}
 use Rattle.clover_map.specs.declared.bytes.Held.{Held}
 use Rattle.clover_map.specs.declared.call.Entry.{Entry}
@@ -11,7 +12,7 @@ use Rattle.clover_rule.specs.Content.{content, inside}
 use Rattle.clover_rule.specs.History.{Version, used_by, commit_of, paired}
 use Rattle.clover_rule.specs.Lists.{Each, nth, Within, IsPrefix, IsPart}
 use Rattle.clover_rule.specs.Meets.{Meets}
-use Rattle.clover_rule.specs.Memory.{Mem, word, gen, home, age}
+use Rattle.clover_rule.specs.Memory.{Mem, word, gen}
 use Rattle.clover_rule.specs.Parts.{ChainsStand, AllButLast, HasPassed, IsKnown, IsTarget, HasValues}
 use Rattle.clover_rule.specs.Server.{waiting_name}
 use Rattle.clover_rule.specs.Story.{Place, Chained, Stocked, Free, Worn, Taken, Story}

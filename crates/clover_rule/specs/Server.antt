@@ -1,11 +1,13 @@
 -- The helping facts beside the core: ranges, keys, stages, names, and what the view of the server says.
 use Prim.Native.Nat.{suc}
 use Rattle.std.specs.Prelude.{◌≡◌, ℕ, ◌+◌, ◌<◌, ◌≤◌, ◌≢◌, ◌⊎◌, List, [], ◌∷◌, ◌++◌, length, Bool, true, false, cond, eqb, Option, Some, None}
+use Rattle.clover_words.specs.Meta.{tombstone}
+use Rattle.clover_words.specs.Tag.{home, age}
 use Rattle.clover_map.specs.declared.call.Entry.{Entry}
-use Rattle.clover_rule.specs.Content.{inside, tombstone, spelling, IsKey, InRange, Spells, Fits}
+use Rattle.clover_rule.specs.Content.{inside, spelling, IsKey, InRange, Spells, Fits}
 use Rattle.clover_rule.specs.History.{Version, Map, used_by}
 use Rattle.clover_rule.specs.Lists.{Each, nth, Within}
-use Rattle.clover_rule.specs.Memory.{Mem, word, gen, home, age}
+use Rattle.clover_rule.specs.Memory.{Mem, word, gen}
 use Rattle.clover_rule.specs.Story.{Place, Chained, Stocked, Free, Worn, Taken, Story, tag_at, Durable}
 use Rattle.clover_rule.specs.Views.{book_at, root_at, Book, book, Basis, Naming}
 use Rattle.clover_rule.specs.declared.view.BufferState.TheVariants.{Free as IsFree, Worn as IsWorn, Bound as IsBound, Out as IsOut}

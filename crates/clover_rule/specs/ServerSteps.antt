@@ -1,9 +1,11 @@
 -- The server's steps: what its view must have, the words and its view after, and the law of each.
+use Rattle.clover_words.specs.Meta.{tombstone}
+use Rattle.clover_words.specs.Tag.{home, age}
 use Rattle.clover_rule.specs.Changes.{raised_mem, recycled_mem}
-use Rattle.clover_rule.specs.Content.{inside, tombstone, spelling, IsKey}
+use Rattle.clover_rule.specs.Content.{inside, spelling, IsKey}
 use Rattle.clover_rule.specs.History.{Map}
 use Rattle.clover_rule.specs.Lists.{nth, upd, Within}
-use Rattle.clover_rule.specs.Memory.{Mem, word, home, age, greater}
+use Rattle.clover_rule.specs.Memory.{Mem, word, greater}
 use Rattle.clover_rule.specs.Server.{IsWhole}
 use Rattle.clover_rule.specs.Views.{book_at, root_at, line, book, renewed}
 use Rattle.clover_rule.specs.declared.view.BufferState.{BufferState}

@@ -1,9 +1,10 @@
 -- Images that break no rule, and what restart makes of them.
+use Rattle.clover_words.specs.Tag.{home}
 use Rattle.clover_rule.specs.Content.{IsKey, InRange, Spells, Fits, content}
 use Rattle.clover_rule.specs.History.{ends, Version}
 use Rattle.clover_rule.specs.Image.{Image, Chain}
 use Rattle.clover_rule.specs.Lists.{nth}
-use Rattle.clover_rule.specs.Memory.{word, gen, link, home}
+use Rattle.clover_rule.specs.Memory.{word, gen, link}
 use Prim.Native.Nat.{zero, suc}
 use Rattle.std.specs.Prelude.{◌≡◌, ℕ, ◌<◌, ◌≤◌, ◌≢◌, ◌⊎◌, List, [], ◌∷◌, Option, Some, None}
 use Rattle.clover_map.specs.declared.bytes.Value.{Value}

@@ -8,6 +8,9 @@ use Rattle.clover_words.specs.declared.word.Word.TheVariants.{Next as NextOf, Ro
 use Rattle.clover_words.specs.declared.word.Side.{Side}
 use Rattle.clover_words.specs.declared.word.Side.TheVariants.{Current, Flushed}
 use Rattle.clover_words.specs.Place.{IsWithin, address_of}
+use Rattle.clover_words.specs.Tag.{home, age}
+use Rattle.clover_words.specs.Next.{root_code}
+use Rattle.clover_words.specs.Version.{buffer_at, content_at, unlinked, linked}
 use Rattle.clover_map.specs.declared.bytes.Value.{Value}
 use Rattle.clover_map.specs.declared.call.Call.{Call}
 use Rattle.clover_map.specs.declared.call.Call.TheVariants.{Get, Put, Delete, Swap}
@@ -19,9 +22,9 @@ use Rattle.clover_rule.specs.Content.{content, Fits}
 use Rattle.clover_rule.specs.History.{named}
 use Rattle.clover_rule.specs.Knowing.{CopiedValue, SawValue, SawTombstone, link_entry, link_view, stored_view, flushed_view}
 use Rattle.clover_rule.specs.Lists.{Within, nth}
-use Rattle.clover_rule.specs.Memory.{Next, word, home, age}
+use Rattle.clover_rule.specs.Memory.{Next, word}
 use Rattle.clover_rule.specs.Views.{raise_view, shown}
-use Rattle.clover_rule.specs.Words.{next_code, root_code, next_of, root_of, buffer_at, content_at}
+use Rattle.clover_rule.specs.Words.{next_code, next_of, root_of}
 use Rattle.clover_rule.specs.declared.access.Act.{Act}
 use Rattle.clover_rule.specs.declared.access.Act.TheVariants.{Load, Store, Exchange, Raise}
 use Rattle.clover_rule.specs.declared.view.Link.{Link}
@@ -69,13 +72,6 @@ abbrev pub side_of : Step → Side
 side_of (RaiseNext l) = Flushed
 side_of (FlushContent t j x) = Flushed
 side_of _ = Current
-
--- the numbers of a tag's unlinked next word, and of its link to another tag
-abbrev pub unlinked : ℕ → ℕ
-unlinked t = next_code (word (age t) None)
-
-abbrev pub linked : ℕ → ℕ → ℕ
-linked t u = next_code (word (age t) (Some u))
 
 -- what the number at the word becomes
 abbrev pub becomes : Step → ℕ → ℕ

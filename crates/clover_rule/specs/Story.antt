@@ -1,7 +1,8 @@
 -- The story behind the words, which no code holds: the versions of each slot, and the core facts that hold of it and the words.
+use Rattle.clover_words.specs.Tag.{home, age}
 use Rattle.clover_rule.specs.History.{Version, Map, Legal, commits, ends, Unread}
 use Rattle.clover_rule.specs.Lists.{nth}
-use Rattle.clover_rule.specs.Memory.{home, age, Next, word, gen, link, Mem}
+use Rattle.clover_rule.specs.Memory.{Next, word, gen, link, Mem}
 use Rattle.clover_rule.specs.declared.view.Task.{Task}
 use Prim.Native.Nat.{suc}
 use Rattle.std.specs.Prelude.{◌≡◌, ℕ, ◌<◌, ◌≤◌, ◌≢◌, ◌⊎◌, List, [], ◌++◌, length, Bool, true, false, ltb, leb, Option, Some, None}

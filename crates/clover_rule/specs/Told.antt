@@ -4,18 +4,20 @@ use Rattle.clover_words.specs.declared.pool.Pool.{Pool}
 use Rattle.clover_words.specs.declared.word.Word.{Word}
 use Rattle.clover_words.specs.declared.word.Word.TheVariants.{Next as NextOf, Root, Short}
 use Rattle.clover_words.specs.Place.{address_of}
+use Rattle.clover_words.specs.Meta.{tombstone}
+use Rattle.clover_words.specs.Version.{unlinked}
 use Rattle.clover_map.specs.declared.bytes.Value.{Value}
 use Rattle.clover_map.specs.declared.call.Entry.{Entry}
 use Rattle.clover_map.specs.Tagged.{Tagged}
 use Rattle.clover_map.specs.Legal.{Legal}
 use Rattle.atomic_table.specs.Table.{State, Me, Allows}
 use Rattle.clover_rule.specs.Accesses.{IsTail}
-use Rattle.clover_rule.specs.Content.{InRange, IsKey, Fits, content, tombstone, value_meta}
+use Rattle.clover_rule.specs.Content.{InRange, IsKey, Fits, content, value_meta}
 use Rattle.clover_rule.specs.History.{named}
 use Rattle.clover_rule.specs.Lists.{Each, IsPrefix, Within, nth}
 use Rattle.clover_rule.specs.Meets.{IsCode, IsMet}
 use Rattle.clover_rule.specs.Memory.{gen, link}
-use Rattle.clover_rule.specs.Steps.{Step, LoadNext, ReadRoot, DecideNext, LinkNext, Asks, word_of, side_of, becomes, found, next_view, next_history, unlinked}
+use Rattle.clover_rule.specs.Steps.{Step, LoadNext, ReadRoot, DecideNext, LinkNext, Asks, word_of, side_of, becomes, found, next_view, next_history}
 use Rattle.clover_rule.specs.Views.{OwnCalls, Apart}
 use Rattle.clover_rule.specs.Words.{next_of, root_of, mem_of}
 use Rattle.clover_rule.specs.declared.view.Link.{Link}

@@ -1,12 +1,13 @@
 -- What each seat's view holds, and the rule over words, views and one history.
 use Prim.Native.Nat.{suc}
 use Rattle.std.specs.Prelude.{◌≡◌, ℕ, ◌<◌, ◌≤◌, ◌≢◌, ◌⊎◌, List, [], ◌∷◌, ◌++◌, length, set, true, false, cond, eqb, Option, Some, None}
+use Rattle.clover_words.specs.Tag.{home, age}
 use Rattle.clover_map.specs.declared.call.Entry.{Entry}
 use Rattle.clover_rule.specs.Changes.{raised_mem}
 use Rattle.clover_rule.specs.Content.{content}
 use Rattle.clover_rule.specs.History.{Version, Map, used_by, own}
 use Rattle.clover_rule.specs.Lists.{Within, IsPrefix, IsPart, Each, nth, upd}
-use Rattle.clover_rule.specs.Memory.{Mem, Next, word, gen, link, home, age}
+use Rattle.clover_rule.specs.Memory.{Mem, Next, word, gen, link}
 use Rattle.clover_rule.specs.Story.{Place, Chained, Stocked, Free, Story, tag_at, Core, Tale, Durable}
 use Rattle.clover_rule.specs.declared.view.BookLine.{BookLine}
 use Rattle.clover_rule.specs.declared.view.BufferState.{BufferState}

@@ -1,20 +1,15 @@
 -- The words of a pool as numbers, and what they decode to: by buffer, by buffer and place, by slot.
-use Prim.Native.Nat.{zero, suc}
 use Rattle.std.specs.Prelude.{ℕ, ◌+◌, ◌-◌, ◌*◌, ◌/◌, ◌%◌, ◌^◌, ◌&&◌, nat_lt, List, Bool, true, false, cond, Option, Some, None}
 use Rattle.clover_words.specs.declared.pool.Pool.{Pool}
-use Rattle.clover_words.specs.declared.word.Buffer.{Buffer}
-use Rattle.clover_words.specs.declared.word.Word.{Word}
-use Rattle.clover_words.specs.declared.word.Word.TheVariants.{Next as NextOf, Meta, Value as ValueOf, Root, Key, Short, Count}
+use Rattle.clover_words.specs.declared.word.Word.TheVariants.{Next as NextOf, Root, Key, Short, Count}
 use Rattle.clover_words.specs.declared.word.Side.TheVariants.{Current, Flushed}
+use Rattle.clover_words.specs.Next.{root_code}
 use Rattle.clover_words.specs.Place.{copy_in}
+use Rattle.clover_words.specs.Version.{buffer_at, content_at}
 use Rattle.clover_rule.specs.Content.{inside}
 use Rattle.clover_rule.specs.Memory.{Next, word, Mem}
 
--- a root, a shortcut and a next word as numbers; a tag is its number
-abbrev pub root_code : Option ℕ → ℕ
-root_code None = 0
-root_code (Some t) = 2 ^ 42 + t
-
+-- a next word as a number; a tag is its number
 abbrev pub next_code : Next → ℕ
 next_code (word a x) = a * 2 ^ 43 + root_code x
 
@@ -24,15 +19,6 @@ root_of n = cond (nat_lt n 4398046511104) None (Some (n - 4398046511104))
 
 abbrev pub next_of : ℕ → Next
 next_of n = word (n / 8796093022208) (root_of (n % 8796093022208))
-
--- a buffer of tags, and a buffer of the pool
-abbrev pub buffer_at : ℕ → Buffer
-buffer_at b = record { node = b / 65536; index = b % 65536 }
-
--- the word at a place of a buffer's content
-abbrev pub content_at : ℕ → ℕ → Word
-content_at b zero = Meta (buffer_at b)
-content_at b (suc k) = ValueOf (buffer_at b) k
 
 -- what stands outside of the pool has a value of its own, so that it never changes
 abbrev pub guarded : {A : Type 0} → Bool → A → A → A

@@ -12,7 +12,7 @@ pub use laws::{
     access_law, cut_law, longest_law, parts_law, preset_law, server_step_law, step_law,
     table_step_law, told_law,
 };
-pub use step::{Kind, StepName};
+pub use step::StepName;
 pub use view::{
     BookLine, BufferState, Content, Link, Pass, Refusal, Role, Server, Shown, Task, View,
 };

@@ -7,9 +7,10 @@ use Rattle.std.proofs.lemmas.Map.Steps.{length-le_from_distinct_below}
 use Rattle.std.proofs.lemmas.Nat.{div-mul-add, mod-mul-add, mul-add-lt}
 use Rattle.std.proofs.lemmas.List.{length-map}
 use Rattle.clover_words.specs.declared.pool.Pool.{Pool}
+use Rattle.clover_words.specs.Tag.{home}
 use Rattle.clover_rule.specs.Content.{InRange, inside}
 use Rattle.clover_rule.specs.Lists.{Each, Within}
-use Rattle.clover_rule.specs.Memory.{Mem, link, home}
+use Rattle.clover_rule.specs.Memory.{Mem, link}
 use Rattle.clover_rule.specs.Parts.{Walk}
 use Rattle.clover_rule.specs.Words.{mem_of}
 use Rattle.clover_rule.proofs.Steps.{each_within}

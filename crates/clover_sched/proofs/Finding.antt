@@ -10,7 +10,8 @@ use Rattle.clover_words.specs.declared.setup.Setup.{Setup}
 use Rattle.clover_words.specs.declared.word.Side.TheVariants.{Current}
 use Rattle.clover_words.specs.declared.word.Word.TheVariants.{Next as NextOf}
 use Rattle.clover_words.specs.Preset.{HasDealt, dealt_number}
-use Rattle.clover_words.specs.Tag.{TagParts, tag_number}
+use Rattle.clover_words.specs.Tag.{TagParts, tag_number, home, age}
+use Rattle.clover_words.specs.Version.{buffer_at}
 use Rattle.clover_map.specs.Tagged.{Tagged}
 use Rattle.clover_map.specs.History.{key_of}
 use Rattle.clover_map.specs.declared.bytes.Value.{Value}
@@ -21,11 +22,11 @@ use Rattle.clover_rule.specs.Content.{Fits, InRange, content}
 use Rattle.clover_rule.specs.History.{Version}
 use Rattle.clover_rule.specs.Lists.{Each, nth, Within}
 use Rattle.clover_rule.specs.Meets.{Meets}
-use Rattle.clover_rule.specs.Memory.{Mem, word, gen, link, home, age}
+use Rattle.clover_rule.specs.Memory.{Mem, word, gen, link}
 use Rattle.clover_rule.specs.Parts.{Walk}
 use Rattle.clover_rule.specs.Story.{Story, Chained, Stocked, Durable, tag_at, tag_in_version}
 use Rattle.clover_rule.specs.Views.{Owned, ViewOk}
-use Rattle.clover_rule.specs.Words.{mem_of, next_code, buffer_at}
+use Rattle.clover_rule.specs.Words.{mem_of, next_code}
 use Rattle.clover_rule.specs.declared.view.View.{View}
 use Rattle.clover_rule.proofs.Keeping.{read_next, read_body}
 use Rattle.clover_rule.proofs.Standings.{tag_within}

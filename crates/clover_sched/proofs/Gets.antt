@@ -5,6 +5,7 @@ use Rattle.clover_words.specs.declared.bytes.ValueBuf.{ValueBuf}
 use Rattle.clover_words.specs.declared.pool.Pool.{Pool}
 use Rattle.clover_words.specs.declared.setup.Setup.{Setup}
 use Rattle.clover_words.specs.Tag.{TagParts, tag_number}
+use Rattle.clover_words.specs.Version.{unlinked}
 use Rattle.clover_map.specs.declared.call.Call.{Call}
 use Rattle.clover_map.specs.declared.call.Call.TheVariants.{Get as GetOf}
 use Rattle.clover_map.specs.declared.call.Entry.{Entry}
@@ -16,7 +17,7 @@ use Rattle.clover_rule.specs.Accesses.{CameBack, Decides}
 use Rattle.clover_rule.specs.Content.{InRange}
 use Rattle.clover_rule.specs.Knowing.{link_entry}
 use Rattle.clover_rule.specs.Lists.{Within}
-use Rattle.clover_rule.specs.Steps.{Step, DecideNext, act_of, found, turn_of, words_after_step, next_history, unlinked, client, number_of}
+use Rattle.clover_rule.specs.Steps.{Step, DecideNext, act_of, found, turn_of, words_after_step, next_history, client, number_of}
 use Rattle.clover_rule.specs.declared.access.Act.{Act}
 use Rattle.clover_rule.specs.declared.view.View.{View}
 use Rattle.clover_rule.proofs.Tools.{length_snoc}

@@ -3,12 +3,13 @@ use Rattle.std.proofs.Common.{◌≡◌, ◌≢◌, ℕ, suc, ◌-◌, ◌^◌, 
 use Rattle.std.specs.Prelude.{Option, Some, None}
 use Rattle.std.proofs.lemmas.List.{get_or-set_other, get_or-set_same, length-set}
 use Rattle.std.proofs.lemmas.Option.{same_Some}
+use Rattle.clover_words.specs.Version.{unlinked}
 use Rattle.clover_map.specs.History.{own}
 use Rattle.clover_map.specs.declared.call.Entry.{Entry}
 use Rattle.clover_map.specs.declared.call.Call.{Call}
 use Rattle.clover_rule.specs.Accesses.{CameBack, words_after_act}
 use Rattle.clover_rule.specs.History.{own as own_of}
-use Rattle.clover_rule.specs.Steps.{Step, LoadNext, DecideNext, RaiseNext, LinkNext, StoreContent, FlushContent, LoadContent, ReadRoot, ReadShort, StoreShort, ReadCount, AbsentCount, act_of, next_view, next_history, found, words_after_step, learned, seen, started, decided, missed, counts, unlinked, client, reply_of, rest_of}
+use Rattle.clover_rule.specs.Steps.{Step, LoadNext, DecideNext, RaiseNext, LinkNext, StoreContent, FlushContent, LoadContent, ReadRoot, ReadShort, StoreShort, ReadCount, AbsentCount, act_of, next_view, next_history, found, words_after_step, learned, seen, started, decided, missed, counts, client, reply_of, rest_of}
 use Rattle.clover_rule.specs.Knowing.{link_view}
 use Rattle.clover_rule.specs.Views.{OwnCalls}
 use Rattle.clover_rule.specs.Words.{next_of, root_of}

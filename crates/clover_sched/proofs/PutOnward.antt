@@ -3,11 +3,11 @@ use Prim.Native.Nat.{zero, suc}
 use Rattle.std.proofs.Common.{◌≡◌, ℕ, ◌==◌, List, [], ◌∷◌, ◌++◌, Bool, true, false, cond, refl, sym, ap, ◌∙◌, subst, eqb-true, eq-eqb}
 use Rattle.clover_words.specs.declared.word.Side.{Side}
 use Rattle.clover_words.specs.declared.word.Side.TheVariants.{Current, Flushed}
+use Rattle.clover_words.specs.Tag.{home}
+use Rattle.clover_words.specs.Version.{unlinked, content_at}
 use Rattle.clover_map.specs.declared.call.Entry.{Entry}
 use Rattle.clover_map.specs.declared.call.Reply.TheVariants.{Absent, Differs}
-use Rattle.clover_rule.specs.Memory.{home}
-use Rattle.clover_rule.specs.Steps.{LoadNext, DecideNext, act_of, next_view, next_history, unlinked}
-use Rattle.clover_rule.specs.Words.{content_at}
+use Rattle.clover_rule.specs.Steps.{LoadNext, DecideNext, act_of, next_view, next_history}
 use Rattle.clover_rule.specs.declared.access.Act.TheVariants.{Store}
 use Rattle.clover_rule.specs.declared.view.View.{View}
 use Rattle.clover_walk.specs.Walking.{Stand, AtShort as ToShort, AtRoot, AtTag, AtLink as OnLink, OnTail, Ended, goes_on, step_at}

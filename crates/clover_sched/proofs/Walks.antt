@@ -1,8 +1,9 @@
 -- What an access of a walk does, in a call of either kind: the walk keeps its pool and slot, and the access writes nothing and decides nothing.
 use Rattle.std.proofs.Common.{◌≡◌, ℕ, List, Bool, true, false, cond, eqb, refl}
 use Rattle.std.specs.Prelude.{Option, Some, None}
+use Rattle.clover_words.specs.Tag.{age}
 use Rattle.clover_map.specs.declared.call.Entry.{Entry}
-use Rattle.clover_rule.specs.Memory.{Next, word, age}
+use Rattle.clover_rule.specs.Memory.{Next, word}
 use Rattle.clover_rule.specs.Steps.{act_of, next_history}
 use Rattle.clover_rule.specs.Words.{next_of, root_of}
 use Rattle.clover_rule.specs.declared.access.Act.{Act}

@@ -6,6 +6,7 @@ use Rattle.clover_words.specs.Tag.{TagParts, tag_number}
 use Rattle.clover_words.specs.declared.pool.Pool.{Pool}
 use Rattle.clover_words.specs.declared.setup.Setup.{Setup}
 use Rattle.clover_words.specs.Preset.{buffers_total, dealt_number}
+use Rattle.clover_words.specs.Version.{unlinked}
 use Rattle.clover_map.specs.History.{own, key_of}
 use Rattle.clover_map.specs.declared.call.Call.TheVariants.{Get as GetCall, Put as PutCall, Delete as DeleteCall, Swap as SwapCall}
 use Rattle.clover_plain.specs.Preset.{dealt_from, tag_at}
@@ -18,7 +19,7 @@ use Rattle.clover_script.specs.declared.line.Task.TheVariants.{Client as ClientT
 use Rattle.clover_rule.specs.Accesses.{CameBack, Decides, wrote_link}
 use Rattle.clover_rule.specs.Content.{InRange}
 use Rattle.clover_rule.specs.Lists.{Within}
-use Rattle.clover_rule.specs.Steps.{Step, DecideNext, LinkNext, RaiseNext, StoreShort, act_of, found, turn_of, words_after_step, next_view, next_history, unlinked, reply_of, client, number_of, rest_of, seen}
+use Rattle.clover_rule.specs.Steps.{Step, DecideNext, LinkNext, RaiseNext, StoreShort, act_of, found, turn_of, words_after_step, next_view, next_history, reply_of, client, number_of, rest_of, seen}
 use Rattle.clover_rule.specs.Words.{next_of}
 use Rattle.clover_rule.specs.Knowing.{link_entry, link_view}
 use Rattle.clover_rule.specs.declared.access.Act.{Act}

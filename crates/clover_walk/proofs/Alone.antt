@@ -10,13 +10,15 @@ use Rattle.clover_words.specs.declared.word.Word.TheVariants.{Next as NextOf}
 use Rattle.clover_words.specs.declared.word.Side.TheVariants.{Current, Flushed}
 use Rattle.clover_words.specs.Place.{IsWithin, address_of, copy_in}
 use Rattle.clover_words.proofs.Places.{copy_kept, has_current}
+use Rattle.clover_words.specs.Tag.{home, age}
+use Rattle.clover_words.specs.Version.{buffer_at, content_at}
 use Rattle.clover_map.specs.declared.bytes.Value.{Value}
 use Rattle.clover_rule.specs.Content.{content, inside, words_from, Fits, InRange}
 use Rattle.clover_rule.specs.Lists.{Each, nth}
-use Rattle.clover_rule.specs.Memory.{Mem, Next, word, gen, link, home, age}
+use Rattle.clover_rule.specs.Memory.{Mem, Next, word, gen, link}
 use Rattle.clover_rule.specs.Parts.{Walk}
 use Rattle.clover_rule.specs.Steps.{Step, LoadNext, RaiseNext, ReadRoot, ReadShort, word_of, side_of, becomes, found, words_after_step}
-use Rattle.clover_rule.specs.Words.{next_of, buffer_at, content_at, mem_of}
+use Rattle.clover_rule.specs.Words.{next_of, mem_of}
 use Rattle.clover_rule.proofs.Keeping.{read_next, read_root, read_short}
 use Rattle.clover_rule.proofs.Spelling.{length_words}
 use Rattle.clover_rule.proofs.Standings.{word_is}

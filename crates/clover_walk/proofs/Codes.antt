@@ -3,13 +3,15 @@ use Rattle.std.proofs.Common.{◌≡◌, ◌≢◌, ℕ, ◌+◌, Bool, cond, re
 use Rattle.std.specs.Prelude.{Option, Some, None}
 use Rattle.clover_words.specs.declared.pool.Pool.{Pool}
 use Rattle.clover_words.specs.declared.word.Word.TheVariants.{Root, Short}
-use Rattle.clover_words.specs.Tag.{TagParts, IsTag, tag_number}
-use Rattle.clover_words.specs.Next.{NextParts, IsLink, IsNext, next_word, root_word}
-use Rattle.clover_rule.specs.Memory.{Next, word, age}
-use Rattle.clover_rule.specs.Steps.{unlinked, turn_at}
+use Rattle.clover_words.specs.Tag.{TagParts, IsTag, tag_number, age}
+use Rattle.clover_words.specs.Next.{NextParts, IsLink, IsNext, next_word, root_word, root_code}
+use Rattle.clover_words.specs.Version.{unlinked}
+use Rattle.clover_words.proofs.Versions.{age_tag}
+use Rattle.clover_rule.specs.Memory.{Next, word}
+use Rattle.clover_rule.specs.Steps.{turn_at}
 use Rattle.clover_rule.specs.Told.{IsShown}
-use Rattle.clover_rule.specs.Words.{next_of, next_code, root_of, root_code}
-use Rattle.clover_rule.proofs.Codecs.{age_tag, tag_option, next_of_word, tag_parts, parts_again, range_tag}
+use Rattle.clover_rule.specs.Words.{next_of, next_code, root_of}
+use Rattle.clover_rule.proofs.Codecs.{tag_option, next_of_word, tag_parts, parts_again, range_tag}
 use Rattle.clover_rule.proofs.Ties.{next_again}
 use Rattle.clover_walk.specs.Standing.{number_of}
 use Rattle.clover_walk.specs.Walking.{Walking, followed, hops, turned, next_start, begins}

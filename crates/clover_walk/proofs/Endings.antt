@@ -3,17 +3,19 @@ use Rattle.std.proofs.Common.{◌≡◌, ◌≢◌, ℕ, ◌+◌, ◌==◌, List
 use Rattle.std.specs.Prelude.{Option, Some, None}
 use Rattle.clover_words.specs.declared.pool.Pool.{Pool}
 use Rattle.clover_words.specs.declared.word.Word.TheVariants.{Next as NextOf}
+use Rattle.clover_words.specs.Tag.{home, age}
+use Rattle.clover_words.specs.Version.{unlinked, buffer_at}
 use Rattle.clover_map.specs.declared.call.Call.{Call}
 use Rattle.clover_map.specs.declared.call.Entry.{Entry}
 use Rattle.clover_map.specs.declared.call.Reply.{Reply}
 use Rattle.clover_rule.specs.Accesses.{AtTail, Committed, StoredBoth, SawFor}
 use Rattle.clover_rule.specs.Knowing.{link_view}
 use Rattle.clover_rule.specs.Lists.{Within}
-use Rattle.clover_rule.specs.Memory.{Next, word, home, age}
+use Rattle.clover_rule.specs.Memory.{Next, word}
 use Rattle.clover_words.specs.declared.word.Word.{Word}
-use Rattle.clover_rule.specs.Steps.{Step, number_of, LoadNext, DecideNext, RaiseNext, LinkNext, StoreContent, FlushContent, LoadContent, ReadRoot, ReadShort, StoreShort, ReadCount, AbsentCount, act_of, word_of, value_of, reply_of, rest_of, client, decided, seen, started, unlinked, turn_at, turn_of, learned, counted}
+use Rattle.clover_rule.specs.Steps.{Step, number_of, LoadNext, DecideNext, RaiseNext, LinkNext, StoreContent, FlushContent, LoadContent, ReadRoot, ReadShort, StoreShort, ReadCount, AbsentCount, act_of, word_of, value_of, reply_of, rest_of, client, decided, seen, started, turn_at, turn_of, learned, counted}
 use Rattle.clover_rule.specs.Told.{IsShown}
-use Rattle.clover_rule.specs.Words.{next_of, root_of, buffer_at}
+use Rattle.clover_rule.specs.Words.{next_of, root_of}
 use Rattle.clover_rule.specs.declared.access.Act.{Act}
 use Rattle.clover_rule.specs.declared.view.Link.{Link}
 use Rattle.clover_rule.specs.declared.view.Role.{Role}
@@ -144,7 +146,7 @@ first_link : (b : Bool) (k : Link) (ls : List Link) → b ≡ true → Within k 
 first_link true k ls e = inl refl
 first_link false k ls e = absurd cc
 
-seen_link : (s t u : ℕ) (v : View) (n : Next) → n ≡ word (age t) (Some u) → Within (record { slot = s; from = t; to = u }) (seen s t v n).pass.links
+pub seen_link : (s t u : ℕ) (v : View) (n : Next) → n ≡ word (age t) (Some u) → Within (record { slot = s; from = t; to = u }) (seen s t v n).pass.links
 seen_link s t u v n e =
     subst (λ (z : Next). Within (record { slot = s; from = t; to = u }) (seen s t v z).pass.links) (sym e) (first_link (eqb (age t) (age t)) (record { slot = s; from = t; to = u }) v.pass.links (eq-eqb (age t) (age t) refl))
 

@@ -2,7 +2,6 @@ pub mod Alone
 pub mod Calling
 pub mod Codes
 pub mod Endings
-pub mod Naming
 pub mod Promises
 pub mod Shown
-pub mod Tailing
+pub mod Goes

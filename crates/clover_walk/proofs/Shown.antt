@@ -1,9 +1,10 @@
 -- A tag's next word that an access found, and how the walk goes on by it.
 use Rattle.std.proofs.Common.{◌≡◌, ◌≢◌, ℕ, suc, ◌+◌, Bool, true, false, cond, eqb, ltb, refl, sym, ap, ◌∙◌, arith, subst, eq-eqb, eqb-true}
 use Rattle.std.specs.Prelude.{Option, Some, None}
-use Rattle.clover_words.specs.Tag.{TagParts, tag_number}
-use Rattle.clover_rule.specs.Memory.{Next, word, age}
-use Rattle.clover_rule.specs.Steps.{unlinked, turn_at}
+use Rattle.clover_words.specs.Tag.{TagParts, tag_number, age}
+use Rattle.clover_words.specs.Version.{unlinked}
+use Rattle.clover_rule.specs.Memory.{Next, word}
+use Rattle.clover_rule.specs.Steps.{turn_at}
 use Rattle.clover_rule.specs.Words.{next_of}
 use Rattle.clover_rule.specs.declared.view.View.{View}
 use Rattle.clover_walk.specs.Walking.{Walking, AtShort, AtRoot, AtLink, OnTail, Ended, Shows, placed, turned, hops, followed, next_start, begins, budget}

@@ -7,13 +7,15 @@ use Rattle.clover_words.specs.declared.word.Word.TheVariants.{Next as NextOf}
 use Rattle.clover_words.specs.declared.word.Side.TheVariants.{Current}
 use Rattle.clover_words.specs.Pack.{words_of}
 use Rattle.clover_words.specs.Place.{IsWithin, copy_in}
+use Rattle.clover_words.specs.Tag.{home, age}
+use Rattle.clover_words.specs.Version.{unlinked, buffer_at, content_at}
 use Rattle.clover_map.specs.declared.bytes.Value.{Value}
 use Rattle.clover_rule.specs.Content.{InRange, Fits, content}
 use Rattle.clover_rule.specs.Lists.{Each, nth}
-use Rattle.clover_rule.specs.Memory.{Mem, gen, home, age}
+use Rattle.clover_rule.specs.Memory.{Mem, gen}
 use Rattle.clover_rule.specs.Parts.{Walk}
-use Rattle.clover_rule.specs.Steps.{Step, RaiseNext, found, words_after_step, unlinked}
-use Rattle.clover_rule.specs.Words.{mem_of, buffer_at, content_at}
+use Rattle.clover_rule.specs.Steps.{Step, RaiseNext, found, words_after_step}
+use Rattle.clover_rule.specs.Words.{mem_of}
 use Rattle.clover_walk.specs.Walking.{Walking, AtTag, OnTail, IsOnWay, budget, made_walk, walk_step, goes_on}
 use Rattle.clover_walk.specs.declared.start.Start.{Start}
 use Rattle.clover_walk.specs.declared.start.Start.TheVariants.{FromCursor, FromShort, FromRoot}

@@ -1,11 +1,12 @@
 -- How a call ends at a slot's tail: by a load that shows the tail unlinked, or by the exchange that links behind it.
 use Rattle.std.specs.Prelude.{ℕ, false, Option, Some, None}
 use Rattle.clover_words.specs.declared.pool.Pool.{Pool}
+use Rattle.clover_words.specs.Version.{unlinked}
 use Rattle.clover_map.specs.declared.call.Call.{Call}
 use Rattle.clover_map.specs.declared.call.Reply.{Reply}
 use Rattle.clover_port.specs.Told.{Open, Made}
 use Rattle.clover_rule.specs.Accesses.{Decides}
-use Rattle.clover_rule.specs.Steps.{Step, LoadNext, DecideNext, LinkNext, unlinked, reply_of}
+use Rattle.clover_rule.specs.Steps.{Step, LoadNext, DecideNext, LinkNext, reply_of}
 use Rattle.clover_rule.specs.declared.view.View.{View}
 
 -- the last load of a call at the tag t of the slot s: it decides the call with the reply, where a call is named

@@ -4,3 +4,4 @@ pub mod Standing
 pub mod Kept
 pub mod Ending
 pub mod Alone
+pub mod Finding

@@ -1,7 +1,7 @@
 -- What the answer of a walk's step says.
 use Rattle.std.specs.Prelude.{◌≡◌, ℕ, Bool, true, false, Option, Some, None}
 use Rattle.clover_words.specs.Tag.{TagParts, tag_number}
-use Rattle.clover_rule.specs.Steps.{unlinked}
+use Rattle.clover_words.specs.Version.{unlinked}
 use Rattle.clover_walk.specs.declared.turn.Turn.{Turn}
 use Rattle.clover_walk.specs.declared.turn.Turn.TheVariants.{More, AtTail, Behind, Unreached}
 use Rattle.clover_walk.specs.Walking.{Walking, Stand, AtTag, OnTail, Ended, IsOnWay}

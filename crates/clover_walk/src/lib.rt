@@ -3,14 +3,10 @@
 #![tactic(auto)]
 
 mod laws;
-mod reach;
 mod start;
-mod tail;
 mod turn;
 mod walk;
 
 pub use laws::{raised_law, start_law, tag_law};
-pub use reach::{load_next, raise_next};
-pub use tail::{buffer_of, content_word, load_content, load_last};
 pub use turn::Turn;
 pub use walk::Walk;

@@ -1,24 +1,25 @@
 // A walk: where it stands, and how it goes on.
-ghost use Rattle.std.specs.Prelude.{◌≡◌, ◌≤◌, ◌<◌, ◌+◌, ◌↔◌, ℕ, Option, Some, IfSome, false};
-ghost use Rattle.clover_words.specs.Tag.{tag_number};
+ghost use Rattle.std.specs.Prelude.{◌≡◌, ◌<◌, ℕ, Option, Some, IfSome, MatchResult};
+ghost use Rattle.clover_words.specs.Tag.{tag_number, home};
+ghost use Rattle.clover_words.specs.Version.{buffer_at};
 ghost use Rattle.clover_rule.specs.Content.{InRange};
-ghost use Rattle.clover_rule.specs.Lists.{Within};
-ghost use Rattle.clover_rule.specs.Memory.{home};
-ghost use Rattle.clover_rule.specs.Steps.{LoadNext, unlinked};
+ghost use Rattle.clover_rule.specs.Steps.{word_of};
+ghost use Rattle.clover_words.specs.Place.{IsWithin};
 ghost use Rattle.clover_rule.specs.Told.{IsShown};
-ghost use Rattle.clover_rule.specs.Words.{next_of, root_of, buffer_at};
+ghost use Rattle.clover_rule.specs.Words.{next_of, root_of};
 ghost use Rattle.clover_words.specs.declared.word.Word.TheVariants.{Next as NextOf, Root as RootOf, Short as ShortOf};
-ghost use Rattle.clover_port.specs.Told.{Made, Rose};
-ghost use Rattle.clover_walk.specs.Walking.{AtTag, OnTail, IsOnWay, AreTags, Holds, ShowsNext, made_walk, begun, walk_step, goes_on, followed, hops, shortened, rooted, turned, placed, budget};
+ghost use Rattle.clover_port.specs.Asked.{IsOp, IsFinding};
+ghost use Rattle.clover_walk.specs.Walking.{IsOnWay, AreTags, Holds, made_walk, begun, walk_step, goes_on, followed, hops, shortened, rooted, turned, placed, budget};
 ghost use Rattle.clover_walk.specs.Standing.{standing, number_of};
-ghost use Rattle.clover_walk.specs.Turning.{Answers, OnReached, OnUnreached, OnAhead, OnGoing, IfAtTail, IfBehind, IsAtTail, ShowsTail, ExactTurn};
+ghost use Rattle.clover_walk.specs.Turning.{Answers, OnReached, OnUnreached};
+ghost use Rattle.clover_walk.specs.Finding.{MayFind, Walked};
 ghost use Rattle.clover_walk.specs.declared.turn.Turn.TheVariants.{More};
 
-use crate::reach::{load_next, load_root, load_short, raise_next};
 use crate::start::{Stand, Start};
 use crate::turn::Turn;
-use clover_port::Port;
-use clover_words::{NextWord, Pool, Tag, root_decode};
+use clover_port::{Failed, Op, Port, perform};
+use clover_rule::StepName;
+use clover_words::{NextWord, Pool, Tag, Word, root_decode};
 use std::marker::{Brand, Model};
 
 /// A walk of one call along one slot's chain, to the chain's tail. It makes one access a step.
@@ -94,6 +95,45 @@ impl Walk {
         self.slot
     }
 
+    /// The access that the walk asks for next. Where the walk is at the tail, it is a further load of the tail's next
+    /// word.
+    pub fn next(&self) -> Op
+        ensures op { IsOp (walk_step self.now) result }
+        ensures finds { IsFinding result }
+        ensures within { IsWithin self.now.pool (word_of (walk_step self.now)) }
+    {
+        match self.stand {
+            Stand::AtShort => Op::Load(Word::Short(self.slot)),
+            Stand::AtRoot | Stand::Ended => Op::Load(Word::Root(self.slot)),
+            Stand::AtTag(tag) | Stand::OnTail(tag) => Op::Load(tag.next_word()),
+            Stand::AtLink { from, to } => Op::Raise {
+                word: from.next_word(),
+                value: from.linked(to),
+            },
+        }
+    }
+
+    /// Goes on by what the access found.
+    ///
+    /// `AtTail`, exactly where the word was a next word that shows the tag unlinked at its generation. `Behind`,
+    /// exactly where the turns of the call have reached the budget. It never answers `Unreached`.
+    pub fn on(&mut self, found: u64) -> Turn
+        requires found { MayFind self.old found }
+        requires below { self.old.turns < budget self.old.pool }
+        ensures value { self.new ≡ goes_on self.old found }
+        ensures answer { Answers self.new result }
+    {
+        let stand = self.stand;
+        match stand {
+            Stand::AtShort => self.cut(found),
+            Stand::AtRoot => self.lead(found),
+            Stand::AtTag(tag) => self.follow(tag, found),
+            Stand::AtLink { from: _, to } => self.place(Stand::AtTag(to)),
+            Stand::OnTail(tag) => self.follow(tag, found),
+            Stand::Ended => unreachable!(),
+        }
+    }
+
     /// Makes the walk's next access, and goes on by what it found.
     ///
     /// The walk has not ended, nor is it at the tail; the port is of its pool, and of the one actor that makes all
@@ -106,72 +146,12 @@ impl Walk {
         requires way { IsOnWay self.old.stand }
         requires pool { P.pool port.old ≡ self.old.pool }
         requires holds { Holds self.old (P.view port.old) }
-        ensures made { OnReached result ((x : ℕ) × Made (P.pool port.old) (walk_step self.old) self.old.first (P.view port.old) (P.told port.old) x (P.view port.new) (P.told port.new) × (self.new ≡ goes_on self.old x) × (IsAtTail result ↔ ShowsTail self.old.stand x)) }
-        ensures answer { OnReached result (Answers self.new result) }
-        ensures tail { IfAtTail result (λ tag. (self.old.stand ≡ AtTag (tag_number tag)) × Made (P.pool port.old) (LoadNext self.old.slot (tag_number tag)) self.old.first (P.view port.old) (P.told port.old) (unlinked (tag_number tag)) (P.view port.new) (P.told port.new) × Within (self.old.slot, tag_number tag) (P.view port.new).pass.durable) }
-        ensures behind { IfBehind result (λ turns. (turns ≡ budget self.old.pool) × ((P.view port.new).pass.turns ≡ budget self.old.pool)) }
-        ensures ahead { OnAhead result ((P.view port.new).pass.turns < budget self.old.pool) }
-        ensures unreached { OnUnreached result (Rose (P.faults port.old) (P.faults port.new) × (P.view port.new ≡ P.view port.old) × (P.told port.new ≡ P.told port.old) × (self.new ≡ self.old)) }
-        ensures exact { ExactTurn (P.refuses port.old) result }
-        ensures one { OnReached result ((P.view port.new).pass.made ≡ (P.view port.old).pass.made + 1) }
-        ensures range { IfAtTail result (λ tag. InRange self.old.pool (tag_number tag)) }
-        ensures walk { (self.new.pool ≡ self.old.pool) × (self.new.slot ≡ self.old.slot) }
-        ensures later { OnReached result (self.new.first ≡ false) }
-        ensures stands { OnGoing result (Holds self.new (P.view port.new)) }
-        ensures same { (P.pool port.new ≡ P.pool port.old) × (P.table port.new ≡ P.table port.old) × (P.lender port.new ≡ P.lender port.old) }
-        ensures accessed { P.accessed port.old port.new }
-        ensures count { P.faults port.old ≤ P.faults port.new }
-        ensures kept { OnReached result (P.faults port.new ≡ P.faults port.old) }
+        ensures made { OnReached result ((x : ℕ) × P.made port.old (walk_step self.old) self.old.first x port.new × Walked self.old x (P.view port.new) self.new result) }
+        ensures unreached { OnUnreached result (P.failed port.old port.new × (self.new ≡ self.old)) }
     {
-        let stand = self.stand;
-        match stand {
-            Stand::AtShort => match load_short::<P, Brand>(port, self.first, self.slot) {
-                Ok(word) => self.cut(word),
-                Err(_) => Turn::Unreached,
-            },
-            Stand::AtRoot => match load_root::<P, Brand>(port, self.first, self.slot) {
-                Ok(word) => self.lead(word),
-                Err(_) => Turn::Unreached,
-            },
-            Stand::AtTag(tag) => match load_next::<P, Brand>(port, self.first, self.slot, tag) {
-                Ok(word) => self.follow(tag, word),
-                Err(_) => Turn::Unreached,
-            },
-            Stand::AtLink { from, to } => {
-                match raise_next::<P, Brand>(port, self.first, self.slot, from, to) {
-                    Ok(_) => self.place(Stand::AtTag(to)),
-                    Err(_) => Turn::Unreached,
-                }
-            }
-            Stand::OnTail(_) | Stand::Ended => unreachable!(),
-        }
-    }
-
-    /// Takes a next word that the caller's own access found at the walk's tail, and goes on as after a load. It
-    /// makes no access: the caller's has counted the turn already.
-    ///
-    /// `AtTail`, exactly where the word shows the tag unlinked at its generation. `Behind`, exactly where the turns
-    /// of the call have reached the budget. It never answers `Unreached`.
-    pub fn seen<P: Port>(&mut self, port: &mut P, word: u64) -> Turn
-        requires pool { P.pool port.old ≡ self.old.pool }
-        requires shows { ShowsNext self.old (P.view port.old) word }
-        ensures value { self.new ≡ goes_on self.old word }
-        ensures answer { Answers self.new result }
-        ensures when { IsAtTail result ↔ ShowsTail self.old.stand word }
-        ensures tail { IfAtTail result (λ tag. (self.old.stand ≡ OnTail (tag_number tag)) × (word ≡ unlinked (tag_number tag)) × Within (self.old.slot, tag_number tag) (P.view port.new).pass.durable) }
-        ensures behind { IfBehind result (λ turns. (turns ≡ budget self.old.pool) × ((P.view port.new).pass.turns ≡ budget self.old.pool)) }
-        ensures ahead { OnAhead result ((P.view port.new).pass.turns < budget self.old.pool) }
-        ensures stands { OnGoing result (Holds self.new (P.view port.new)) }
-        ensures range { IfAtTail result (λ tag. InRange self.old.pool (tag_number tag)) }
-        ensures walk { (self.new.pool ≡ self.old.pool) × (self.new.slot ≡ self.old.slot) }
-        ensures later { self.new.first ≡ false }
-        ensures port { port.new ≡ port.old }
-    {
-        let _ = port;
-        let stand = self.stand;
-        match stand {
-            Stand::OnTail(tag) => self.follow(tag, word),
-            _ => unreachable!(),
+        match access::<P, Brand>(self, port) {
+            Ok(found) => self.on(found),
+            Err(_) => Turn::Unreached,
         }
     }
 
@@ -273,4 +253,15 @@ impl Walk {
             }
         }
     }
+}
+
+// Makes the access that the walk asks for, as the step that M names.
+fn access<P: Port, M: StepName>(walk: &Walk, port: &mut P) -> Result<u64, Failed>
+    requires name { (M.step ≡ walk_step walk.now) × (M.first ≡ walk.now.first) }
+    requires way { IsOnWay walk.now.stand }
+    requires pool { P.pool port.old ≡ walk.now.pool }
+    requires holds { Holds walk.now (P.view port.old) }
+    ensures ends { MatchResult result (λ x. P.made port.old (walk_step walk.now) walk.now.first x port.new) (λ e. P.failed port.old port.new) }
+{
+    perform::<P, M>(port, walk.next())
 }

@@ -5,8 +5,8 @@ ghost use Rattle.std.specs.Prelude.{◌≡◌, ◌≤◌, ◌<◌, ℕ, List, []
 ghost use Rattle.clover_words.specs.Place.{IsWithin, pool_words};
 ghost use Rattle.clover_words.specs.Pack.{packed};
 ghost use Rattle.clover_words.specs.Preset.{buffers_total};
-ghost use Rattle.clover_rule.specs.Content.{spelling, tombstone, IsKey};
-ghost use Rattle.clover_rule.specs.Words.{root_code};
+ghost use Rattle.clover_words.specs.Next.{root_code};
+ghost use Rattle.clover_rule.specs.Content.{spelling, IsKey};
 ghost use Rattle.clover_rule.specs.Lists.{nth};
 ghost use Rattle.clover_rule.specs.declared.view.View.{View};
 ghost use Rattle.clover_plain.specs.Plain.{history};
@@ -19,7 +19,7 @@ use atomic_table::Seat;
 use clover_map::Key;
 use clover_rule::View;
 use clover_words::{
-    Kind, Meta, Setup, Tag, Word, pack, root_encode, tombstone as tombstone_buffer,
+    Meta, Setup, Tag, Word, pack, root_encode, tombstone as tombstone_buffer,
 };
 use std::marker::Brand;
 
@@ -92,7 +92,7 @@ fn preset_number(setup: &Setup, keys: &[Key], word: Word) -> u64
             let number = u64::from(buffer.node) * u64::from(setup.pool.buffers)
                 + u64::from(buffer.index);
             if setup.pool.total() - 1 - number < keys.len() as u64 {
-                tombstone_word()
+                Meta::tombstone_word()
             } else {
                 0
             }
@@ -113,17 +113,6 @@ fn preset_number(setup: &Setup, keys: &[Key], word: Word) -> u64
         }
         Word::Count => keys.len() as u64,
     }
-}
-
-fn tombstone_word() -> u64
-    ensures { result ≡ tombstone }
-{
-    let meta = Meta {
-        kind: Kind::Tombstone,
-        flags: 0,
-        length: 0,
-    };
-    meta.encode()
 }
 
 // The root of a bound slot.

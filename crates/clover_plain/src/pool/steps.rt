@@ -2,7 +2,7 @@
 // counted and listed.
 ghost use Rattle.std.specs.Prelude.{◌≡◌, ◌≤◌, ◌<◌, ◌+◌, ◌-◌, ◌&&◌, ℕ, Bool, true, false, length, Some, vec_len, vec_capacity};
 ghost use Rattle.clover_rule.specs.Steps.{Asks, act_of};
-ghost use Rattle.clover_rule.specs.Meant.{load_step, store_step, exchange_step, raise_step, IsLoad, IsStore, IsExchange, IsRaise};
+ghost use Rattle.clover_rule.specs.Meant.{IsLoad, IsStore, IsExchange, IsRaise};
 ghost use Rattle.clover_port.specs.Told.{Made};
 ghost use Rattle.clover_plain.specs.Plain.{Stepped, Refused, view_at, open_of, counted};
 
@@ -20,10 +20,10 @@ impl PlainPool {
         requires seat { seat < length self.old.views }
         requires opened { self.old.opened ≡ true }
         requires room { (self.old.traced && list) ≡ true → 1 ≤ self.old.access_room }
-        requires step { IsLoad (load_step M.kind M.slot M.tag M.call M.reply word) word }
-        requires rule { Asks self.old.setup.pool (load_step M.kind M.slot M.tag M.call M.reply word) (view_at self.old seat) }
-        ensures step { Stepped (load_step M.kind M.slot M.tag M.call M.reply word) M.first list seat result self.old self.new }
-        ensures made { Made self.old.setup.pool (load_step M.kind M.slot M.tag M.call M.reply word) M.first (view_at self.old seat) (Some (open_of self.old)) result (view_at self.new seat) (Some (open_of self.new)) }
+        requires step { IsLoad M.step word }
+        requires rule { Asks self.old.setup.pool M.step (view_at self.old seat) }
+        ensures step { Stepped M.step M.first list seat result self.old self.new }
+        ensures made { Made self.old.setup.pool M.step M.first (view_at self.old seat) (Some (open_of self.old)) result (view_at self.new seat) (Some (open_of self.new)) }
     {
         let at = place_of(&self.setup, &self.words, word, Side::Current);
         let found = load_at(&self.words, at);
@@ -63,10 +63,10 @@ impl PlainPool {
         requires seat { seat < length self.old.views }
         requires opened { self.old.opened ≡ true }
         requires room { (self.old.traced && list) ≡ true → 1 ≤ self.old.access_room }
-        requires step { IsStore (store_step M.kind M.slot M.tag word side value) word side value }
-        requires rule { Asks self.old.setup.pool (store_step M.kind M.slot M.tag word side value) (view_at self.old seat) }
-        ensures step { Stepped (store_step M.kind M.slot M.tag word side value) M.first list seat result self.old self.new }
-        ensures made { Made self.old.setup.pool (store_step M.kind M.slot M.tag word side value) M.first (view_at self.old seat) (Some (open_of self.old)) result (view_at self.new seat) (Some (open_of self.new)) }
+        requires step { IsStore M.step word side value }
+        requires rule { Asks self.old.setup.pool M.step (view_at self.old seat) }
+        ensures step { Stepped M.step M.first list seat result self.old self.new }
+        ensures made { Made self.old.setup.pool M.step M.first (view_at self.old seat) (Some (open_of self.old)) result (view_at self.new seat) (Some (open_of self.new)) }
     {
         let at = place_of(&self.setup, &self.words, word, side);
         let found = store_at(&mut self.words, at, value);
@@ -106,10 +106,10 @@ impl PlainPool {
         requires seat { seat < length self.old.views }
         requires opened { self.old.opened ≡ true }
         requires room { (self.old.traced && list) ≡ true → 1 ≤ self.old.access_room }
-        requires step { IsExchange (exchange_step M.slot M.tag M.call new) word expected new }
-        requires rule { Asks self.old.setup.pool (exchange_step M.slot M.tag M.call new) (view_at self.old seat) }
-        ensures step { Stepped (exchange_step M.slot M.tag M.call new) M.first list seat result self.old self.new }
-        ensures made { Made self.old.setup.pool (exchange_step M.slot M.tag M.call new) M.first (view_at self.old seat) (Some (open_of self.old)) result (view_at self.new seat) (Some (open_of self.new)) }
+        requires step { IsExchange M.step word expected new }
+        requires rule { Asks self.old.setup.pool M.step (view_at self.old seat) }
+        ensures step { Stepped M.step M.first list seat result self.old self.new }
+        ensures made { Made self.old.setup.pool M.step M.first (view_at self.old seat) (Some (open_of self.old)) result (view_at self.new seat) (Some (open_of self.new)) }
     {
         let at = place_of(&self.setup, &self.words, word, Side::Current);
         let found = exchange_at(&mut self.words, at, expected, new);
@@ -153,10 +153,10 @@ impl PlainPool {
         requires seat { seat < length self.old.views }
         requires opened { self.old.opened ≡ true }
         requires room { (self.old.traced && list) ≡ true → 1 ≤ self.old.access_room }
-        requires step { IsRaise (raise_step M.slot M.tag value) word value }
-        requires rule { Asks self.old.setup.pool (raise_step M.slot M.tag value) (view_at self.old seat) }
-        ensures step { Stepped (raise_step M.slot M.tag value) M.first list seat result self.old self.new }
-        ensures made { Made self.old.setup.pool (raise_step M.slot M.tag value) M.first (view_at self.old seat) (Some (open_of self.old)) result (view_at self.new seat) (Some (open_of self.new)) }
+        requires step { IsRaise M.step word value }
+        requires rule { Asks self.old.setup.pool M.step (view_at self.old seat) }
+        ensures step { Stepped M.step M.first list seat result self.old self.new }
+        ensures made { Made self.old.setup.pool M.step M.first (view_at self.old seat) (Some (open_of self.old)) result (view_at self.new seat) (Some (open_of self.new)) }
     {
         let at = place_of(&self.setup, &self.words, word, Side::Flushed);
         let found = raise_at(&mut self.words, at, value);

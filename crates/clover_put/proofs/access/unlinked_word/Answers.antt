@@ -2,7 +2,7 @@ use Rattle.std.proofs.Common.{sym, ◌∙◌, ap, subst}
 use Rattle.std.specs.Prelude.{None}
 use Rattle.clover_words.specs.Next.{next_word}
 use Rattle.clover_words.specs.Tag.{TagParts, IsTag}
-use Rattle.clover_rule.proofs.Codecs.{unlinked_is}
+use Rattle.clover_words.proofs.Versions.{unlinked_is}
 use Rattle.clover_put.proofs.access.unlinked_word.Goals as goal
 
 pub returns : goal.returns

@@ -3,7 +3,6 @@ use Rattle.std.specs.Prelude.{Some, slice_index}
 use prog.Atomic.{either}
 use Rattle.std.proofs.lemmas.List.{length-set}
 use Rattle.clover_words.specs.declared.pool.Pool.{Pool}
-use Rattle.clover_rule.specs.Meant.{exchange_step}
 use Rattle.clover_rule.specs.Steps.{Step, Asks, words_after_step}
 use Rattle.clover_rule.specs.declared.access.Act.{Act}
 use Rattle.clover_rule.specs.declared.access.Act.TheVariants.{Exchange}
@@ -17,7 +16,7 @@ use Rattle.clover_plain.proofs.pool.PlainPool.exchange.Goals.{After-note}
 
 -- which step it is, and which access
 abbrev step : (g : _) → After-note g → Step
-step g c = exchange_step g.M.StepName.slot g.M.StepName.tag g.M.StepName.call c.args.new
+step g c = g.M.StepName.step
 
 abbrev act : (g : _) → After-note g → ℕ → Act
 act g c n = Exchange c.args.word c.args.expected c.args.new n
@@ -59,7 +58,7 @@ stepped g c = record {
 }
 
 pub place_of-at-requires-clause-within : goal.place_of-at-requires-clause-within
-place_of-at-requires-clause-within g c = within_as c.self.inside.setup.pool (exchange_step g.M.StepName.slot g.M.StepName.tag g.M.StepName.call c.args.new) (λ n. Exchange c.args.word c.args.expected c.args.new n) c.requires.step (subst (λ (p : Plain). Asks p.setup.pool (exchange_step g.M.StepName.slot g.M.StepName.tag g.M.StepName.call c.args.new) (view_at p c.args.seat)) (sym c.self.view_is) c.requires.rule).0
+place_of-at-requires-clause-within g c = within_as c.self.inside.setup.pool g.M.StepName.step (λ n. Exchange c.args.word c.args.expected c.args.new n) c.requires.step (subst (λ (p : Plain). Asks p.setup.pool g.M.StepName.step (view_at p c.args.seat)) (sym c.self.view_is) c.requires.rule).0
 
 pub invariant_of-self : goal.invariant_of-self
 invariant_of-self g c = record {

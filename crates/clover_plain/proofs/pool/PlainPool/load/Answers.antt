@@ -1,7 +1,6 @@
 use Rattle.std.proofs.Common.{◌≡◌, ◌<◌, ℕ, length, Bool, true, false, ◌&&◌, refl, sym, ap, ◌∙◌, subst}
 use Rattle.std.specs.Prelude.{Some}
 use Rattle.clover_words.specs.declared.pool.Pool.{Pool}
-use Rattle.clover_rule.specs.Meant.{load_step}
 use Rattle.clover_rule.specs.Steps.{Step, Asks, words_after_step}
 use Rattle.clover_rule.specs.declared.access.Act.{Act}
 use Rattle.clover_rule.specs.declared.access.Act.TheVariants.{Load}
@@ -15,7 +14,7 @@ use Rattle.clover_plain.proofs.pool.PlainPool.load.Goals.{After-note}
 
 -- which step it is, and which access
 abbrev step : (g : _) → After-note g → Step
-step g c = load_step g.M.StepName.kind g.M.StepName.slot g.M.StepName.tag g.M.StepName.call g.M.StepName.reply c.args.word
+step g c = g.M.StepName.step
 
 abbrev act : (g : _) → After-note g → ℕ → Act
 act g c n = Load c.args.word n
@@ -57,7 +56,7 @@ stepped g c = record {
 }
 
 pub place_of-at-requires-clause-within : goal.place_of-at-requires-clause-within
-place_of-at-requires-clause-within g c = within_as c.self.inside.setup.pool (load_step g.M.StepName.kind g.M.StepName.slot g.M.StepName.tag g.M.StepName.call g.M.StepName.reply c.args.word) (λ n. Load c.args.word n) c.requires.step (subst (λ (p : Plain). Asks p.setup.pool (load_step g.M.StepName.kind g.M.StepName.slot g.M.StepName.tag g.M.StepName.call g.M.StepName.reply c.args.word) (view_at p c.args.seat)) (sym c.self.view_is) c.requires.rule).0
+place_of-at-requires-clause-within g c = within_as c.self.inside.setup.pool g.M.StepName.step (λ n. Load c.args.word n) c.requires.step (subst (λ (p : Plain). Asks p.setup.pool g.M.StepName.step (view_at p c.args.seat)) (sym c.self.view_is) c.requires.rule).0
 
 pub invariant_of-self : goal.invariant_of-self
 invariant_of-self g c = record {

@@ -2,7 +2,6 @@ use Rattle.std.proofs.Common.{◌≡◌, ◌<◌, ℕ, length, set, max, Bool, t
 use Rattle.std.specs.Prelude.{Some, slice_index}
 use Rattle.std.proofs.lemmas.List.{length-set}
 use Rattle.clover_words.specs.declared.pool.Pool.{Pool}
-use Rattle.clover_rule.specs.Meant.{raise_step}
 use Rattle.clover_rule.specs.Steps.{Step, Asks, words_after_step}
 use Rattle.clover_rule.specs.declared.access.Act.{Act}
 use Rattle.clover_rule.specs.declared.access.Act.TheVariants.{Raise}
@@ -16,7 +15,7 @@ use Rattle.clover_plain.proofs.pool.PlainPool.raise.Goals.{After-note}
 
 -- which step it is, and which access
 abbrev step : (g : _) → After-note g → Step
-step g c = raise_step g.M.StepName.slot g.M.StepName.tag c.args.value
+step g c = g.M.StepName.step
 
 abbrev act : (g : _) → After-note g → ℕ → Act
 act g c n = Raise c.args.word c.args.value n
@@ -58,7 +57,7 @@ stepped g c = record {
 }
 
 pub place_of-at-requires-clause-within : goal.place_of-at-requires-clause-within
-place_of-at-requires-clause-within g c = within_as c.self.inside.setup.pool (raise_step g.M.StepName.slot g.M.StepName.tag c.args.value) (λ n. Raise c.args.word c.args.value n) c.requires.step (subst (λ (p : Plain). Asks p.setup.pool (raise_step g.M.StepName.slot g.M.StepName.tag c.args.value) (view_at p c.args.seat)) (sym c.self.view_is) c.requires.rule).0
+place_of-at-requires-clause-within g c = within_as c.self.inside.setup.pool g.M.StepName.step (λ n. Raise c.args.word c.args.value n) c.requires.step (subst (λ (p : Plain). Asks p.setup.pool g.M.StepName.step (view_at p c.args.seat)) (sym c.self.view_is) c.requires.rule).0
 
 pub invariant_of-self : goal.invariant_of-self
 invariant_of-self g c = record {

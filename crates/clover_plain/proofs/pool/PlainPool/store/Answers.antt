@@ -2,7 +2,6 @@ use Rattle.std.proofs.Common.{◌≡◌, ◌<◌, ℕ, length, set, Bool, true, 
 use Rattle.std.specs.Prelude.{Some}
 use Rattle.std.proofs.lemmas.List.{length-set}
 use Rattle.clover_words.specs.declared.pool.Pool.{Pool}
-use Rattle.clover_rule.specs.Meant.{store_step}
 use Rattle.clover_rule.specs.Steps.{Step, Asks, words_after_step}
 use Rattle.clover_rule.specs.declared.access.Act.{Act}
 use Rattle.clover_rule.specs.declared.access.Act.TheVariants.{Store}
@@ -16,7 +15,7 @@ use Rattle.clover_plain.proofs.pool.PlainPool.store.Goals.{After-note}
 
 -- which step it is, and which access
 abbrev step : (g : _) → After-note g → Step
-step g c = store_step g.M.StepName.kind g.M.StepName.slot g.M.StepName.tag c.args.word c.args.side c.args.value
+step g c = g.M.StepName.step
 
 abbrev act : (g : _) → After-note g → ℕ → Act
 act g c n = Store c.args.word c.args.side c.args.value
@@ -58,7 +57,7 @@ stepped g c = record {
 }
 
 pub place_of-at-requires-clause-within : goal.place_of-at-requires-clause-within
-place_of-at-requires-clause-within g c = within_as c.self.inside.setup.pool (store_step g.M.StepName.kind g.M.StepName.slot g.M.StepName.tag c.args.word c.args.side c.args.value) (λ n. Store c.args.word c.args.side c.args.value) c.requires.step (subst (λ (p : Plain). Asks p.setup.pool (store_step g.M.StepName.kind g.M.StepName.slot g.M.StepName.tag c.args.word c.args.side c.args.value) (view_at p c.args.seat)) (sym c.self.view_is) c.requires.rule).0
+place_of-at-requires-clause-within g c = within_as c.self.inside.setup.pool g.M.StepName.step (λ n. Store c.args.word c.args.side c.args.value) c.requires.step (subst (λ (p : Plain). Asks p.setup.pool g.M.StepName.step (view_at p c.args.seat)) (sym c.self.view_is) c.requires.rule).0
 
 pub invariant_of-self : goal.invariant_of-self
 invariant_of-self g c = record {

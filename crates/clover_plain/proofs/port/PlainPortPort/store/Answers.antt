@@ -1,11 +1,10 @@
-use Rattle.std.proofs.Common.{sym, subst, inr}
-use Rattle.clover_rule.specs.Meant.{store_step}
+use Rattle.std.proofs.Common.{sym, subst}
 use Rattle.clover_rule.specs.declared.access.Act.{Act}
 use Rattle.clover_plain.specs.Plain.{Refused}
 use Rattle.clover_plain.proofs.port.PlainPortPort.store.Goals as goal
 
-pub returns-then-self-clause-refused : goal.returns-then-self-clause-refused
-returns-then-self-clause-refused g c = subst (λ (a : Act). Refused a c.args.self.now.seat c.args.self.now.pool.now c.fail.new.self.pool.now) (sym (c.requires.step 0)) c.fail.ensures.refused
-
-pub returns-then-self-clause-accessed : goal.returns-then-self-clause-accessed
-returns-then-self-clause-accessed g c = (c.fail.ensures.next.0, inr (store_step g.M.StepName.kind g.M.StepName.slot g.M.StepName.tag c.args.word c.args.side c.args.value, returns-then-self-clause-refused g c))
+pub returns-then-self : goal.returns-then-self
+returns-then-self g c =
+    let e = c.fail.ensures in let p = c.args.self.now in
+    let refused = subst (λ (a : Act). Refused a p.seat p.pool.now c.fail.new.self.pool.now) (sym (c.requires.step 0)) e.refused in
+    record { ends = ((g.M.StepName.step, refused), e.next.0, e.count, e.lender, c.if-self.true, e.next.1, e.next.2, e.rises) }

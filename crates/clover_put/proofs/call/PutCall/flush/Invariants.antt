@@ -1,6 +1,6 @@
 use Rattle.std.specs.Prelude.{None, false}
-use Rattle.clover_map.specs.declared.call.Reply.TheVariants.{Absent}
 use Rattle.clover_words.specs.Tag.{tag_number}
+use Rattle.clover_map.specs.declared.call.Reply.TheVariants.{Absent}
 use Rattle.clover_rule.specs.declared.step.Kind.TheVariants.{Fill}
 use Rattle.clover_put.proofs.call.PutCall.flush.Given as goal
 

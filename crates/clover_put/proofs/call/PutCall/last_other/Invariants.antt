@@ -1,6 +1,6 @@
 use Rattle.std.specs.Prelude.{Some, false}
-use Rattle.clover_map.specs.declared.call.Reply.TheVariants.{Differs}
 use Rattle.clover_words.specs.Tag.{tag_number}
+use Rattle.clover_map.specs.declared.call.Reply.TheVariants.{Differs}
 use Rattle.clover_rule.specs.declared.step.Kind.TheVariants.{Decide}
 use Rattle.clover_walk.specs.Walking.{key_at}
 use Rattle.clover_put.specs.Putting.{call_of}

@@ -1,9 +1,10 @@
 use Rattle.std.proofs.Common.{◌≡◌, ℕ, List, sym, ap, ◌∙◌, subst, false}
 use Rattle.clover_words.specs.Tag.{tag_number}
 use Rattle.clover_words.specs.declared.pool.Pool.{Pool}
+use Rattle.clover_words.specs.Version.{unlinked}
 use Rattle.clover_map.specs.declared.bytes.Value.{Value}
 use Rattle.clover_rule.specs.Content.{Fits}
-use Rattle.clover_rule.specs.Steps.{Step, Asks, unlinked}
+use Rattle.clover_rule.specs.Steps.{Step, Asks}
 use Rattle.clover_port.specs.Told.{Made}
 use Rattle.clover_walk.specs.Walking.{goes_on}
 use Rattle.clover_put.specs.Putting.{Putting, commits}

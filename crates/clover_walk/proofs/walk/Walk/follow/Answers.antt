@@ -1,9 +1,8 @@
 use Rattle.std.proofs.Common.{◌≡◌, sym, ap, ◌∙◌, subst}
 use Rattle.std.specs.Prelude.{Some}
-use Rattle.clover_words.specs.Tag.{TagParts, IsTag, tag_number}
+use Rattle.clover_words.specs.Tag.{TagParts, IsTag, tag_number, home}
 use Rattle.clover_words.specs.Next.{NextParts}
-use Rattle.clover_rule.specs.Memory.{home}
-use Rattle.clover_rule.specs.Words.{buffer_at}
+use Rattle.clover_words.specs.Version.{buffer_at}
 use Rattle.clover_rule.proofs.Codecs.{shown_next}
 use Rattle.clover_walk.specs.Standing.{number_of}
 use Rattle.clover_walk.specs.Walking.{Walking, Stand, hops, turned, next_start, begins}

@@ -1,0 +1,27 @@
+-- What an access of a port leaves of its pool.
+use Rattle.std.specs.Prelude.{◌≡◌, ℕ, Bool, true, false, Option, Some}
+use Rattle.std.proofs.Common.{sym, subst}
+use Rattle.clover_rule.specs.Rule.{longest}
+use Rattle.clover_rule.specs.declared.access.Act.{Act}
+use Rattle.clover_plain.specs.Plain.{Plain, Same, Refused, open_of, view_at}
+
+pub pool_same : {p q : Plain} → Same p q → q.setup.pool ≡ p.setup.pool
+pool_same s = λ i. (s.setup i).pool
+
+pub refused_view : {p q : Plain} {a : Act} (i j : ℕ) → j ≡ i → Refused a i p q → view_at q j ≡ view_at p i
+refused_view {p} {q} i j e r = λ k. view_at (record q { setup = r.same.setup k; views = r.views k }) (e k)
+
+pub refused_told : {p q : Plain} {a : Act} (i : ℕ) → Refused a i p q → Some (open_of q) ≡ Some (open_of p)
+refused_told i r = λ k. Some (record { words = r.words k; history = longest (r.views k) })
+
+-- which answer was foretold
+abbrev Foretold : Bool → Option Bool → Type 0
+Foretold true (Some true) = Unit {0}
+Foretold false (Some false) = Unit {0}
+Foretold b o = ⊥
+
+pub not_true : {b : Bool} → b ≡ false → Some b ≡ Some true → ⊥
+not_true {b} e f = subst (λ (z : Bool). Foretold true (Some z)) e (subst (Foretold true) (sym f) tt)
+
+pub not_false : {b : Bool} → b ≡ true → Some b ≡ Some false → ⊥
+not_false {b} e f = subst (λ (z : Bool). Foretold false (Some z)) e (subst (Foretold false) (sym f) tt)
