@@ -16,9 +16,9 @@ use Rattle.clover_rule.specs.declared.view.Role.{Role}
 use Rattle.clover_rule.specs.declared.view.Role.TheVariants.{Client}
 use Rattle.clover_rule.specs.declared.view.View.{View}
 use Rattle.clover_rule.proofs.Steps.{each_within}
-use Rattle.clover_walk.specs.Finding.{MayFindAt, MayFind, Walked}
+use Rattle.clover_walk.specs.Finding.{MayFindAt, MayFind, IsAtTag, Walked}
 use Rattle.clover_walk.specs.Turning.{Answers, OnReached, IsAtTail, ShowsTail, IfAtTail}
-use Rattle.clover_walk.specs.Walking.{Walking, Stand, AtShort, AtRoot, AtTag, AtLink, OnTail, Ended, IsOnWay, StandsOn, Holds, Shows, ShowsFrom, ShowsNext, placed, walk_step, step_at, goes_from, goes_on, shortened, rooted, followed, key_at}
+use Rattle.clover_walk.specs.Walking.{Walking, Stand, AtShort, AtRoot, AtTag, AtLink, OnTail, Ended, IsOnWay, AreTags, StandsOn, Holds, Shows, ShowsFrom, ShowsNext, placed, walk_step, step_at, goes_from, goes_on, shortened, rooted, followed, key_at}
 use Rattle.clover_walk.specs.declared.start.Start.TheVariants.{FromRoot}
 use Rattle.clover_walk.specs.declared.turn.Turn.{Turn}
 use Rattle.clover_walk.specs.declared.turn.Turn.TheVariants.{More, AtTail, Behind, Unreached}
@@ -85,9 +85,12 @@ module _ (p : Pool) (w : Walking) (v : View) (o : Option Open) (x : ℕ) (v1 : V
         below = k.below;
       }
 
--- what holds where the walk has gone on
+-- what holds where the walk has gone on from the tag t by its next word
+abbrev TailAt : Walking → ℕ → ℕ → View → ℕ → Type 0
+TailAt w t x v u = InRange w.pool u × Within (w.slot, u) v.pass.durable × (t ≡ u) × (x ≡ unlinked u)
+
 shown_walked : (w : Walking) (t : ℕ) (v : View) (x : ℕ) (n : Walking) (r : Turn) → Shows w t v x → n ≡ followed w t (next_of x) → Answers n r → InRange w.pool t
-    → Promises w v n r × (IsAtTail r ↔ (x ≡ unlinked t)) × IfAtTail r (λ tag. InRange w.pool (tag_number tag) × Within (w.slot, tag_number tag) v.pass.durable)
+    → Promises w v n r × (IsAtTail r ↔ (x ≡ unlinked t)) × IfAtTail r (λ tag. TailAt w t x v (tag_number tag))
 shown_walked w t v x n r s e a i = (followed_promises w t v x n r s e a, (to r a, from), tail r a)
   where
     to : (r : Turn) → Answers n r → IsAtTail r → x ≡ unlinked t
@@ -99,11 +102,15 @@ shown_walked w t v x n r s e a i = (followed_promises w t v x n r s e a, (to r a
     from : x ≡ unlinked t → IsAtTail r
     from q = let y = tail_when w n t x r q e a in subst IsAtTail (sym y.1) tt
 
-    tail : (r : Turn) → Answers n r → IfAtTail r (λ tag. InRange w.pool (tag_number tag) × Within (w.slot, tag_number tag) v.pass.durable)
+    tail : (r : Turn) → Answers n r → IfAtTail r (λ tag. TailAt w t x v (tag_number tag))
     tail More a = tt
-    tail (AtTail u) a = let q = (followed_tail w t v x n (tag_number u) s e a).1 in subst (λ (k : ℕ). InRange w.pool k × Within (w.slot, k) v.pass.durable) q (i, s.tail)
+    tail (AtTail u) a = let q = followed_tail w t v x n (tag_number u) s e a in subst (TailAt w t x v) q.1 (i, s.tail, refl, q.0)
     tail (Behind k) a = tt
     tail Unreached a = tt
+
+-- the same where the walk stands at the stand
+abbrev TailFrom : Walking → Stand → ℕ → View → ℕ → Type 0
+TailFrom w at x v u = InRange w.pool u × Within (w.slot, u) v.pass.durable × IsAtTag at u × (x ≡ unlinked u)
 
 -- an answer of a walk that stands before the tail is not that it is there
 not_there : (n : Walking) (r : Turn) → IsOnWay n.stand → Answers n r → IsAtTail r → ⊥
@@ -115,17 +122,17 @@ not_there n Unreached way a h = h
 module _ (p : Pool) (w : Walking) (v : View) (o : Option Open) (x : ℕ) (v1 : View) (o1 : Option Open) (of : p ≡ w.pool) (h : Holds w v) where
   -- all but the value and the answer of what was walked
   abbrev Gone : Stand → Walking → Turn → Type 0
-  Gone at n r = Promises w v1 n r × (IsAtTail r ↔ ShowsTail at x) × IfAtTail r (λ tag. InRange w.pool (tag_number tag) × Within (w.slot, tag_number tag) v1.pass.durable)
+  Gone at n r = Promises w v1 n r × (IsAtTail r ↔ ShowsTail at x) × IfAtTail r (λ tag. TailFrom w at x v1 (tag_number tag))
 
-  nowhere : (n : Walking) (r : Turn) → IsOnWay n.stand → Answers n r → IfAtTail r (λ tag. InRange w.pool (tag_number tag) × Within (w.slot, tag_number tag) v1.pass.durable)
-  nowhere n (AtTail u) way a = absurd (subst IsOnWay a way)
-  nowhere n More way a = tt
-  nowhere n (Behind k) way a = tt
-  nowhere n Unreached way a = tt
+  nowhere : (at : Stand) (n : Walking) (r : Turn) → IsOnWay n.stand → Answers n r → IfAtTail r (λ tag. TailFrom w at x v1 (tag_number tag))
+  nowhere at n (AtTail u) way a = absurd (subst IsOnWay a way)
+  nowhere at n More way a = tt
+  nowhere at n (Behind k) way a = tt
+  nowhere at n Unreached way a = tt
 
   -- to a place before the tail, without a turn
   placed_gone : (at to : Stand) (r : Turn) → Knows w v1 → v1.pass.turns ≡ w.turns → StandsOn w.slot to v1 → IsOnWay to → (ShowsTail at x → ⊥) → Answers (placed w to) r → Gone at (placed w to) r
-  placed_gone at to r k e on way never a = (placed_promises w v1 to r k on e a, (λ q. absurd (not_there (placed w to) r way a q), λ q. absurd (never q)), nowhere (placed w to) r way a)
+  placed_gone at to r k e on way never a = (placed_promises w v1 to r k on e a, (λ q. absurd (not_there (placed w to) r way a q), λ q. absurd (never q)), nowhere at (placed w to) r way a)
 
   gone_at : (at : Stand) → StandsOn w.slot at v → IsOnWay at → Made p (step_at w.slot at) w.first v o x v1 o1 → (r : Turn) → Answers (goes_from at w x) r → Gone at (goes_from at w x) r
   gone_at AtShort on way made r a = by_root (root_of x) refl a
@@ -139,7 +146,7 @@ module _ (p : Pool) (w : Walking) (v : View) (o : Option Open) (x : ℕ) (v1 : V
       by_root : (q : Option ℕ) → root_of x ≡ q → Answers (shortened w q) r → Gone AtShort (shortened w q) r
       by_root None f b =
           let g = placed_promises (record w { start = FromRoot }) v1 AtRoot r (record { pool = k.pool; client = k.client; named = k.named; below = k.below }) tt e b in
-          (record { stands = g.stands; behind = g.behind; ahead = g.ahead }, (λ q. absurd (not_there (shortened w None) r tt b q), λ q. absurd q), nowhere (shortened w None) r tt b)
+          (record { stands = g.stands; behind = g.behind; ahead = g.ahead }, (λ q. absurd (not_there (shortened w None) r tt b q), λ q. absurd q), nowhere AtShort (shortened w None) r tt b)
       by_root (Some t) f b = placed_gone AtShort (AtTag t) r k e (started_at f) tt (λ q. q) b
         where
           started_at : root_of x ≡ Some t → Within (w.slot, t) v1.pass.durable
@@ -185,7 +192,7 @@ pub tail_finds : (w : Walking) (t x : ℕ) → w.stand ≡ OnTail t → IsShown 
 tail_finds w t x e h = subst (λ (at : Stand). MayFindAt at w.pool w.slot x) (sym e) h
 
 tail_gone : (w : Walking) (t : ℕ) (v : View) (x : ℕ) (at : Stand) → at ≡ OnTail t → ShowsFrom at w v x → InRange w.pool t → (n : Walking) (r : Turn) → n ≡ goes_from at w x → Answers n r
-    → Promises w v n r × (IsAtTail r ↔ ShowsTail at x) × IfAtTail r (λ tag. InRange w.pool (tag_number tag) × Within (w.slot, tag_number tag) v.pass.durable)
+    → Promises w v n r × (IsAtTail r ↔ ShowsTail at x) × IfAtTail r (λ tag. TailFrom w at x v (tag_number tag))
 tail_gone w t v x (OnTail u) e s i n r q a = shown_walked w u v x n r s q a (subst (InRange w.pool) (let y : t ≡ u = cc in y) i)
 tail_gone w t v x AtShort e s i n r q a = absurd s
 tail_gone w t v x AtRoot e s i n r q a = absurd s
@@ -197,3 +204,14 @@ pub tail_goes : (w : Walking) (t : ℕ) (v : View) (x : ℕ) → w.stand ≡ OnT
 tail_goes w t v x e s i n r q a =
     let g = tail_gone w t v x w.stand e s i n r q a in
     record { value = q; answers = a; stands = g.0.stands; behind = g.0.behind; ahead = g.0.ahead; when = g.1; tail = g.2 }
+
+pub seen_goes : (w : Walking) (v : View) (x : ℕ) → ShowsNext w v x → AreTags w.pool w.stand → (n : Walking) (r : Turn) → n ≡ goes_on w x → Answers n r → Walked w x v n r
+seen_goes w v x s i n r q a = by_stand w.stand refl s i
+  where
+    by_stand : (at : Stand) → w.stand ≡ at → ShowsFrom at w v x → AreTags w.pool at → Walked w x v n r
+    by_stand (OnTail t) e y j = tail_goes w t v x e s j n r q a
+    by_stand AtShort e y j = absurd y
+    by_stand AtRoot e y j = absurd y
+    by_stand (AtTag t) e y j = absurd y
+    by_stand (AtLink t u) e y j = absurd y
+    by_stand Ended e y j = absurd y

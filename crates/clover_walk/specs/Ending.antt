@@ -1,18 +1,13 @@
 -- How a call ends at a slot's tail: by a load that shows the tail unlinked, or by the exchange that links behind it.
-use Rattle.std.specs.Prelude.{ℕ, false, Option, Some, None}
+use Rattle.std.specs.Prelude.{ℕ, false, Option}
 use Rattle.clover_words.specs.declared.pool.Pool.{Pool}
 use Rattle.clover_words.specs.Version.{unlinked}
 use Rattle.clover_map.specs.declared.call.Call.{Call}
 use Rattle.clover_map.specs.declared.call.Reply.{Reply}
 use Rattle.clover_port.specs.Told.{Open, Made}
 use Rattle.clover_rule.specs.Accesses.{Decides}
-use Rattle.clover_rule.specs.Steps.{Step, LoadNext, DecideNext, LinkNext, reply_of}
+use Rattle.clover_rule.specs.Steps.{DecideNext, LinkNext, reply_of}
 use Rattle.clover_rule.specs.declared.view.View.{View}
-
--- the last load of a call at the tag t of the slot s: it decides the call with the reply, where a call is named
-abbrev pub last_step : ℕ → ℕ → Option Call → Reply → Step
-last_step s t (Some c) r = DecideNext s t c r
-last_step s t None r = LoadNext s t
 
 -- the access was a last load that showed the tag unlinked, and the accesses of the call decide the reply
 pub record Ended (p : Pool) (c : Call) (r : Reply) (v : View) (before : Option Open) (w : View) (after : Option Open) : Type 0 where

@@ -3,7 +3,7 @@ use Rattle.std.specs.Prelude.{◌≡◌, ◌↔◌, ℕ, ◌<◌, Some}
 use Rattle.clover_words.specs.Tag.{tag_number, home}
 use Rattle.clover_words.specs.declared.pool.Pool.{Pool}
 use Rattle.clover_words.specs.declared.word.Word.TheVariants.{Next as NextOf, Root, Short}
-use Rattle.clover_words.specs.Version.{buffer_at}
+use Rattle.clover_words.specs.Version.{buffer_at, unlinked}
 use Rattle.clover_rule.specs.Content.{InRange}
 use Rattle.clover_rule.specs.Lists.{Within}
 use Rattle.clover_rule.specs.Told.{IsShown}
@@ -25,6 +25,16 @@ MayFindAt Ended p s x = ⊥
 abbrev pub MayFind : Walking → ℕ → Type 0
 MayFind w x = MayFindAt w.stand w.pool w.slot x
 
+-- the tag whose next word the walk asks for where it stands
+abbrev pub IsAtTag : Stand → ℕ → Type 0
+IsAtTag (AtTag t) u = t ≡ u
+IsAtTag (OnTail t) u = t ≡ u
+IsAtTag at u = ⊥
+
+-- the number x showed the walk w that the tag at which it stands is the tail: it is of the pool, and the actor knows it to be durable in the slot
+abbrev pub IsTail : Walking → ℕ → View → ℕ → Type 0
+IsTail w x v t = InRange w.pool t × Within (w.slot, t) v.pass.durable × IsAtTag w.stand t × (x ≡ unlinked t)
+
 -- the walk w has gone on by the number x to n, with this answer, where the actor's view is v then
 pub record Walked (w : Walking) (x : ℕ) (v : View) (n : Walking) (r : Turn) : Type 0 where
   pub value : n ≡ goes_on w x
@@ -33,4 +43,4 @@ pub record Walked (w : Walking) (x : ℕ) (v : View) (n : Walking) (r : Turn) : 
   pub behind : IfBehind r (λ k. (k ≡ budget w.pool) × (v.pass.turns ≡ budget w.pool))
   pub ahead : OnAhead r (v.pass.turns < budget w.pool)
   pub when : IsAtTail r ↔ ShowsTail w.stand x
-  pub tail : IfAtTail r (λ tag. InRange w.pool (tag_number tag) × Within (w.slot, tag_number tag) v.pass.durable)
+  pub tail : IfAtTail r (λ tag. IsTail w x v (tag_number tag))

@@ -9,7 +9,7 @@ ghost use Rattle.clover_rule.specs.Told.{IsShown};
 ghost use Rattle.clover_rule.specs.Words.{next_of, root_of};
 ghost use Rattle.clover_words.specs.declared.word.Word.TheVariants.{Next as NextOf, Root as RootOf, Short as ShortOf};
 ghost use Rattle.clover_port.specs.Asked.{IsOp, IsFinding};
-ghost use Rattle.clover_walk.specs.Walking.{IsOnWay, AreTags, Holds, made_walk, begun, walk_step, goes_on, followed, hops, shortened, rooted, turned, placed, budget};
+ghost use Rattle.clover_walk.specs.Walking.{IsOnWay, AreTags, Holds, ShowsNext, made_walk, begun, walk_step, goes_on, followed, hops, shortened, rooted, turned, placed, budget};
 ghost use Rattle.clover_walk.specs.Standing.{standing, number_of};
 ghost use Rattle.clover_walk.specs.Turning.{Answers, OnReached, OnUnreached};
 ghost use Rattle.clover_walk.specs.Finding.{MayFind, Walked};
@@ -153,6 +153,20 @@ impl Walk {
             Ok(found) => self.on(found),
             Err(_) => Turn::Unreached,
         }
+    }
+
+    /// Takes a next word that the caller's own access found at the walk's tail, and goes on as after a load. It
+    /// makes no access: the caller's has counted the turn already. It never answers `Unreached`.
+    pub fn seen<P: Port>(&mut self, port: &mut P, word: u64) -> Turn
+        requires pool { P.pool port.old ≡ self.old.pool }
+        requires shows { ShowsNext self.old (P.view port.old) word }
+        ensures walked { Walked self.old word (P.view port.new) self.new result }
+        ensures port { port.new ≡ port.old }
+    {
+        let _ = port;
+        // Read for what the walk keeps.
+        let _slot = self.slot;
+        self.on(word)
     }
 
     // Stands there, without a turn.
