@@ -13,7 +13,7 @@ use Rattle.clover_rule.specs.declared.view.View.{View}
 use Rattle.clover_walk.specs.Walking.{Stand, AtShort as ToShort, AtRoot, AtTag, AtLink as OnLink, OnTail, Ended, goes_on, step_at}
 use Rattle.clover_put.specs.Answering.{IsBefore, Onward}
 use Rattle.clover_put.specs.Holding.{PutHolds, Fills, Looks}
-use Rattle.clover_put.specs.Putting.{Putting, Stage, Storing, Flushing, Seeking, AtMeta, AtLink, AtDead, AtOther, AtBad, AtRaise, AtShort, Over, body_word, put_step, put_on, call_at, staged, walked, unless_left, reached, at_tail}
+use Rattle.clover_put.specs.Putting.{Putting, Stage, Storing, Flushing, Seeking, AtMeta, AtLink, Deciding, AtBad, AtRaise, AtShort, Over, body_word, put_step, put_on, call_at, staged, walked, unless_left, reached, at_tail}
 use Rattle.clover_put.specs.declared.job.Job.{Job}
 use Rattle.clover_put.specs.declared.job.Job.TheVariants.{Put, Delete, Swap}
 use Rattle.clover_sched.specs.Run.{Wrote, Shortens}
@@ -44,8 +44,7 @@ on_keep (Flushing j) c x = record { pool = refl; slot = refl; job = refl; own = 
 on_keep Seeking c x = walked_keep c x
 on_keep (AtMeta u) c x = record { pool = refl; slot = refl; job = refl; own = refl; value = refl }
 on_keep (AtLink u) c x = left_keep c u (AtRaise u) x
-on_keep (AtDead u) c x = left_keep c u Over x
-on_keep (AtOther u) c x = left_keep c u Over x
+on_keep (Deciding u y) c x = left_keep c u Over x
 on_keep (AtBad u) c x = walked_keep c x
 on_keep (AtRaise u) c x = record { pool = refl; slot = refl; job = refl; own = refl; value = refl }
 on_keep AtShort c x = record { pool = refl; slot = refl; job = refl; own = refl; value = refl }
@@ -70,8 +69,7 @@ on_later (Flushing j) c v x f = refl
 on_later Seeking c v x f = walked_later c x f.1
 on_later (AtMeta u) c v x f = f.1
 on_later (AtLink u) c v x f = left_later c u (AtRaise u) x f.1
-on_later (AtDead u) c v x f = left_later c u Over x f.1
-on_later (AtOther u) c v x f = left_later c u Over x f.1
+on_later (Deciding u y) c v x f = left_later c u Over x f.1
 on_later (AtBad u) c v x f = walked_later c x f.1
 on_later (AtRaise u) c v x f = f
 on_later AtShort c v x f = f
@@ -84,8 +82,7 @@ later_call c v x h = on_later c.stage c v x h.fills
 -- the number that an access found neither commits nor ends the call
 abbrev pub Misses : Stage → ℕ → Type 0
 Misses (AtLink u) x = (x == unlinked u) ≡ false
-Misses (AtDead u) x = (x == unlinked u) ≡ false
-Misses (AtOther u) x = (x == unlinked u) ≡ false
+Misses (Deciding u y) x = (x == unlinked u) ≡ false
 Misses _ x = Unit {0}
 
 none_more : (b : Bool) (h : List Entry) (e : Entry) → b ≡ false → cond b (h ++ e ∷ []) h ≡ h
@@ -97,8 +94,7 @@ on_quiet (Flushing j) c u h v x m = refl
 on_quiet Seeking c u h v x m = walk_quiet c.walk.slot c.walk.stand h v x
 on_quiet (AtMeta t) c u h v x m = refl
 on_quiet (AtLink t) c u h v x m = none_more (x == unlinked t) h _ m
-on_quiet (AtDead t) c u h v x m = none_more (x == unlinked t) h _ m
-on_quiet (AtOther t) c u h v x m = none_more (x == unlinked t) h _ m
+on_quiet (Deciding t y) c u h v x m = none_more (x == unlinked t) h _ m
 on_quiet (AtBad t) c u h v x m = refl
 on_quiet (AtRaise t) c u h v x m = refl
 on_quiet AtShort c u h v x m = refl
@@ -113,8 +109,7 @@ on_stock (Flushing j) c u b h v x m = refl
 on_stock Seeking c u b h v x m = stock_kept (step_at c.walk.slot c.walk.stand) b h v x (walk_links c.walk.slot c.walk.stand)
 on_stock (AtMeta t) c u b h v x m = refl
 on_stock (AtLink t) c u b h v x m = stock_missed c.walk.slot t c.own (call_at c u) b h v x m
-on_stock (AtDead t) c u b h v x m = stock_kept (DecideNext c.walk.slot t (call_at c u) Absent) b h v x tt
-on_stock (AtOther t) c u b h v x m = stock_kept (DecideNext c.walk.slot t (call_at c u) (Differs t)) b h v x tt
+on_stock (Deciding t y) c u b h v x m = stock_kept (DecideNext c.walk.slot t (call_at c u) y) b h v x tt
 on_stock (AtBad t) c u b h v x m = stock_kept (LoadNext c.walk.slot t) b h v x tt
 on_stock (AtRaise t) c u b h v x m = refl
 on_stock AtShort c u b h v x m = refl
@@ -129,8 +124,7 @@ on_writes (Flushing j) c u x m w = w
 on_writes Seeking c u x m w = (walk_reads c.walk.slot c.walk.stand x).0 w
 on_writes (AtMeta t) c u x m w = w
 on_writes (AtLink t) c u x m w = absurd (let y = eq-eqb x (unlinked t) w in cc)
-on_writes (AtDead t) c u x m w = w
-on_writes (AtOther t) c u x m w = w
+on_writes (Deciding t y) c u x m w = w
 on_writes (AtBad t) c u x m w = w
 on_writes (AtRaise t) c u x m w = w
 on_writes AtShort c u x m w = w
@@ -149,8 +143,7 @@ on_shortens (Flushing j) c u x b h = content_shortens (home c.own) j (body_word 
 on_shortens Seeking c u x b h = (walk_reads c.walk.slot c.walk.stand x).1 h
 on_shortens (AtMeta t) c u x b h = h
 on_shortens (AtLink t) c u x b h = h
-on_shortens (AtDead t) c u x b h = h
-on_shortens (AtOther t) c u x b h = h
+on_shortens (Deciding t y) c u x b h = h
 on_shortens (AtBad t) c u x b h = h
 on_shortens (AtRaise t) c u x b h = absurd b
 on_shortens AtShort c u x b h = absurd b
@@ -170,8 +163,7 @@ on_before (Flushing j) c x b = tt
 on_before Seeking c x b = tt
 on_before (AtMeta u) c x b = tt
 on_before (AtLink u) c x b = left_before (x == unlinked u) c x (AtRaise u) (λ h. h) b
-on_before (AtDead u) c x b = left_before (x == unlinked u) c x Over (λ h. h) b
-on_before (AtOther u) c x b = left_before (x == unlinked u) c x Over (λ h. h) b
+on_before (Deciding u y) c x b = left_before (x == unlinked u) c x Over (λ h. h) b
 on_before (AtBad u) c x b = tt
 on_before (AtRaise u) c x b = tt
 on_before AtShort c x b = tt
@@ -187,8 +179,7 @@ on_onward (Flushing j) c n b e = e
 on_onward Seeking c n b e = e
 on_onward (AtMeta u) c n b e = e
 on_onward (AtLink u) c n b e = e
-on_onward (AtDead u) c n b e = e
-on_onward (AtOther u) c n b e = e
+on_onward (Deciding u y) c n b e = e
 on_onward (AtBad u) c n b e = e
 on_onward (AtRaise u) c n b e = absurd b
 on_onward AtShort c n b e = absurd b
@@ -215,8 +206,7 @@ on_behind (Flushing j) c v x l o e = tt
 on_behind Seeking c v x l o e = tt
 on_behind (AtMeta u) c v x l o e = tt
 on_behind (AtLink u) c v x l o e = left_behind (x == unlinked u) c x u (AtRaise u) l.0.0 e
-on_behind (AtDead u) c v x l o e = left_behind (x == unlinked u) c x u Over l.0.0 e
-on_behind (AtOther u) c v x l o e = left_behind (x == unlinked u) c x u Over l.0.0 e
+on_behind (Deciding u y) c v x l o e = left_behind (x == unlinked u) c x u Over l.0.0 e
 on_behind (AtBad u) c v x l o e = tt
 on_behind (AtRaise u) c v x l o e = tt
 on_behind AtShort c v x l o e = tt
@@ -264,7 +254,7 @@ tail_over Delete t h = h
 tail_over (Swap e) t h = h
 
 -- a call that is over at a tombstone found its tag unlinked
-pub dead_hit : (c : Putting) (u x : ℕ) → c.stage ≡ AtDead u → c.walk.stand ≡ OnTail u → staged c Over ≡ put_on c x → x ≡ unlinked u
+pub dead_hit : (c : Putting) (u x : ℕ) → c.stage ≡ Deciding u Absent → c.walk.stand ≡ OnTail u → staged c Over ≡ put_on c x → x ≡ unlinked u
 dead_hit c u x at on e = go (x == unlinked u) refl (e ∙ ap (λ (s : Stage). put_on (record c { stage = s }) x) at)
   where
     go : (b : Bool) → (x == unlinked u) ≡ b → staged c Over ≡ cond b (staged c Over) (walked c (goes_on c.walk x)) → x ≡ unlinked u

@@ -11,7 +11,7 @@ use Rattle.clover_rule.specs.declared.access.Act.{Act}
 use Rattle.clover_plain.specs.Plain.{Plain, Accessed, HasRoom, KeptButEntries, history, view_at}
 use Rattle.clover_cache.specs.Node.{Known, IsSet}
 use Rattle.clover_put.specs.Answering.{Answers, IsBefore, IsBehind, Onward}
-use Rattle.clover_put.specs.Putting.{Putting, Stage, Storing, Flushing, Seeking, AtMeta, AtLink, AtDead, AtOther, AtBad, AtRaise, AtShort, Over, put_step, staged}
+use Rattle.clover_put.specs.Putting.{Putting, Stage, Storing, Flushing, Seeking, AtMeta, AtLink, Deciding, AtBad, AtRaise, AtShort, Over, put_step, staged}
 use Rattle.clover_put.specs.declared.turn.PutTurn.{PutTurn}
 use Rattle.clover_put.specs.declared.turn.PutTurn.TheVariants.{More, Decided, Stored, Deleted, Absent as AbsentTurn, Differs as DiffersTurn, Behind, Unreached, Linked}
 use Rattle.clover_put.proofs.Done.{at_stage, at_step}
@@ -54,8 +54,7 @@ not_before (Flushing j) r b = r
 not_before Seeking r b = r
 not_before (AtMeta u) r b = r
 not_before (AtLink u) r b = r
-not_before (AtDead u) r b = r
-not_before (AtOther u) r b = r
+not_before (Deciding u y) r b = r
 not_before (AtBad u) r b = r
 not_before (AtRaise u) r b = b
 not_before AtShort r b = b
@@ -68,8 +67,7 @@ linked_behind (Flushing j) t acts h = h
 linked_behind Seeking t acts h = h
 linked_behind (AtMeta u) t acts h = h
 linked_behind (AtLink u) t acts h = h
-linked_behind (AtDead u) t acts h = h
-linked_behind (AtOther u) t acts h = h
+linked_behind (Deciding u y) t acts h = h
 linked_behind (AtBad u) t acts h = h
 linked_behind (AtRaise u) t acts h = tt
 linked_behind AtShort t acts h = tt
@@ -82,8 +80,7 @@ on_raises (Flushing j) c n r e = absurd r
 on_raises Seeking c n r e = absurd r
 on_raises (AtMeta u) c n r e = absurd r
 on_raises (AtLink u) c n r e = absurd r
-on_raises (AtDead u) c n r e = absurd r
-on_raises (AtOther u) c n r e = absurd r
+on_raises (Deciding u y) c n r e = absurd r
 on_raises (AtBad u) c n r e = absurd r
 on_raises (AtRaise u) c n r e = (u, refl, e)
 on_raises AtShort c n r e = absurd e
@@ -154,14 +151,14 @@ module _ (x y : ClientState) (k : ℕ) (p q : Plain) (r : PutTurn) (tells : Tell
     write_absent t e room number =
         let f = subst (PutAccess i x.refusing put.0 told.0 p q) e told.2 in
         let h = (subst (IsUnder o.setup.pool (view_at p i)) put.2 st.under).2 in
-        let g = last_enters o i x put.0 told.0 put.1 p q k seat put.2 st few Absent refl f.step.absent f.accessed (at_stage put.0 (AtDead (tag_number t)) (view_at p i) f.step.answer.0 h).1.1 in
+        let g = last_enters o i x put.0 told.0 put.1 p q k seat put.2 st few Absent refl f.step.absent f.accessed (at_stage put.0 (Deciding (tag_number t) Absent) (view_at p i) f.step.answer.0 h).1.1 in
         enters (λ (_ : Call). Absent) g.0 g.1 room.entry number
 
     pub write_differs : (t : TagParts) (n : ℕ) → r ≡ DiffersTurn t → n ≡ tag_number t → HasRoom p → x.number < 2 ^ 64 - 1 → IsDecided y k (λ (_ : Call). Differs n) q
     write_differs t n e en room number =
         let f = subst (PutAccess i x.refusing put.0 told.0 p q) e told.2 in
         let h = (subst (IsUnder o.setup.pool (view_at p i)) put.2 st.under).2 in
-        let g = last_enters o i x put.0 told.0 put.1 p q k seat put.2 st few (Differs (tag_number t)) refl f.step.differs f.accessed (at_stage put.0 (AtOther (tag_number t)) (view_at p i) f.step.answer.0 h).1.1 in
+        let g = last_enters o i x put.0 told.0 put.1 p q k seat put.2 st few (Differs (tag_number t)) refl f.step.differs f.accessed (at_stage put.0 (Deciding (tag_number t) (Differs (tag_number t))) (view_at p i) f.step.answer.0 h).1.1 in
         subst (λ (m : ℕ). IsDecided y k (λ (_ : Call). Differs m) q) (sym en) (enters (λ (_ : Call). Differs (tag_number t)) g.0 g.1 room.entry number)
 
     -- a call that was answered without a commit
@@ -186,9 +183,9 @@ module _ (x y : ClientState) (k : ℕ) (p q : Plain) (r : PutTurn) (tells : Tell
       write_absent_done e er =
           let f = subst (PutAccess i x.refusing put.0 told.0 p q) e told.2 in
           let h = (subst (IsUnder o.setup.pool (view_at p i)) put.2 st.under).2 in
-          let at = at_stage put.0 (AtDead (tag_number t)) (view_at p i) f.step.answer.0 h in
+          let at = at_stage put.0 (Deciding (tag_number t) Absent) (view_at p i) f.step.answer.0 h in
           let hit = dead_hit put.0 (tag_number t) f.step.made.0 f.step.answer.0 at.2.0.0 (sym f.step.answer.1 ∙ f.step.made.2) in
-          let shows : end_tag Absent (act_of (put_step put.0 (view_at p i)) f.step.made.0) ≡ seen_tag (shows_tail (tag_number t)) = (λ j. end_tag Absent (act_of (at_step put.0 (AtDead (tag_number t)) (view_at p i) f.step.answer.0 j) (hit j))) in
+          let shows : end_tag Absent (act_of (put_step put.0 (view_at p i)) f.step.made.0) ≡ seen_tag (shows_tail (tag_number t)) = (λ j. end_tag Absent (act_of (at_step put.0 (Deciding (tag_number t) Absent) (view_at p i) f.step.answer.0 j) (hit j))) in
           subst (λ (s : ClientState). Went o i x s p z (Answered k reply)) (sym is2)
           (subst (λ (s : Reply). Went o i x (answered x state2.0) p z (Answered k s)) (sym er)
           (went_answered o i x put.0 told.0 put.1 p q k seat put.2 st few Absent refl f.step.absent f.accessed at.1.1 z (more2 ∙ ap (λ (s : Reply). q.entries ++ next_entry k x.number put.1 s ∷ []) er) kept (made_few i x.refusing put.0 told.0 p q (AbsentTurn t) f) (exact_made x.refusing (AbsentTurn t) f.exact (λ s. s)) f.step.made (ap (λ (m : Putting). m.stage) f.step.answer.1)
@@ -198,7 +195,7 @@ module _ (x y : ClientState) (k : ℕ) (p q : Plain) (r : PutTurn) (tells : Tell
       write_differs_done e er =
           let f = subst (PutAccess i x.refusing put.0 told.0 p q) e told.2 in
           let h = (subst (IsUnder o.setup.pool (view_at p i)) put.2 st.under).2 in
-          let at = at_stage put.0 (AtOther (tag_number t)) (view_at p i) f.step.answer.0 h in
+          let at = at_stage put.0 (Deciding (tag_number t) (Differs (tag_number t))) (view_at p i) f.step.answer.0 h in
           subst (λ (s : ClientState). Went o i x s p z (Answered k reply)) (sym is2)
           (subst (λ (s : Reply). Went o i x (answered x state2.0) p z (Answered k s)) (sym er)
           (went_answered o i x put.0 told.0 put.1 p q k seat put.2 st few (Differs (tag_number t)) refl f.step.differs f.accessed at.1.1 z (more2 ∙ ap (λ (s : Reply). q.entries ++ next_entry k x.number put.1 s ∷ []) er) kept (made_few i x.refusing put.0 told.0 p q (DiffersTurn t) f) (exact_made x.refusing (DiffersTurn t) f.exact (λ s. s)) f.step.made (ap (λ (m : Putting). m.stage) f.step.answer.1)
@@ -266,7 +263,7 @@ module _ (x y : ClientState) (k : ℕ) (p q : Plain) (r : PutTurn) (tells : Tell
     pub raise_linked : (t : TagParts) (n : ℕ) → r ≡ Linked t → n ≡ tag_number t → Went o i x (idle_of y) p q (Refused k (why.Linked n))
     raise_linked t n e en =
         let f = subst (PutAccess i x.refusing put1.0 told1.0 p q) e told1.2 in
-        subst (λ (z : ClientState). Went o i x (idle_of z) p q (Refused k (why.Linked n))) (sym told1.1) (went_linked o i x put1.0 told1.0 p q k seat put1.1 st few n (en ∙ f.step.answer.2) f.step.refused.1 f.accessed (exact_refused x.refusing (Linked t) f.exact (λ z. z)))
+        subst (λ (z : ClientState). Went o i x (idle_of z) p q (Refused k (why.Linked n))) (sym told1.1) (went_linked o i x put1.0 told1.0 p q k seat put1.1 st few n (en ∙ f.step.answer.2) f.step.refused f.accessed (exact_refused x.refusing (Linked t) f.exact (λ z. z)))
 
     pub raise_ends : (r ≡ More → ⊥) → ((t : TagParts) → r ≡ Stored t → ⊥) → ((t : TagParts) → r ≡ Deleted t → ⊥) → ((t : TagParts) → r ≡ Linked t → ⊥) → ⊥
     raise_ends = behind_ends put1.0 told1.0 r is_behind told1.2.step.answer

@@ -3,32 +3,72 @@ use Rattle.std.proofs.Common.{◌≡◌, ℕ, suc, ◌-◌, Bool, subst, true, f
 use Rattle.std.specs.Prelude.{Some}
 use Rattle.clover_plain.specs.Plain.{Plain, Accessed, view_at, open_of}
 use Rattle.clover_put.specs.Putting.{Putting}
-use Rattle.clover_put.specs.Stepping.{PutStep}
 use Rattle.clover_put.specs.declared.turn.PutTurn.{PutTurn}
-use Rattle.clover_put.specs.Answering.{ExactPut}
+use Rattle.clover_put.specs.declared.turn.PutTurn.TheVariants.{More, Decided, Stored, Deleted, Absent, Differs, Behind, Unreached, Linked}
+use Rattle.clover_put.specs.Answering.{OnReached, OnRefused, ExactPut}
 use Rattle.clover_map.specs.declared.call.Call.{Call}
 use Rattle.clover_sched.specs.declared.client.ClientState.{ClientState}
 use Rattle.clover_sched.specs.declared.client.Underway.{Underway}
 use Rattle.clover_sched.specs.declared.client.Underway.TheVariants.{Write, Raise}
-use Rattle.clover_sched.specs.Writing.{PutAccess}
+use Rattle.clover_sched.specs.Writing.{PutStep, PutAccess}
 
--- the seat of the port is the client's, and it has counted no refusal
-port_done : (p0 p q1 q : Plain) (i s t f g : ℕ) (c n : Putting) (r : PutTurn) → p0 ≡ p → q ≡ q1 → s ≡ i → t ≡ s → f ≡ 0
-    → PutStep p0.setup.pool c (view_at p0 s) (Some (open_of p0)) f n (view_at q t) (Some (open_of q)) g r
-    → PutStep p.setup.pool c (view_at p i) (Some (open_of p)) 0 n (view_at q1 i) (Some (open_of q1)) g r
-port_done p0 p q1 q i s t f g c n r ep eq es et ef h =
-    let h1 : PutStep p.setup.pool c (view_at p s) (Some (open_of p)) f n (view_at q t) (Some (open_of q)) g r = subst (λ (z : Plain). PutStep z.setup.pool c (view_at z s) (Some (open_of z)) f n (view_at q t) (Some (open_of q)) g r) ep h in
-    let h2 : PutStep p.setup.pool c (view_at p s) (Some (open_of p)) 0 n (view_at q s) (Some (open_of q)) g r = subst (λ (z : ℕ). PutStep p.setup.pool c (view_at p s) (Some (open_of p)) z n (view_at q s) (Some (open_of q)) g r) ef (subst (λ (z : ℕ). PutStep p.setup.pool c (view_at p s) (Some (open_of p)) f n (view_at q z) (Some (open_of q)) g r) et h1) in
-    let h3 : PutStep p.setup.pool c (view_at p s) (Some (open_of p)) 0 n (view_at q1 s) (Some (open_of q1)) g r = subst (λ (z : Plain). PutStep p.setup.pool c (view_at p s) (Some (open_of p)) 0 n (view_at z s) (Some (open_of z)) g r) eq h2 in
-    subst (λ (z : ℕ). PutStep p.setup.pool c (view_at p z) (Some (open_of p)) 0 n (view_at q1 z) (Some (open_of q1)) g r) es h3
+-- the seat of the port is the client's
+port_done : (p0 p q1 q : Plain) (i s t : ℕ) (c n : Putting) (r : PutTurn) → p0 ≡ p → q ≡ q1 → s ≡ i → t ≡ s
+    → PutStep p0.setup.pool c n (view_at p0 s) (Some (open_of p0)) (view_at q t) (Some (open_of q)) r
+    → PutStep p.setup.pool c n (view_at p i) (Some (open_of p)) (view_at q1 i) (Some (open_of q1)) r
+port_done p0 p q1 q i s t c n r ep eq es et h =
+    let h1 : PutStep p.setup.pool c n (view_at p s) (Some (open_of p)) (view_at q t) (Some (open_of q)) r = subst (λ (z : Plain). PutStep z.setup.pool c n (view_at z s) (Some (open_of z)) (view_at q t) (Some (open_of q)) r) ep h in
+    let h2 : PutStep p.setup.pool c n (view_at p s) (Some (open_of p)) (view_at q s) (Some (open_of q)) r = subst (λ (z : ℕ). PutStep p.setup.pool c n (view_at p s) (Some (open_of p)) (view_at q z) (Some (open_of q)) r) et h1 in
+    let h3 : PutStep p.setup.pool c n (view_at p s) (Some (open_of p)) (view_at q1 s) (Some (open_of q1)) r = subst (λ (z : Plain). PutStep p.setup.pool c n (view_at p s) (Some (open_of p)) (view_at z s) (Some (open_of z)) r) eq h2 in
+    subst (λ (z : ℕ). PutStep p.setup.pool c n (view_at p z) (Some (open_of p)) (view_at q1 z) (Some (open_of q1)) r) es h3
 
 port_accessed : (p0 p q1 q : Plain) (i s : ℕ) → p0 ≡ p → q ≡ q1 → s ≡ i → Accessed s true p0 q → Accessed i true p q1
 port_accessed p0 p q1 q i s ep eq es h = subst (λ (z : ℕ). Accessed z true p q1) es (subst (λ (z : Plain). Accessed s true p z) eq (subst (λ (z : Plain). Accessed s true z q) ep h))
 
-pub port_access : (p0 p q1 q : Plain) (i s t f g : ℕ) (c n : Putting) (r : PutTurn) (refuse : Bool) → p0 ≡ p → q ≡ q1 → s ≡ i → t ≡ s → f ≡ 0
-    → PutStep p0.setup.pool c (view_at p0 s) (Some (open_of p0)) f n (view_at q t) (Some (open_of q)) g r → ExactPut (Some refuse) r → Accessed s true p0 q
+pub port_access : (p0 p q1 q : Plain) (i s t : ℕ) (c n : Putting) (r : PutTurn) (refuse : Bool) → p0 ≡ p → q ≡ q1 → s ≡ i → t ≡ s
+    → PutStep p0.setup.pool c n (view_at p0 s) (Some (open_of p0)) (view_at q t) (Some (open_of q)) r → ExactPut (Some refuse) r → Accessed s true p0 q
     → PutAccess i refuse c n p q1 r
-port_access p0 p q1 q i s t f g c n r refuse ep eq es et ef h x a = record { faults = g; step = port_done p0 p q1 q i s t f g c n r ep eq es et ef h; exact = x; accessed = port_accessed p0 p q1 q i s ep eq es a }
+port_access p0 p q1 q i s t c n r refuse ep eq es et h x a = record { step = port_done p0 p q1 q i s t c n r ep eq es et h; exact = x; accessed = port_accessed p0 p q1 q i s ep eq es a }
+
+-- an access was made or refused
+pub made_or_refused : {A B C : Type 0} (r : PutTurn) → OnReached r A → OnRefused r B → (A → C) → (B → C) → C
+made_or_refused More a b f g = f a
+made_or_refused (Decided t) a b f g = f a
+made_or_refused (Stored t) a b f g = f a
+made_or_refused (Deleted t) a b f g = f a
+made_or_refused (Absent t) a b f g = f a
+made_or_refused (Differs t) a b f g = f a
+made_or_refused (Behind n) a b f g = f a
+made_or_refused Unreached a b f g = g b
+made_or_refused (Linked t) a b f g = g b
+
+-- what follows where it was made, and where it was refused
+pub where_made : {A B : Type 0} (r : PutTurn) → OnReached r A → (A → B) → OnReached r B
+where_made More a f = f a
+where_made (Decided t) a f = f a
+where_made (Stored t) a f = f a
+where_made (Deleted t) a f = f a
+where_made (Absent t) a f = f a
+where_made (Differs t) a f = f a
+where_made (Behind n) a f = f a
+where_made Unreached a f = tt
+where_made (Linked t) a f = tt
+
+pub where_refused : {A B : Type 0} (r : PutTurn) → OnRefused r A → (A → B) → OnRefused r B
+where_refused More a f = tt
+where_refused (Decided t) a f = tt
+where_refused (Stored t) a f = tt
+where_refused (Deleted t) a f = tt
+where_refused (Absent t) a f = tt
+where_refused (Differs t) a f = tt
+where_refused (Behind n) a f = tt
+where_refused Unreached a f = f a
+where_refused (Linked t) a f = f a
+
+-- it was refused exactly where that was asked for
+pub exact_so : (b : Bool) (r : PutTurn) → OnReached r (b ≡ false) → OnRefused r (b ≡ true) → ExactPut (Some b) r
+exact_so true r a b = where_made r a (λ e. absurd cc)
+exact_so false r a b = where_refused r b (λ e. absurd cc)
 
 -- the parts of what is under way
 put_of : Putting → Underway → Putting

@@ -36,7 +36,7 @@ use Rattle.clover_walk.proofs.Endings.{stepped}
 use Rattle.clover_put.specs.Alone.{IsOpen as IsPutOpen}
 use Rattle.clover_put.specs.Answering.{IsBefore, Stores, Deletes, ExactPut, OnReached, OnRefused}
 use Rattle.clover_put.specs.Holding.{PutHolds}
-use Rattle.clover_put.specs.Putting.{Putting, Stage, Storing, Flushing, Seeking, AtMeta, AtLink, AtDead, AtOther, AtBad, AtRaise, AtShort, Over, call_of, call_at, put_step, put_on, staged}
+use Rattle.clover_put.specs.Putting.{Putting, Stage, Storing, Flushing, Seeking, AtMeta, AtLink, Deciding, AtBad, AtRaise, AtShort, Over, call_of, call_at, put_step, put_on, staged}
 use Rattle.clover_put.specs.declared.job.Job.{Job}
 use Rattle.clover_put.specs.declared.job.Job.TheVariants.{Put, Delete, Swap}
 use Rattle.clover_put.proofs.Done.{at_stage, at_step}
@@ -123,8 +123,7 @@ before_open (Flushing j) h = tt
 before_open Seeking h = tt
 before_open (AtMeta u) h = tt
 before_open (AtLink u) h = tt
-before_open (AtDead u) h = tt
-before_open (AtOther u) h = tt
+before_open (Deciding u y) h = tt
 before_open (AtBad u) h = tt
 before_open (AtRaise u) h = absurd h
 before_open AtShort h = absurd h
@@ -270,7 +269,7 @@ module _ (o : Opening) (i : ℕ) (x : ClientState) (c n : Putting) (call : Call)
 
   pub went_unreached : PutAccess i x.refusing c n p q Unreached → Went o i x (with_under x Nothing) p q (Refused k why.Unreached)
   went_unreached f =
-      let same : w ≡ v = f.step.refused.1 in
+      let same : w ≡ v = f.step.refused in
       let so1 : RefusedSo i p q = refused_so i p q (seat_below o p i x st) same f.accessed in
       record {
         access = access i so1.act true;
