@@ -17,6 +17,8 @@ use Rattle.clover_words.proofs.Places.{copy_kept, has_current}
 use Rattle.clover_words.specs.Meta.{tombstone}
 use Rattle.clover_words.specs.Version.{unlinked, buffer_at, content_at}
 use Rattle.clover_map.specs.declared.bytes.Value.{Value}
+use Rattle.clover_map.specs.declared.call.Reply.{Reply}
+use Rattle.clover_map.specs.declared.call.Reply.TheVariants.{Absent, Differs}
 use Rattle.clover_rule.specs.Content.{inside, InRange, content, value_meta}
 use Rattle.clover_rule.specs.Lists.{Each}
 use Rattle.clover_rule.specs.Memory.{Mem, word, gen}
@@ -33,7 +35,7 @@ use Rattle.clover_walk.proofs.Alone.{load_leaves, walk_same, start_law, raised_v
 use Rattle.clover_put.specs.declared.job.Job.{Job}
 use Rattle.clover_put.specs.declared.job.Job.TheVariants.{Put, Delete, Swap}
 use Rattle.clover_put.specs.Alone.{alone, IsOpen, last_stage, tail_accesses, EndsAfter, PutLaw}
-use Rattle.clover_put.specs.Putting.{Putting, Stage, Storing, Flushing, Seeking, AtMeta, AtLink, AtDead, AtOther, AtRaise, AtShort, Over, body, body_word, commits, kind_of, at_tail, reached, staged, filled, walked, on_meta, unless_left, put_step, put_on}
+use Rattle.clover_put.specs.Putting.{Putting, Stage, Storing, Flushing, Seeking, AtMeta, AtLink, Deciding, AtRaise, AtShort, Over, body, body_word, commits, kind_of, at_tail, reached, staged, filled, walked, on_meta, unless_left, put_step, put_on}
 use Rattle.clover_put.proofs.Body.{kind_meta, body_some}
 
 -- one access more
@@ -92,11 +94,8 @@ commit : (p : Pool) (v : ℕ → View) (ws : List ℕ) (c : Putting) (u : ℕ) �
 commit p v ws c u e = ends_more p 2 v ws (staged c (AtLink u)) AtShort _ (staged c (AtRaise u)) (omega arith) tt refl (found_unlinked p v ws (staged c (AtLink u)) u (AtRaise u) e)
     (ends_more p 1 _ _ (staged c (AtRaise u)) AtShort _ (staged c AtShort) (omega arith) tt refl refl (ends_last p _ _ (staged c AtShort) AtShort tt refl (λ w. refl) refl))
 
-dead : (p : Pool) (v : ℕ → View) (ws : List ℕ) (c : Putting) (u : ℕ) → copy_in p ws (NextOf (buffer_at (home u))) Current ≡ unlinked u → EndsAfter p 1 v ws (staged c (AtDead u)) (AtDead u)
-dead p v ws c u e = ends_last p v ws (staged c (AtDead u)) (AtDead u) tt refl (λ w. no_turn p v ws c u e) (ap (λ (x : Putting). x.stage) (found_unlinked p v ws (staged c (AtDead u)) u Over e))
-
-other : (p : Pool) (v : ℕ → View) (ws : List ℕ) (c : Putting) (u : ℕ) → copy_in p ws (NextOf (buffer_at (home u))) Current ≡ unlinked u → EndsAfter p 1 v ws (staged c (AtOther u)) (AtOther u)
-other p v ws c u e = ends_last p v ws (staged c (AtOther u)) (AtOther u) tt refl (λ w. no_turn p v ws c u e) (ap (λ (x : Putting). x.stage) (found_unlinked p v ws (staged c (AtOther u)) u Over e))
+decide : (p : Pool) (v : ℕ → View) (ws : List ℕ) (c : Putting) (u : ℕ) (r : Reply) → copy_in p ws (NextOf (buffer_at (home u))) Current ≡ unlinked u → EndsAfter p 1 v ws (staged c (Deciding u r)) (Deciding u r)
+decide p v ws c u r e = ends_last p v ws (staged c (Deciding u r)) (Deciding u r) tt refl (λ w. no_turn p v ws c u e) (ap (λ (x : Putting). x.stage) (found_unlinked p v ws (staged c (Deciding u r)) u Over e))
 
 -- the kind of a tail's version
 abbrev kind_at : Option Value → Kind
@@ -114,17 +113,17 @@ look p n v ws c u o at some h rest = ends_more p n v ws (staged c (AtMeta u)) at
 
 at_the_tail : (p : Pool) (j : Job) (v : ℕ → View) (ws : List ℕ) (c : Putting) (u : ℕ) (o : Option Value) → HasVersion p ws u o → EndsAfter p (tail_accesses j u o) v ws (record c { job = j; stage = at_tail j u }) (last_stage j u o)
 at_the_tail p Put v ws c u o h = commit p v ws (record c { job = Put }) u h.next
-at_the_tail p Delete v ws c u None h = look p 1 v ws (record c { job = Delete }) u None (AtDead u) (omega arith) h (λ y. dead p y ws (record c { job = Delete }) u h.next)
+at_the_tail p Delete v ws c u None h = look p 1 v ws (record c { job = Delete }) u None (Deciding u Absent) (omega arith) h (λ y. decide p y ws (record c { job = Delete }) u Absent h.next)
 at_the_tail p Delete v ws c u (Some x) h = look p 3 v ws (record c { job = Delete }) u (Some x) AtShort (omega arith) h (λ y. commit p y ws (record c { job = Delete }) u h.next)
-at_the_tail p (Swap e) v ws c u None h = look p 1 v ws (record c { job = Swap e }) u None (AtDead u) (omega arith) h (λ y. dead p y ws (record c { job = Swap e }) u h.next)
+at_the_tail p (Swap e) v ws c u None h = look p 1 v ws (record c { job = Swap e }) u None (Deciding u Absent) (omega arith) h (λ y. decide p y ws (record c { job = Swap e }) u Absent h.next)
 at_the_tail p (Swap e) v ws c u (Some x) h = go (eqb (tag_number e) u) refl
   where
     d : Putting
     d = record c { job = Swap e }
 
-    go : (b : Bool) → eqb (tag_number e) u ≡ b → EndsAfter p (cond b 4 2) v ws (record c { job = Swap e; stage = AtMeta u }) (cond b AtShort (AtOther u))
-    go true q = look p 3 v ws (record c { job = Swap e }) u (Some x) AtShort (omega arith) h (λ y. subst (λ (b : Bool). EndsAfter p 3 y ws (record c { job = Swap e; stage = cond b (AtLink u) (AtOther u) }) AtShort) (sym q) (commit p y ws (record c { job = Swap e }) u h.next))
-    go false q = look p 1 v ws (record c { job = Swap e }) u (Some x) (AtOther u) (omega arith) h (λ y. subst (λ (b : Bool). EndsAfter p 1 y ws (record c { job = Swap e; stage = cond b (AtLink u) (AtOther u) }) (AtOther u)) (sym q) (other p y ws (record c { job = Swap e }) u h.next))
+    go : (b : Bool) → eqb (tag_number e) u ≡ b → EndsAfter p (cond b 4 2) v ws (record c { job = Swap e; stage = AtMeta u }) (cond b AtShort (Deciding u (Differs u)))
+    go true q = look p 3 v ws (record c { job = Swap e }) u (Some x) AtShort (omega arith) h (λ y. subst (λ (b : Bool). EndsAfter p 3 y ws (record c { job = Swap e; stage = cond b (AtLink u) (Deciding u (Differs u)) }) AtShort) (sym q) (commit p y ws (record c { job = Swap e }) u h.next))
+    go false q = look p 1 v ws (record c { job = Swap e }) u (Some x) (Deciding u (Differs u)) (omega arith) h (λ y. subst (λ (b : Bool). EndsAfter p 1 y ws (record c { job = Swap e; stage = cond b (AtLink u) (Deciding u (Differs u)) }) (Deciding u (Differs u))) (sym q) (decide p y ws (record c { job = Swap e }) u (Differs u) h.next))
 
 tail_some : (j : Job) (u : ℕ) (o : Option Value) → 0 < tail_accesses j u o
 tail_some Put u o = omega arith

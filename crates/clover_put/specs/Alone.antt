@@ -9,9 +9,10 @@ use Rattle.clover_rule.specs.Lists.{Each}
 use Rattle.clover_rule.specs.Steps.{found, turn_of}
 use Rattle.clover_rule.specs.declared.view.View.{View}
 use Rattle.clover_walk.specs.Alone.{after_alone, Way, ComesBy, HasVersion, version_words}
+use Rattle.clover_map.specs.declared.call.Reply.TheVariants.{Absent, Differs}
 use Rattle.clover_put.specs.declared.job.Job.{Job}
 use Rattle.clover_put.specs.declared.job.Job.TheVariants.{Put, Delete, Swap}
-use Rattle.clover_put.specs.Putting.{Putting, Stage, Storing, AtDead, AtOther, AtShort, Over, commits, put_step, put_on}
+use Rattle.clover_put.specs.Putting.{Putting, Stage, Storing, Deciding, AtShort, Over, commits, put_step, put_on}
 
 -- the words and the call after so many accesses made alone; v i is what the client knows at access i
 abbrev pub alone : Pool → (ℕ → View) → ℕ → List ℕ → Putting → List ℕ × Putting
@@ -26,9 +27,9 @@ IsOpen at = Unit {0}
 abbrev pub last_stage : Job → ℕ → Option Value → Stage
 last_stage Put u o = AtShort
 last_stage Delete u (Some x) = AtShort
-last_stage Delete u None = AtDead u
-last_stage (Swap e) u (Some x) = cond (eqb (tag_number e) u) AtShort (AtOther u)
-last_stage (Swap e) u None = AtDead u
+last_stage Delete u None = Deciding u Absent
+last_stage (Swap e) u (Some x) = cond (eqb (tag_number e) u) AtShort (Deciding u (Differs u))
+last_stage (Swap e) u None = Deciding u Absent
 
 -- how many accesses it makes at its tail: a load of the meta word for all but a put, and then an exchange, a raise and a store of the shortcut, or a load
 abbrev pub tail_accesses : Job → ℕ → Option Value → ℕ

@@ -2,11 +2,12 @@
 use Rattle.std.specs.Prelude.{◌≡◌, ℕ, Bool, true, false, Option, Some, None}
 use Rattle.clover_words.specs.Tag.{TagParts, tag_number}
 use Rattle.clover_walk.specs.Walking.{Ended}
+use Rattle.clover_map.specs.declared.call.Reply.TheVariants.{Absent as IsAbsent, Differs as IsOther}
 use Rattle.clover_put.specs.declared.job.Job.{Job}
 use Rattle.clover_put.specs.declared.job.Job.TheVariants.{Put, Delete, Swap}
 use Rattle.clover_put.specs.declared.turn.PutTurn.{PutTurn}
 use Rattle.clover_put.specs.declared.turn.PutTurn.TheVariants.{More, Decided, Stored, Deleted, Absent, Differs, Behind, Unreached, Linked}
-use Rattle.clover_put.specs.Putting.{Putting, Stage, AtLink, AtDead, AtOther, AtRaise, AtShort, Over, staged}
+use Rattle.clover_put.specs.Putting.{Putting, Stage, AtLink, Deciding, AtRaise, AtShort, Over, staged}
 
 -- it has committed nothing yet and is not over
 abbrev pub IsBefore : Stage → Type 0
@@ -44,8 +45,8 @@ Answers c n More = Onward c.stage c n
 Answers c n (Decided t) = (u : ℕ) × (c.stage ≡ AtLink u) × (n ≡ staged c (AtRaise u)) × (tag_number t ≡ c.own)
 Answers c n (Stored t) = (c.stage ≡ AtShort) × (n ≡ staged c Over) × (tag_number t ≡ c.own) × Stores c.job
 Answers c n (Deleted t) = (c.stage ≡ AtShort) × (n ≡ staged c Over) × (tag_number t ≡ c.own) × Deletes c.job
-Answers c n (Absent t) = (c.stage ≡ AtDead (tag_number t)) × (n ≡ staged c Over)
-Answers c n (Differs t) = (c.stage ≡ AtOther (tag_number t)) × (n ≡ staged c Over)
+Answers c n (Absent t) = (c.stage ≡ Deciding (tag_number t) IsAbsent) × (n ≡ staged c Over)
+Answers c n (Differs t) = (c.stage ≡ Deciding (tag_number t) (IsOther (tag_number t))) × (n ≡ staged c Over)
 Answers c n (Behind k) = IsBefore c.stage × (n.stage ≡ Over) × (n.walk.stand ≡ Ended) × (k ≡ n.walk.turns)
 Answers c n Unreached = IsBefore c.stage × (n ≡ c)
 Answers c n (Linked t) = IsBehind c.stage × (n ≡ staged c Over) × (tag_number t ≡ c.own)

@@ -2,18 +2,20 @@
 use Rattle.std.specs.Prelude.{◌≡◌, ℕ, ◌+◌, ◌*◌, ◌<◌, ◌≤◌, List, ◌∷◌, length, false, cond, eqb, Some, None}
 use Rattle.clover_words.specs.Tag.{home}
 use Rattle.clover_words.specs.Version.{content_at}
+use Rattle.clover_map.specs.declared.call.Reply.{Reply}
 use Rattle.clover_map.specs.declared.call.Reply.TheVariants.{Absent, Differs}
 use Rattle.clover_words.specs.declared.word.Side.TheVariants.{Current, Flushed}
 use Rattle.clover_rule.specs.Accesses.{SawDead, SawFor, SawLive}
 use Rattle.clover_rule.specs.Content.{InRange}
 use Rattle.clover_rule.specs.Lists.{nth, Within}
 use Rattle.clover_rule.specs.Steps.{MayCall, MayReply}
+use Rattle.clover_rule.specs.declared.access.Act.{Act}
 use Rattle.clover_rule.specs.declared.access.Act.TheVariants.{Store}
 use Rattle.clover_rule.specs.declared.view.View.{View}
 use Rattle.clover_walk.specs.Walking.{OnTail, IsOnWay, Holds, since_turn}
 use Rattle.clover_put.specs.declared.job.Job.{Job}
 use Rattle.clover_put.specs.declared.job.Job.TheVariants.{Put, Delete, Swap}
-use Rattle.clover_put.specs.Putting.{Putting, Stage, Storing, Flushing, Seeking, AtMeta, AtLink, AtDead, AtOther, AtBad, AtRaise, AtShort, Over, body, call_at, kind_of}
+use Rattle.clover_put.specs.Putting.{Putting, Stage, Storing, Flushing, Seeking, AtMeta, AtLink, Deciding, AtBad, AtRaise, AtShort, Over, body, call_at, kind_of}
 
 -- the first words of the version are stored, and of these the first ones flushed
 pub record Filled (c : Putting) (m n : ℕ) (v : View) : Type 0 where
@@ -45,12 +47,17 @@ Reads Put = ⊥
 Reads Delete = Unit {0}
 Reads (Swap t) = Unit {0}
 
+-- the call has read what the reply says of the tail
+abbrev pub SawReply : ℕ → Reply → List Act → Type 0
+SawReply u Absent acts = SawDead u acts
+SawReply u (Differs t) acts = SawLive u acts
+SawReply u r acts = ⊥
+
 -- what the call has seen where it stands
 abbrev pub Looks : Stage → Putting → View → Type 0
 Looks (AtMeta u) c v = IsAt c u × Reads c.job
 Looks (AtLink u) c v = IsAt c u × MayCall v c.walk.slot u (call_at c v) × SawFor u (call_at c v) v.pass.since
-Looks (AtDead u) c v = IsAt c u × MayReply v c.walk.slot u (call_at c v) Absent × SawDead u v.pass.since
-Looks (AtOther u) c v = IsAt c u × MayReply v c.walk.slot u (call_at c v) (Differs u) × SawLive u v.pass.since
+Looks (Deciding u r) c v = IsAt c u × MayReply v c.walk.slot u (call_at c v) r × SawReply u r v.pass.since
 Looks (AtBad u) c v = IsAt c u × ((y : ℕ) × Within (c.walk.slot, record { tag = u; place = 0; word = y }) v.pass.copied × (kind_of y ≡ None))
 Looks (AtRaise u) c v = IsAt c u × Within (record { slot = c.walk.slot; from = u; to = c.own }) v.pass.links
 Looks AtShort c v = (c.walk.slot < c.walk.pool.slots) × Within (c.walk.slot, c.own) v.pass.durable
@@ -67,8 +74,7 @@ most (Flushing j) c = length (body c) + j
 most Seeking c = behind_it c + since_turn c.walk.stand
 most (AtMeta u) c = behind_it c + 3
 most (AtLink u) c = behind_it c + 4
-most (AtDead u) c = behind_it c + 4
-most (AtOther u) c = behind_it c + 4
+most (Deciding u r) c = behind_it c + 4
 most (AtBad u) c = behind_it c + 4
 most (AtRaise u) c = behind_it c + 5
 most AtShort c = behind_it c + 6

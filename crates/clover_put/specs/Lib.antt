@@ -1,7 +1,8 @@
 pub mod Putting
 pub mod Answering
 pub mod Holding
-pub mod Stepping
+pub mod Finding
+pub mod Going
 pub mod Standing
 pub mod Kept
 pub mod Alone

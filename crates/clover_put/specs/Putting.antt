@@ -10,6 +10,7 @@ use Rattle.clover_words.specs.Version.{unlinked}
 use Rattle.clover_map.specs.declared.bytes.Value.{Value}
 use Rattle.clover_map.specs.declared.call.Call.{Call}
 use Rattle.clover_map.specs.declared.call.Call.TheVariants.{Put as PutCall, Delete as DeleteCall, Swap as SwapCall}
+use Rattle.clover_map.specs.declared.call.Reply.{Reply}
 use Rattle.clover_map.specs.declared.call.Reply.TheVariants.{Absent, Differs}
 use Rattle.clover_rule.specs.Content.{content, value_meta}
 use Rattle.clover_rule.specs.Steps.{Step, StoreShort, LoadNext, DecideNext, LinkNext, RaiseNext, StoreContent, FlushContent, LoadContent}
@@ -18,15 +19,14 @@ use Rattle.clover_walk.specs.Walking.{Walking, Stand, AtShort as ToShort, AtRoot
 use Rattle.clover_put.specs.declared.job.Job.{Job}
 use Rattle.clover_put.specs.declared.job.Job.TheVariants.{Put, Delete, Swap}
 
--- where a put stands: which content word of its own version it stores or flushes, that it walks, or what it does at the tail: load its meta word, commit behind it, answer that the key has nothing or another tag's value, read it again where its meta word was of a passed buffer, raise the committed link, or store the slot's shortcut; or it is over
+-- where a put stands: which content word of its own version it stores or flushes, that it walks, or what it does at the tail: load its meta word, commit behind it, load its next word again to decide the reply that commits nothing, or because its meta word was of a passed buffer, raise the committed link, or store the slot's shortcut; or it is over
 pub data Stage : Type 0 where
   Storing : ℕ → Stage
   Flushing : ℕ → Stage
   Seeking : Stage
   AtMeta : ℕ → Stage
   AtLink : ℕ → Stage
-  AtDead : ℕ → Stage
-  AtOther : ℕ → Stage
+  Deciding : ℕ → Reply → Stage
   AtBad : ℕ → Stage
   AtRaise : ℕ → Stage
   AtShort : Stage
@@ -81,8 +81,7 @@ put_step c v = from c.stage
     from Seeking = walk_step c.walk
     from (AtMeta u) = LoadContent c.walk.slot u 0
     from (AtLink u) = LinkNext c.walk.slot u c.own (call_at c v)
-    from (AtDead u) = DecideNext c.walk.slot u (call_at c v) Absent
-    from (AtOther u) = DecideNext c.walk.slot u (call_at c v) (Differs u)
+    from (Deciding u r) = DecideNext c.walk.slot u (call_at c v) r
     from (AtBad u) = LoadNext c.walk.slot u
     from (AtRaise u) = RaiseNext (record { slot = c.walk.slot; from = u; to = c.own })
     from AtShort = StoreShort c.walk.slot c.own
@@ -128,11 +127,11 @@ walked c w = record c { walk = w; stage = reached c.job w.stand }
 abbrev pub on_value : Job → ℕ → Stage
 on_value Put t = AtLink t
 on_value Delete t = AtLink t
-on_value (Swap e) t = cond (eqb (tag_number e) t) (AtLink t) (AtOther t)
+on_value (Swap e) t = cond (eqb (tag_number e) t) (AtLink t) (Deciding t (Differs t))
 
 abbrev pub on_meta : Job → ℕ → Option Kind → Stage
 on_meta j t (Some IsValue) = on_value j t
-on_meta j t (Some Tombstone) = AtDead t
+on_meta j t (Some Tombstone) = Deciding t Absent
 on_meta j t None = AtBad t
 
 -- it stands there where the tail u was found unlinked; otherwise the tail is left as by a load of the walk
@@ -149,8 +148,7 @@ put_on c x = from c.stage
     from Seeking = walked c (goes_on c.walk x)
     from (AtMeta u) = staged c (on_meta c.job u (kind_of x))
     from (AtLink u) = unless_left c u (AtRaise u) x
-    from (AtDead u) = unless_left c u Over x
-    from (AtOther u) = unless_left c u Over x
+    from (Deciding u r) = unless_left c u Over x
     from (AtBad u) = walked c (goes_on c.walk x)
     from (AtRaise u) = staged c AtShort
     from AtShort = staged c Over

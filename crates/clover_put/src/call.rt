@@ -1,32 +1,33 @@
-// A call that writes: where it stands, and how it goes on.
-ghost use Rattle.std.specs.Prelude.{◌≡◌, ◌≢◌, ◌≤◌, ◌<◌, ◌+◌, ◌*◌, ◌↔◌, ℕ, Option, Some, None, length, take, IsTrue, IfOk, IfErr, IsErr, IfSome, IsNone};
-ghost use Rattle.clover_words.specs.declared.meta.Kind.{Kind as WordKind};
-ghost use Rattle.clover_words.specs.Tag.{tag_number};
-ghost use Rattle.clover_words.specs.Version.{unlinked};
+// A call that writes: where it stands, which access it asks for, and how it goes on.
+ghost use Rattle.std.specs.Prelude.{◌≡◌, ◌≢◌, ◌≤◌, ◌<◌, ◌+◌, ◌*◌, ◌↔◌, ℕ, Option, length, take, IfOk, IfErr, IsErr, MatchResult};
+ghost use Rattle.clover_words.specs.declared.meta.Kind.TheVariants.{Value as IsValue};
 ghost use Rattle.clover_words.specs.Meta.{IsMeta, meta_word as spelled};
-ghost use Rattle.clover_rule.specs.Content.{InRange};
-ghost use Rattle.clover_rule.specs.Lists.{nth, Within};
+ghost use Rattle.clover_words.specs.Place.{IsWithin};
+ghost use Rattle.clover_words.specs.Tag.{tag_number};
+ghost use Rattle.clover_rule.specs.Content.{InRange, Fits};
+ghost use Rattle.clover_rule.specs.Lists.{Within};
+ghost use Rattle.clover_rule.specs.Steps.{word_of};
+ghost use Rattle.clover_rule.specs.declared.view.View.{View};
 ghost use Rattle.clover_map.specs.declared.call.Reply.TheVariants.{Absent, Differs};
-ghost use Rattle.clover_port.specs.Told.{Made, Rose};
+ghost use Rattle.clover_port.specs.Asked.{IsOp, IsFinding};
 ghost use Rattle.clover_walk.specs.Ending.{Ended, Commits};
-ghost use Rattle.clover_walk.specs.Turning.{Answers as WalkAnswers};
-ghost use Rattle.clover_walk.specs.Walking.{ShowsNext, goes_on, budget, most_accesses};
-ghost use Rattle.clover_walk.specs.declared.turn.Turn.{Turn as WalkTurn};
-ghost use Rattle.clover_put.specs.Putting.{Storing, Flushing, Seeking, AtMeta, AtLink, AtDead, AtOther, AtBad, AtRaise, AtShort, Over, made_put, put_step, put_on, call_at, body, body_word, at_tail, staged, filled, walked, after_store, after_flush, on_meta, on_value, kind_of};
-ghost use Rattle.clover_put.specs.Answering.{Answers, OnReached, OnRefused, OnGoing, OnAhead, IfDecided, IfEnded, IfAbsent, IfDiffers, IfBehind, ExactPut};
+ghost use Rattle.clover_walk.specs.Finding.{MayFind};
+ghost use Rattle.clover_walk.specs.Walking.{walk_step, goes_on, budget, most_accesses};
+ghost use Rattle.clover_put.specs.Answering.{Answers, OnReached, OnRefused, OnGoing, OnAhead, IfDecided, IfEnded, IfAbsent, IfDiffers, IfBehind};
+ghost use Rattle.clover_put.specs.Finding.{OnFinding, PutFinds, PutAnswers, Came, Tells};
+ghost use Rattle.clover_put.specs.Going.{Went, done_with};
 ghost use Rattle.clover_put.specs.Holding.{PutHolds};
-ghost use Rattle.clover_put.specs.Standing.{standing};
-ghost use Rattle.clover_put.specs.Stepping.{PutStep, Went, as_put, done_with};
+ghost use Rattle.clover_put.specs.Putting.{Seeking, Over, made_put, put_step, put_on, call_at, commits, body, body_word, at_tail, filled, walked, after_store, after_flush, on_meta, kind_of};
+ghost use Rattle.clover_put.specs.declared.turn.PutTurn.TheVariants.{More};
+ghost use Rattle.clover_put.specs.Standing.{standing, reply_at};
 
-use crate::access::{
-    flush_content, link_own, load_dead, load_other, store_content, store_short, unlinked_word,
-};
 use crate::job::{Job, TooLong};
-use crate::stage::Stage;
+use crate::stage::{Stage, Verdict};
 use crate::turn::PutTurn;
-use clover_port::Port;
-use clover_walk::{Turn, Walk, load_content, load_next, raise_next};
-use clover_words::{Kind, Meta, Tag, ValueBuf, pack};
+use clover_port::{Failed, Op, Port, perform};
+use clover_rule::StepName;
+use clover_walk::{Turn, Walk};
+use clover_words::{Kind, Meta, Side, Tag, ValueBuf, Word, pack, root_encode};
 use std::marker::{Brand, Model};
 
 /// A put, a delete or a swap of the key of one slot. It makes one access a step.
@@ -58,36 +59,6 @@ impl Model for PutCall {
     ghost view = { meaning };
 
     ghost invariant = { IsKept };
-}
-
-// What a meta word says that a version is. None where it is the word of no version.
-fn kind_in(word: u64) -> Option<Kind>
-    ensures { result ≡ kind_of word }
-{
-    match Meta::decode(word) {
-        Some(meta) => Some(meta.kind),
-        None => None,
-    }
-}
-
-// The answer of a job whose own version is durable.
-fn done_turn(job: Job, tag: Tag) -> PutTurn
-    ensures { result ≡ done_with job tag }
-{
-    match job {
-        Job::Put | Job::Swap(_) => PutTurn::Stored { tag },
-        Job::Delete => PutTurn::Deleted { tag },
-    }
-}
-
-// What a job does at a tail.
-fn at_tail_stage(job: Job, tail: Tag) -> Stage
-    ensures { standing result ≡ at_tail job (tag_number tail) }
-{
-    match job {
-        Job::Put => Stage::AtLink(tail),
-        Job::Delete | Job::Swap(_) => Stage::AtMeta(tail),
-    }
 }
 
 impl PutCall {
@@ -137,7 +108,7 @@ impl PutCall {
         requires going { self.old.stage ≢ Over }
         requires pool { P.pool port.old ≡ self.old.walk.pool }
         requires holds { PutHolds self.old (P.view port.old) }
-        ensures made { OnReached result ((x : ℕ) × Made (P.pool port.old) (put_step self.old (P.view port.old)) self.old.walk.first (P.view port.old) (P.told port.old) x (P.view port.new) (P.told port.new) × (self.new ≡ put_on self.old x)) }
+        ensures made { OnReached result ((x : ℕ) × P.made port.old (put_step self.old (P.view port.old)) self.old.walk.first x port.new × (self.new ≡ put_on self.old x)) }
         ensures answer { Answers self.old self.new result }
         ensures decided { IfDecided result (λ _. Commits (P.pool port.old) (call_at self.old (P.view port.old)) self.old.own (P.view port.old) (P.told port.old) (P.view port.new) (P.told port.new)) }
         ensures known { IfEnded result (λ tag. InRange self.old.walk.pool (tag_number tag) × Within (self.old.walk.slot, tag_number tag) (P.view port.new).pass.durable) }
@@ -145,29 +116,11 @@ impl PutCall {
         ensures differs { IfDiffers result (λ tag. Ended (P.pool port.old) (call_at self.old (P.view port.old)) (Differs (tag_number tag)) (P.view port.old) (P.told port.old) (P.view port.new) (P.told port.new)) }
         ensures behind { IfBehind result (λ turns. (turns ≡ budget self.old.walk.pool) × ((P.view port.new).pass.turns ≡ budget self.old.walk.pool)) }
         ensures ahead { OnAhead result ((P.view port.new).pass.turns < budget self.old.walk.pool) }
-        ensures refused { OnRefused result (Rose (P.faults port.old) (P.faults port.new) × (P.view port.new ≡ P.view port.old) × (P.told port.new ≡ P.told port.old)) }
-        ensures exact { ExactPut (P.refuses port.old) result }
+        ensures refused { OnRefused result (P.failed port.old port.new) }
         ensures stands { OnGoing result (PutHolds self.new (P.view port.new)) }
         ensures bound { OnReached result (length (P.view port.new).pass.since ≤ most_accesses self.old.walk.pool (P.view port.new).pass.turns) }
-        ensures same { (P.pool port.new ≡ P.pool port.old) × (P.table port.new ≡ P.table port.old) × (P.lender port.new ≡ P.lender port.old) }
-        ensures accessed { P.accessed port.old port.new }
-        ensures count { P.faults port.old ≤ P.faults port.new }
-        ensures kept { OnReached result (P.faults port.new ≡ P.faults port.old) }
     {
-        let stage = self.stage;
-        match stage {
-            Stage::Storing(place) => self.store(port, place),
-            Stage::Flushing(place) => self.flush(port, place),
-            Stage::Seeking => self.seek(port),
-            Stage::AtMeta(tail) => self.look(port, tail),
-            Stage::AtLink(tail) => self.link(port, tail),
-            Stage::AtDead(tail) => self.last_dead(port, tail),
-            Stage::AtOther(tail) => self.last_other(port, tail),
-            Stage::AtBad(tail) => self.again(port, tail),
-            Stage::AtRaise(tail) => self.raise(port, tail),
-            Stage::AtShort => self.shorten(port),
-            Stage::Over => unreachable!(),
-        }
+        self.advance(port)
     }
 
     /// The slot whose key it writes.
@@ -185,6 +138,120 @@ impl PutCall {
         let _ = &self.stage;
     }
 
+    /// The access that the call asks for next.
+    pub fn next(&self) -> Op
+        ensures op { (v : View) → IsOp (put_step self.now v) result }
+        ensures finds { OnFinding self.now.stage (IsFinding result) }
+        ensures within { self.now.stage ≡ Seeking → IsWithin self.now.walk.pool (word_of (walk_step self.now.walk)) }
+        ensures fits { InRange self.now.walk.pool self.now.own × Fits self.now.walk.pool (commits self.now.job self.now.value) }
+    {
+        match self.stage {
+            Stage::Storing(place) => Op::Store {
+                word: self.own.content_word(place),
+                side: Side::Current,
+                value: self.body_word(place),
+            },
+            Stage::Flushing(place) => Op::Store {
+                word: self.own.content_word(place),
+                side: Side::Flushed,
+                value: self.body_word(place),
+            },
+            Stage::Seeking | Stage::Over => self.walk.next(),
+            Stage::AtMeta(tail) => Op::Load(tail.content_word(0)),
+            Stage::AtLink(tail) => Op::Exchange {
+                word: tail.next_word(),
+                expected: tail.unlinked(),
+                new: tail.linked(self.own),
+            },
+            Stage::Deciding { tail, reply: _ } | Stage::AtBad(tail) => Op::Load(tail.next_word()),
+            Stage::AtRaise(tail) => Op::Raise {
+                word: tail.next_word(),
+                value: tail.linked(self.own),
+            },
+            Stage::AtShort => Op::Store {
+                word: Word::Short(self.walk.slot()),
+                side: Side::Current,
+                value: root_encode(Some(self.own)),
+            },
+        }
+    }
+
+    /// Goes on by what the access found; after a store that may be any number. It never answers `Unreached`, nor
+    /// `Linked`.
+    pub fn on(&mut self, found: u64) -> PutTurn
+        requires found { PutFinds self.old found }
+        requires below { self.old.walk.turns < budget self.old.walk.pool }
+        ensures goes { self.new ≡ put_on self.old found }
+        ensures answers { PutAnswers self.old found result }
+    {
+        let stage = self.stage;
+        match stage {
+            Stage::Storing(place) => {
+                let next = self.after_store(place);
+                self.fill(next)
+            }
+            Stage::Flushing(place) => {
+                let next = self.after_flush(place);
+                self.fill(next)
+            }
+            Stage::Seeking | Stage::AtBad(_) => self.go_on(found),
+            Stage::AtMeta(tail) => {
+                self.stage = self.after_meta(tail, found);
+                PutTurn::More
+            }
+            Stage::AtLink(tail) if found == tail.unlinked() => {
+                self.stage = Stage::AtRaise(tail);
+                PutTurn::Decided { tag: self.own }
+            }
+            Stage::Deciding { tail, reply } if found == tail.unlinked() => {
+                self.stage = Stage::Over;
+                reply_turn(reply, tail)
+            }
+            Stage::AtLink(_) | Stage::Deciding { tail: _, reply: _ } => self.go_on(found),
+            Stage::AtRaise(_) => {
+                self.stage = Stage::AtShort;
+                PutTurn::More
+            }
+            Stage::AtShort => {
+                self.stage = Stage::Over;
+                done_turn(self.job, self.own)
+            }
+            Stage::Over => unreachable!(),
+        }
+    }
+
+    /// Answers for an access that was refused. Before the exchange the call stands where it stood, and after it the
+    /// call is over.
+    pub fn refused(&mut self) -> PutTurn
+        requires going { self.old.stage ≢ Over }
+        ensures answer { Answers self.old self.new result }
+        ensures refused { OnReached result ⊥ }
+    {
+        match self.stage {
+            Stage::AtRaise(_) | Stage::AtShort => {
+                self.stage = Stage::Over;
+                PutTurn::Linked { tag: self.own }
+            }
+            _ => PutTurn::Unreached,
+        }
+    }
+
+    // Makes the next access, and goes on by it.
+    fn advance<P: Port>(&mut self, port: &mut P) -> PutTurn
+        requires going { self.old.stage ≢ Over }
+        requires pool { P.pool port.old ≡ self.old.walk.pool }
+        requires holds { PutHolds self.old (P.view port.old) }
+        ensures made { OnReached result ((x : ℕ) × P.made port.old (put_step self.old (P.view port.old)) self.old.walk.first x port.new × (self.new ≡ put_on self.old x)) }
+        ensures went { Went (P.pool port.old) self.old self.new (P.view port.old) (P.told port.old) (P.view port.new) (P.told port.new) result }
+        ensures refused { OnRefused result (P.failed port.old port.new) }
+    {
+        self.fits();
+        match access::<P, Brand>(self, port) {
+            Ok(found) => self.on(found),
+            Err(_) => self.refused(),
+        }
+    }
+
     // How many content words the own version has.
     fn body_length(&self) -> u32
         ensures { result ≡ length (body self.now) }
@@ -197,31 +264,13 @@ impl PutCall {
 
     // The content word of the own version at this place.
     fn body_word(&self, place: u32) -> u64
-        requires { place < length (body self.now) }
         ensures { result ≡ body_word self.now.job self.now.value place }
     {
         match self.job {
-            Job::Delete => meta_word(Kind::Tombstone, 0, 0),
-            Job::Put | Job::Swap(_) if place == 0 => {
-                meta_word(Kind::Value, self.flags, self.buffer.length)
-            }
+            Job::Delete => Meta::tombstone_word(),
+            Job::Put | Job::Swap(_) if place == 0 => value_word(self.flags, self.buffer.length),
             Job::Put | Job::Swap(_) => pack(self.buffer.value(), place - 1),
         }
-    }
-
-    // Stands there.
-    fn place(&mut self, stage: Stage)
-        ensures { self.new ≡ staged self.old (standing stage) }
-    {
-        self.stage = stage;
-    }
-
-    // Stands there after an access that is not the walk's.
-    fn fill(&mut self, stage: Stage)
-        ensures { self.new ≡ filled self.old (standing stage) }
-    {
-        self.walk.begun();
-        self.stage = stage;
     }
 
     // Where the call stands after it stored the content word at this place.
@@ -255,22 +304,39 @@ impl PutCall {
         ensures { standing result ≡ on_meta self.now.job (tag_number tail) (kind_of word) }
     {
         match (kind_in(word), self.job) {
-            (Some(Kind::Tombstone), _) => Stage::AtDead(tail),
+            (Some(Kind::Tombstone), _) => Stage::Deciding {
+                tail,
+                reply: Verdict::Absent,
+            },
             (Some(Kind::Value), Job::Swap(expected)) if expected.number() != tail.number() => {
-                Stage::AtOther(tail)
+                Stage::Deciding {
+                    tail,
+                    reply: Verdict::Differs,
+                }
             }
             (Some(Kind::Value), _) => Stage::AtLink(tail),
             (None, _) => Stage::AtBad(tail),
         }
     }
 
-    // Goes on as the walk went.
-    fn go(&mut self, turn: Turn) -> PutTurn
-        requires { WalkAnswers self.old.walk turn }
-        ensures value { self.new ≡ walked self.old self.old.walk }
-        ensures answer { result ≡ as_put turn }
+    // Stands there after a store or a flush.
+    fn fill(&mut self, stage: Stage) -> PutTurn
+        ensures value { self.new ≡ filled self.old (standing stage) }
+        ensures answer { result ≡ More }
     {
-        match turn {
+        self.walk.begun();
+        self.stage = stage;
+        PutTurn::More
+    }
+
+    // Goes on with the walk by a next word, or by what else the walk's access found.
+    fn go_on(&mut self, found: u64) -> PutTurn
+        requires found { MayFind self.old.walk found }
+        requires below { self.old.walk.turns < budget self.old.walk.pool }
+        ensures value { self.new ≡ walked self.old (goes_on self.old.walk found) }
+        ensures came { Came self.old.walk found result }
+    {
+        match self.walk.on(found) {
             Turn::More => {
                 self.stage = Stage::Seeking;
                 PutTurn::More
@@ -286,243 +352,45 @@ impl PutCall {
             Turn::Unreached => unreachable!(),
         }
     }
+}
 
-    // Takes a next word that the call's own access found at the tail, and goes on as after a load of the walk.
-    fn seen<P: Port>(&mut self, port: &mut P, word: u64) -> PutTurn
-        requires pool { P.pool port.old ≡ self.old.walk.pool }
-        requires shows { ShowsNext self.old.walk (P.view port.old) word }
-        ensures value { self.new ≡ walked self.old (goes_on self.old.walk word) }
-        ensures went { (turn : WalkTurn) × (result ≡ as_put turn) × Went self.old.walk.pool self.old.walk.slot (goes_on self.old.walk word) (P.view port.new) turn }
-        ensures port { port.new ≡ port.old }
-    {
-        let turn = self.walk.seen(port, word);
-        self.go(turn)
+// What a meta word says that a version is. None where it is the word of no version.
+fn kind_in(word: u64) -> Option<Kind>
+    ensures { result ≡ kind_of word }
+{
+    match Meta::decode(word) {
+        Some(meta) => Some(meta.kind),
+        None => None,
     }
+}
 
-    // Stores a content word of the own version.
-    fn store<P: Port>(&mut self, port: &mut P, place: u32) -> PutTurn
-        requires stage { self.old.stage ≡ Storing place }
-        requires pool { P.pool port.old ≡ self.old.walk.pool }
-        requires holds { PutHolds self.old (P.view port.old) }
-        ensures done { PutStep (P.pool port.old) self.old (P.view port.old) (P.told port.old) (P.faults port.old) self.new (P.view port.new) (P.told port.new) (P.faults port.new) result }
-        ensures same { (P.pool port.new ≡ P.pool port.old) × (P.table port.new ≡ P.table port.old) × (P.lender port.new ≡ P.lender port.old) }
-        ensures accessed { P.accessed port.old port.new }
-        ensures count { P.faults port.old ≤ P.faults port.new }
-        ensures kept { OnReached result (P.faults port.new ≡ P.faults port.old) }
-        ensures exact { ExactPut (P.refuses port.old) result }
-    {
-        let word = self.body_word(place);
-        match store_content::<P, Brand>(port, place == 0, self.own, place, word) {
-            Ok(()) => {
-                let next = self.after_store(place);
-                self.fill(next);
-                PutTurn::More
-            }
-            Err(_) => PutTurn::Unreached,
-        }
+// What a job does at a tail.
+fn at_tail_stage(job: Job, tail: Tag) -> Stage
+    ensures { standing result ≡ at_tail job (tag_number tail) }
+{
+    match job {
+        Job::Put => Stage::AtLink(tail),
+        Job::Delete | Job::Swap(_) => Stage::AtMeta(tail),
     }
+}
 
-    // Stores the flushed copy of a content word of the own version.
-    fn flush<P: Port>(&mut self, port: &mut P, place: u32) -> PutTurn
-        requires stage { self.old.stage ≡ Flushing place }
-        requires pool { P.pool port.old ≡ self.old.walk.pool }
-        requires holds { PutHolds self.old (P.view port.old) }
-        ensures done { PutStep (P.pool port.old) self.old (P.view port.old) (P.told port.old) (P.faults port.old) self.new (P.view port.new) (P.told port.new) (P.faults port.new) result }
-        ensures same { (P.pool port.new ≡ P.pool port.old) × (P.table port.new ≡ P.table port.old) × (P.lender port.new ≡ P.lender port.old) }
-        ensures accessed { P.accessed port.old port.new }
-        ensures count { P.faults port.old ≤ P.faults port.new }
-        ensures kept { OnReached result (P.faults port.new ≡ P.faults port.old) }
-        ensures exact { ExactPut (P.refuses port.old) result }
-    {
-        let word = self.body_word(place);
-        match flush_content::<P, Brand>(port, self.own, place, word) {
-            Ok(()) => {
-                let next = self.after_flush(place);
-                self.fill(next);
-                PutTurn::More
-            }
-            Err(_) => PutTurn::Unreached,
-        }
+// The answer of a call that commits nothing behind this tail.
+fn reply_turn(reply: Verdict, tail: Tag) -> PutTurn
+    ensures { Tells (reply_at reply (tag_number tail)) tail result }
+{
+    match reply {
+        Verdict::Absent => PutTurn::Absent { tail },
+        Verdict::Differs => PutTurn::Differs { tag: tail },
     }
+}
 
-    // Makes a step of the walk.
-    fn seek<P: Port>(&mut self, port: &mut P) -> PutTurn
-        requires stage { self.old.stage ≡ Seeking }
-        requires pool { P.pool port.old ≡ self.old.walk.pool }
-        requires holds { PutHolds self.old (P.view port.old) }
-        ensures done { PutStep (P.pool port.old) self.old (P.view port.old) (P.told port.old) (P.faults port.old) self.new (P.view port.new) (P.told port.new) (P.faults port.new) result }
-        ensures same { (P.pool port.new ≡ P.pool port.old) × (P.table port.new ≡ P.table port.old) × (P.lender port.new ≡ P.lender port.old) }
-        ensures accessed { P.accessed port.old port.new }
-        ensures count { P.faults port.old ≤ P.faults port.new }
-        ensures kept { OnReached result (P.faults port.new ≡ P.faults port.old) }
-        ensures exact { ExactPut (P.refuses port.old) result }
-    {
-        match self.walk.step(port) {
-            Turn::Unreached => PutTurn::Unreached,
-            turn => self.go(turn),
-        }
-    }
-
-    // Loads the tail's meta word.
-    fn look<P: Port>(&mut self, port: &mut P, tail: Tag) -> PutTurn
-        requires stage { self.old.stage ≡ AtMeta (tag_number tail) }
-        requires pool { P.pool port.old ≡ self.old.walk.pool }
-        requires holds { PutHolds self.old (P.view port.old) }
-        ensures done { PutStep (P.pool port.old) self.old (P.view port.old) (P.told port.old) (P.faults port.old) self.new (P.view port.new) (P.told port.new) (P.faults port.new) result }
-        ensures same { (P.pool port.new ≡ P.pool port.old) × (P.table port.new ≡ P.table port.old) × (P.lender port.new ≡ P.lender port.old) }
-        ensures accessed { P.accessed port.old port.new }
-        ensures count { P.faults port.old ≤ P.faults port.new }
-        ensures kept { OnReached result (P.faults port.new ≡ P.faults port.old) }
-        ensures exact { ExactPut (P.refuses port.old) result }
-    {
-        match load_content::<P, Brand>(port, false, self.walk.slot(), tail, 0) {
-            Ok(word) => {
-                let next = self.after_meta(tail, word);
-                self.place(next);
-                PutTurn::More
-            }
-            Err(_) => PutTurn::Unreached,
-        }
-    }
-
-    // Exchanges the link of the tail from none to the own tag.
-    fn link<P: Port>(&mut self, port: &mut P, tail: Tag) -> PutTurn
-        requires stage { self.old.stage ≡ AtLink (tag_number tail) }
-        requires pool { P.pool port.old ≡ self.old.walk.pool }
-        requires holds { PutHolds self.old (P.view port.old) }
-        ensures done { PutStep (P.pool port.old) self.old (P.view port.old) (P.told port.old) (P.faults port.old) self.new (P.view port.new) (P.told port.new) (P.faults port.new) result }
-        ensures same { (P.pool port.new ≡ P.pool port.old) × (P.table port.new ≡ P.table port.old) × (P.lender port.new ≡ P.lender port.old) }
-        ensures accessed { P.accessed port.old port.new }
-        ensures count { P.faults port.old ≤ P.faults port.new }
-        ensures kept { OnReached result (P.faults port.new ≡ P.faults port.old) }
-        ensures exact { ExactPut (P.refuses port.old) result }
-    {
-        let slot = self.walk.slot();
-        let bytes = self.buffer.value();
-        match link_own::<P, Brand>(port, slot, tail, self.own, self.job, self.flags, bytes) {
-            Ok(word) if word == unlinked_word(tail) => {
-                self.place(Stage::AtRaise(tail));
-                PutTurn::Decided { tag: self.own }
-            }
-            Ok(word) => self.seen(port, word),
-            Err(_) => PutTurn::Unreached,
-        }
-    }
-
-    // Loads the next word of a tombstone at the tail again.
-    fn last_dead<P: Port>(&mut self, port: &mut P, tail: Tag) -> PutTurn
-        requires stage { self.old.stage ≡ AtDead (tag_number tail) }
-        requires pool { P.pool port.old ≡ self.old.walk.pool }
-        requires holds { PutHolds self.old (P.view port.old) }
-        ensures done { PutStep (P.pool port.old) self.old (P.view port.old) (P.told port.old) (P.faults port.old) self.new (P.view port.new) (P.told port.new) (P.faults port.new) result }
-        ensures same { (P.pool port.new ≡ P.pool port.old) × (P.table port.new ≡ P.table port.old) × (P.lender port.new ≡ P.lender port.old) }
-        ensures accessed { P.accessed port.old port.new }
-        ensures count { P.faults port.old ≤ P.faults port.new }
-        ensures kept { OnReached result (P.faults port.new ≡ P.faults port.old) }
-        ensures exact { ExactPut (P.refuses port.old) result }
-    {
-        let slot = self.walk.slot();
-        let bytes = self.buffer.value();
-        match load_dead::<P, Brand>(port, slot, tail, self.job, self.flags, bytes) {
-            Ok(word) if word == unlinked_word(tail) => {
-                self.place(Stage::Over);
-                PutTurn::Absent { tail }
-            }
-            Ok(word) => self.seen(port, word),
-            Err(_) => PutTurn::Unreached,
-        }
-    }
-
-    // Loads the next word of a tail that is not the expected tag again.
-    fn last_other<P: Port>(&mut self, port: &mut P, tail: Tag) -> PutTurn
-        requires stage { self.old.stage ≡ AtOther (tag_number tail) }
-        requires pool { P.pool port.old ≡ self.old.walk.pool }
-        requires holds { PutHolds self.old (P.view port.old) }
-        ensures done { PutStep (P.pool port.old) self.old (P.view port.old) (P.told port.old) (P.faults port.old) self.new (P.view port.new) (P.told port.new) (P.faults port.new) result }
-        ensures same { (P.pool port.new ≡ P.pool port.old) × (P.table port.new ≡ P.table port.old) × (P.lender port.new ≡ P.lender port.old) }
-        ensures accessed { P.accessed port.old port.new }
-        ensures count { P.faults port.old ≤ P.faults port.new }
-        ensures kept { OnReached result (P.faults port.new ≡ P.faults port.old) }
-        ensures exact { ExactPut (P.refuses port.old) result }
-    {
-        let slot = self.walk.slot();
-        let bytes = self.buffer.value();
-        match load_other::<P, Brand>(port, slot, tail, self.job, self.flags, bytes) {
-            Ok(word) if word == unlinked_word(tail) => {
-                self.place(Stage::Over);
-                PutTurn::Differs { tag: tail }
-            }
-            Ok(word) => self.seen(port, word),
-            Err(_) => PutTurn::Unreached,
-        }
-    }
-
-    // Loads the next word again of a tail that has been passed.
-    fn again<P: Port>(&mut self, port: &mut P, tail: Tag) -> PutTurn
-        requires stage { self.old.stage ≡ AtBad (tag_number tail) }
-        requires pool { P.pool port.old ≡ self.old.walk.pool }
-        requires holds { PutHolds self.old (P.view port.old) }
-        ensures done { PutStep (P.pool port.old) self.old (P.view port.old) (P.told port.old) (P.faults port.old) self.new (P.view port.new) (P.told port.new) (P.faults port.new) result }
-        ensures same { (P.pool port.new ≡ P.pool port.old) × (P.table port.new ≡ P.table port.old) × (P.lender port.new ≡ P.lender port.old) }
-        ensures accessed { P.accessed port.old port.new }
-        ensures count { P.faults port.old ≤ P.faults port.new }
-        ensures kept { OnReached result (P.faults port.new ≡ P.faults port.old) }
-        ensures exact { ExactPut (P.refuses port.old) result }
-    {
-        match load_next::<P, Brand>(port, false, self.walk.slot(), tail) {
-            Ok(word) => self.seen(port, word),
-            Err(_) => PutTurn::Unreached,
-        }
-    }
-
-    // Raises the flushed copy of the link to the own tag.
-    fn raise<P: Port>(&mut self, port: &mut P, tail: Tag) -> PutTurn
-        requires stage { self.old.stage ≡ AtRaise (tag_number tail) }
-        requires pool { P.pool port.old ≡ self.old.walk.pool }
-        requires holds { PutHolds self.old (P.view port.old) }
-        ensures done { PutStep (P.pool port.old) self.old (P.view port.old) (P.told port.old) (P.faults port.old) self.new (P.view port.new) (P.told port.new) (P.faults port.new) result }
-        ensures same { (P.pool port.new ≡ P.pool port.old) × (P.table port.new ≡ P.table port.old) × (P.lender port.new ≡ P.lender port.old) }
-        ensures accessed { P.accessed port.old port.new }
-        ensures count { P.faults port.old ≤ P.faults port.new }
-        ensures kept { OnReached result (P.faults port.new ≡ P.faults port.old) }
-        ensures exact { ExactPut (P.refuses port.old) result }
-    {
-        let tag = self.own;
-        match raise_next::<P, Brand>(port, false, self.walk.slot(), tail, tag) {
-            Ok(_) => {
-                self.place(Stage::AtShort);
-                PutTurn::More
-            }
-            Err(_) => {
-                self.place(Stage::Over);
-                PutTurn::Linked { tag }
-            }
-        }
-    }
-
-    // Stores the own tag in the slot's shortcut, which ends the call.
-    fn shorten<P: Port>(&mut self, port: &mut P) -> PutTurn
-        requires stage { self.old.stage ≡ AtShort }
-        requires pool { P.pool port.old ≡ self.old.walk.pool }
-        requires holds { PutHolds self.old (P.view port.old) }
-        ensures done { PutStep (P.pool port.old) self.old (P.view port.old) (P.told port.old) (P.faults port.old) self.new (P.view port.new) (P.told port.new) (P.faults port.new) result }
-        ensures same { (P.pool port.new ≡ P.pool port.old) × (P.table port.new ≡ P.table port.old) × (P.lender port.new ≡ P.lender port.old) }
-        ensures accessed { P.accessed port.old port.new }
-        ensures count { P.faults port.old ≤ P.faults port.new }
-        ensures kept { OnReached result (P.faults port.new ≡ P.faults port.old) }
-        ensures exact { ExactPut (P.refuses port.old) result }
-    {
-        let tag = self.own;
-        match store_short::<P, Brand>(port, self.walk.slot(), tag) {
-            Ok(()) => {
-                self.place(Stage::Over);
-                done_turn(self.job, tag)
-            }
-            Err(_) => {
-                self.place(Stage::Over);
-                PutTurn::Linked { tag }
-            }
-        }
+// The answer of a job whose own version is durable.
+fn done_turn(job: Job, tag: Tag) -> PutTurn
+    ensures { result ≡ done_with job tag }
+{
+    match job {
+        Job::Put | Job::Swap(_) => PutTurn::Stored { tag },
+        Job::Delete => PutTurn::Deleted { tag },
     }
 }
 
@@ -539,15 +407,27 @@ fn buffer_with(bytes: &[u8]) -> ValueBuf
     }
 }
 
-// The meta word of a version.
-fn meta_word(kind: Kind, flags: u32, length: u32) -> u64
-    requires { IsMeta (record { kind = kind; flags = flags; length = length }) }
-    ensures { result ≡ spelled (record { kind = kind; flags = flags; length = length }) }
+// The meta word of a value.
+fn value_word(flags: u32, length: u32) -> u64
+    requires { IsMeta (record { kind = IsValue; flags = flags; length = length }) }
+    ensures { result ≡ spelled (record { kind = IsValue; flags = flags; length = length }) }
 {
-    Meta {
-        kind,
+    let meta = Meta {
+        kind: Kind::Value,
         flags,
         length,
-    }
-    .encode()
+    };
+    meta.encode()
+}
+
+// Makes the access that the call asks for, as the step that M names.
+fn access<P: Port, M: StepName>(call: &PutCall, port: &mut P) -> Result<u64, Failed>
+    requires name { (M.step ≡ put_step call.now (P.view port.old)) × (M.first ≡ call.now.walk.first) }
+    requires going { call.now.stage ≢ Over }
+    requires pool { P.pool port.old ≡ call.now.walk.pool }
+    requires holds { PutHolds call.now (P.view port.old) }
+    // A store gives back no number, and any number that it may have found.
+    ensures ends { MatchResult result (λ x. (y : ℕ) × P.made port.old (put_step call.now (P.view port.old)) call.now.walk.first y port.new × OnFinding call.now.stage (x ≡ y)) (λ e. P.failed port.old port.new) }
+{
+    perform::<P, M>(port, call.next())
 }

@@ -3,7 +3,6 @@
 //! store leaves the own tag in the slot's shortcut.
 #![tactic(auto)]
 
-mod access;
 mod call;
 mod job;
 mod laws;

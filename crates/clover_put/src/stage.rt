@@ -14,10 +14,9 @@ pub enum Stage {
     AtMeta(Tag),
     /// The own tag is to be linked behind the tail.
     AtLink(Tag),
-    /// The tail is a tombstone: its next word is to be loaded again.
-    AtDead(Tag),
-    /// The tail is not the tag that a swap expects: its next word is to be loaded again.
-    AtOther(Tag),
+    /// The tail's meta word says that nothing is to be committed: its next word is to be loaded again, and decides
+    /// the reply where it shows the tail still unlinked.
+    Deciding { tail: Tag, reply: Verdict },
     /// The tail's meta word was that of no version, so it has been passed: its next word is to be loaded again.
     AtBad(Tag),
     /// The own tag is linked behind this one, and the link is to be raised.
@@ -26,4 +25,13 @@ pub enum Stage {
     AtShort,
     /// The call is over.
     Over,
+}
+
+/// Why a call commits nothing behind a tail.
+#[derive(Clone, Copy)]
+pub enum Verdict {
+    /// The tail is a tombstone.
+    Absent,
+    /// The tail is not the tag that a swap expects.
+    Differs,
 }

@@ -1,0 +1,9 @@
+use Rattle.std.proofs.Common.{sym, subst}
+use Rattle.clover_rule.specs.Steps.{Step, Asks}
+use Rattle.clover_put.proofs.Goes.{put_asks}
+use Rattle.clover_put.proofs.call.access.Goals as goal
+
+pub perform-requires-clause-rule : goal.perform-requires-clause-rule
+perform-requires-clause-rule g c =
+    let p = g.P.Port.pool c.args.port.now in let v = g.P.Port.view c.args.port.now in
+    subst (λ (a : Step). Asks p a v) (sym c.requires.name.0) (put_asks p c.args.call.now v c.requires.pool c.requires.going c.requires.holds c.next.ensures.fits c.next.ensures.within)
