@@ -1,21 +1,18 @@
 // A get: where it stands, which access it asks for, and how it goes on.
-ghost use Rattle.std.specs.Prelude.{◌≡◌, ◌<◌, ◌≤◌, ◌↔◌, ℕ, List, Option, Some, IfSome, IfNone, IsTrue, MatchResult, length};
+ghost use Rattle.std.specs.Prelude.{◌≡◌, ◌<◌, ◌≤◌, ℕ, List, Option, Some, IfSome, IfNone, MatchResult, length};
 ghost use Rattle.clover_words.specs.Meta.{MetaParts};
 ghost use Rattle.clover_words.specs.Place.{IsWithin};
 ghost use Rattle.clover_words.specs.Tag.{tag_number};
 ghost use Rattle.clover_words.specs.declared.bytes.ValueBuf.{ValueBuf as Room};
 ghost use Rattle.clover_words.specs.Version.{unlinked};
-ghost use Rattle.clover_rule.specs.Content.{InRange};
-ghost use Rattle.clover_rule.specs.Lists.{Within};
 ghost use Rattle.clover_rule.specs.Steps.{word_of};
 ghost use Rattle.clover_port.specs.Asked.{IsOp, IsFinding};
 ghost use Rattle.clover_walk.specs.Finding.{MayFind};
-ghost use Rattle.clover_walk.specs.Turning.{Answers};
-ghost use Rattle.clover_walk.specs.Walking.{goes_on, walk_step, budget, most_accesses};
-ghost use Rattle.clover_get.specs.Answering.{OnReached, OnUnreached, OnGoing, OnOver, OnAhead, IfFound, IfAbsent, IfAnswered, IfBehind};
+ghost use Rattle.clover_walk.specs.Walking.{goes_on, walk_step, budget};
+ghost use Rattle.clover_get.specs.Answering.{OnReached, OnUnreached};
 ghost use Rattle.clover_get.specs.Finding.{GetFinds, GetAnswers, Came, PacksFrom};
-ghost use Rattle.clover_get.specs.Getting.{Seeking, AtFound, Over, IsOpen, Reads, GoesOn, FillsFrom, getting, get_step, read_stage, valued, sought, value_in};
-ghost use Rattle.clover_get.specs.Going.{FoundAt, AbsentAt, Went, answer_of, key_of};
+ghost use Rattle.clover_get.specs.Getting.{Seeking, AtFound, Over, IsOpen, Reads, GoesOn, FillsFrom, getting, get_step, read_stage, valued, sought};
+ghost use Rattle.clover_get.specs.Going.{Went, key_of};
 ghost use Rattle.clover_get.specs.Holding.{GetHolds};
 ghost use Rattle.clover_get.specs.Standing.{standing};
 
@@ -74,18 +71,13 @@ impl GetCall {
         requires pool { P.pool port.old ≡ self.old.walk.pool }
         requires holds { GetHolds self.old (P.view port.old) into.old }
         ensures made { OnReached result ((x : ℕ) × P.made port.old (get_step self.old (key_of self.old (P.view port.old)) into.old) self.old.walk.first x port.new × GoesOn self.old into.new.length x self.new × FillsFrom self.old.stage x into.old into.new) }
-        ensures found { IfFound result (λ tag flags. FoundAt (P.pool port.old) self.old (tag_number tag) (value_in flags into.new) (P.view port.old) (P.told port.old) (P.view port.new) (P.told port.new)) }
-        ensures at { IfFound result (λ tag flags. (self.old.stage ≡ AtFound (tag_number tag) flags) × (into.new ≡ into.old)) }
-        ensures absent { IfAbsent result (λ tail. AbsentAt (P.pool port.old) self.old (tag_number tail) (P.view port.old) (P.told port.old) (P.view port.new) (P.told port.new)) }
-        ensures known { IfAnswered result (λ tag. InRange self.old.walk.pool (tag_number tag) × Within (self.old.walk.slot, tag_number tag) (P.view port.new).pass.durable) }
-        ensures behind { IfBehind result (λ turns. (turns ≡ budget (P.pool port.old)) × ((P.view port.new).pass.turns ≡ budget (P.pool port.old))) }
-        ensures ahead { OnAhead result ((P.view port.new).pass.turns < budget (P.pool port.old)) }
+        ensures went { Went (P.pool port.old) self.old self.new into.old into.new (P.view port.old) (P.told port.old) (P.view port.new) (P.told port.new) result }
         ensures unreached { OnUnreached result (P.failed port.old port.new × (self.new ≡ self.old) × (into.new ≡ into.old)) }
-        ensures stands { OnGoing result (GetHolds self.new (P.view port.new) into.new) }
-        ensures ends { OnOver result (self.new.stage ≡ Over) }
-        ensures bound { OnReached result (length (P.view port.new).pass.since ≤ most_accesses (P.pool port.old) (P.view port.new).pass.turns) }
     {
-        self.advance(port, into)
+        match access::<P, Brand>(self, port, into) {
+            Ok(found) => self.on(found, into),
+            Err(_) => GetTurn::Unreached,
+        }
     }
 
     /// The slot whose key it gets.
@@ -159,21 +151,6 @@ impl GetCall {
             }
             Stage::AtFound { tag: _, flags: _ } | Stage::AtDead(_) => self.go_on(found),
             Stage::Over => unreachable!(),
-        }
-    }
-
-    // Makes the next access, and goes on by it.
-    fn advance<P: Port>(&mut self, port: &mut P, into: &mut ValueBuf) -> GetTurn
-        requires open { IsOpen self.old.stage }
-        requires pool { P.pool port.old ≡ self.old.walk.pool }
-        requires holds { GetHolds self.old (P.view port.old) into.old }
-        ensures made { OnReached result ((x : ℕ) × P.made port.old (get_step self.old (key_of self.old (P.view port.old)) into.old) self.old.walk.first x port.new × GoesOn self.old into.new.length x self.new × FillsFrom self.old.stage x into.old into.new) }
-        ensures went { Went (P.pool port.old) self.old self.new into.old into.new (P.view port.old) (P.told port.old) (P.view port.new) (P.told port.new) result }
-        ensures unreached { OnUnreached result (P.failed port.old port.new × (self.new ≡ self.old) × (into.new ≡ into.old)) }
-    {
-        match access::<P, Brand>(self, port, into) {
-            Ok(found) => self.on(found, into),
-            Err(_) => GetTurn::Unreached,
         }
     }
 

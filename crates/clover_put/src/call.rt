@@ -5,19 +5,17 @@ ghost use Rattle.clover_words.specs.Meta.{IsMeta, meta_word as spelled};
 ghost use Rattle.clover_words.specs.Place.{IsWithin};
 ghost use Rattle.clover_words.specs.Tag.{tag_number};
 ghost use Rattle.clover_rule.specs.Content.{InRange, Fits};
-ghost use Rattle.clover_rule.specs.Lists.{Within};
 ghost use Rattle.clover_rule.specs.Steps.{word_of};
 ghost use Rattle.clover_rule.specs.declared.view.View.{View};
 ghost use Rattle.clover_map.specs.declared.call.Reply.TheVariants.{Absent, Differs};
 ghost use Rattle.clover_port.specs.Asked.{IsOp, IsFinding};
-ghost use Rattle.clover_walk.specs.Ending.{Ended, Commits};
 ghost use Rattle.clover_walk.specs.Finding.{MayFind};
-ghost use Rattle.clover_walk.specs.Walking.{walk_step, goes_on, budget, most_accesses};
-ghost use Rattle.clover_put.specs.Answering.{Answers, OnReached, OnRefused, OnGoing, OnAhead, IfDecided, IfEnded, IfAbsent, IfDiffers, IfBehind};
+ghost use Rattle.clover_walk.specs.Walking.{walk_step, goes_on, budget};
+ghost use Rattle.clover_put.specs.Answering.{Answers, OnReached, OnRefused};
 ghost use Rattle.clover_put.specs.Finding.{OnFinding, PutFinds, PutAnswers, Came, Tells};
 ghost use Rattle.clover_put.specs.Going.{Went, done_with};
 ghost use Rattle.clover_put.specs.Holding.{PutHolds};
-ghost use Rattle.clover_put.specs.Putting.{Seeking, Over, made_put, put_step, put_on, call_at, commits, body, body_word, at_tail, filled, walked, after_store, after_flush, on_meta, kind_of};
+ghost use Rattle.clover_put.specs.Putting.{Seeking, Over, made_put, put_step, put_on, commits, body, body_word, at_tail, filled, walked, after_store, after_flush, on_meta, kind_of};
 ghost use Rattle.clover_put.specs.declared.turn.PutTurn.TheVariants.{More};
 ghost use Rattle.clover_put.specs.Standing.{standing, reply_at};
 
@@ -109,18 +107,14 @@ impl PutCall {
         requires pool { P.pool port.old ≡ self.old.walk.pool }
         requires holds { PutHolds self.old (P.view port.old) }
         ensures made { OnReached result ((x : ℕ) × P.made port.old (put_step self.old (P.view port.old)) self.old.walk.first x port.new × (self.new ≡ put_on self.old x)) }
-        ensures answer { Answers self.old self.new result }
-        ensures decided { IfDecided result (λ _. Commits (P.pool port.old) (call_at self.old (P.view port.old)) self.old.own (P.view port.old) (P.told port.old) (P.view port.new) (P.told port.new)) }
-        ensures known { IfEnded result (λ tag. InRange self.old.walk.pool (tag_number tag) × Within (self.old.walk.slot, tag_number tag) (P.view port.new).pass.durable) }
-        ensures absent { IfAbsent result (λ _. Ended (P.pool port.old) (call_at self.old (P.view port.old)) Absent (P.view port.old) (P.told port.old) (P.view port.new) (P.told port.new)) }
-        ensures differs { IfDiffers result (λ tag. Ended (P.pool port.old) (call_at self.old (P.view port.old)) (Differs (tag_number tag)) (P.view port.old) (P.told port.old) (P.view port.new) (P.told port.new)) }
-        ensures behind { IfBehind result (λ turns. (turns ≡ budget self.old.walk.pool) × ((P.view port.new).pass.turns ≡ budget self.old.walk.pool)) }
-        ensures ahead { OnAhead result ((P.view port.new).pass.turns < budget self.old.walk.pool) }
+        ensures went { Went (P.pool port.old) self.old self.new (P.view port.old) (P.told port.old) (P.view port.new) (P.told port.new) result }
         ensures refused { OnRefused result (P.failed port.old port.new) }
-        ensures stands { OnGoing result (PutHolds self.new (P.view port.new)) }
-        ensures bound { OnReached result (length (P.view port.new).pass.since ≤ most_accesses self.old.walk.pool (P.view port.new).pass.turns) }
     {
-        self.advance(port)
+        self.fits();
+        match access::<P, Brand>(self, port) {
+            Ok(found) => self.on(found),
+            Err(_) => self.refused(),
+        }
     }
 
     /// The slot whose key it writes.
@@ -233,22 +227,6 @@ impl PutCall {
                 PutTurn::Linked { tag: self.own }
             }
             _ => PutTurn::Unreached,
-        }
-    }
-
-    // Makes the next access, and goes on by it.
-    fn advance<P: Port>(&mut self, port: &mut P) -> PutTurn
-        requires going { self.old.stage ≢ Over }
-        requires pool { P.pool port.old ≡ self.old.walk.pool }
-        requires holds { PutHolds self.old (P.view port.old) }
-        ensures made { OnReached result ((x : ℕ) × P.made port.old (put_step self.old (P.view port.old)) self.old.walk.first x port.new × (self.new ≡ put_on self.old x)) }
-        ensures went { Went (P.pool port.old) self.old self.new (P.view port.old) (P.told port.old) (P.view port.new) (P.told port.new) result }
-        ensures refused { OnRefused result (P.failed port.old port.new) }
-    {
-        self.fits();
-        match access::<P, Brand>(self, port) {
-            Ok(found) => self.on(found),
-            Err(_) => self.refused(),
         }
     }
 

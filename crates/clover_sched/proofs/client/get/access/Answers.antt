@@ -39,8 +39,8 @@ returns-clause-accessed c = λ i e. moved_there (λ (s : ℕ) (p q : Plain). Acc
 
 pub returns-clause-found : goal.returns-clause-found
 returns-clause-found c = λ i e. said_there (λ (s : ℕ) (p q : Plain). IfFound c.step.result (λ tag flags. FoundAt p.setup.pool c.args.call.now (tag_number tag) (value_in flags c.step.new.into) (view_at p s) (Some (open_of p)) (view_at q s) (Some (open_of q)))) i c.port-port.result.seat c.args.client c.port-port.result.pool.now c.args.pool.now c.step.new.port.pool.now _ (returns-clause-accessed c i e) e c.port-port.ensures.seat.2 c.port-port.ensures.pool.0 (search rules)
-    (let p0 = c.port-port.result.pool.now in let q0 = c.step.new.port.pool.now in subst (λ (s : ℕ). IfFound c.step.result (λ tag flags. FoundAt p0.setup.pool c.args.call.now (tag_number tag) (value_in flags c.step.new.into) (view_at p0 c.port-port.result.seat) (Some (open_of p0)) (view_at q0 s) (Some (open_of q0)))) (split {C = c.step.new.port.seat ≡ c.port-port.result.seat} c.step.result c.step.ensures.made c.step.ensures.unreached (λ m. m.1.2) (λ u. u.0.1)) c.step.ensures.found)
+    (let p0 = c.port-port.result.pool.now in let q0 = c.step.new.port.pool.now in subst (λ (s : ℕ). IfFound c.step.result (λ tag flags. FoundAt p0.setup.pool c.args.call.now (tag_number tag) (value_in flags c.step.new.into) (view_at p0 c.port-port.result.seat) (Some (open_of p0)) (view_at q0 s) (Some (open_of q0)))) (split {C = c.step.new.port.seat ≡ c.port-port.result.seat} c.step.result c.step.ensures.made c.step.ensures.unreached (λ m. m.1.2) (λ u. u.0.1)) c.step.ensures.went.found)
 
 pub returns-clause-absent : goal.returns-clause-absent
 returns-clause-absent c = λ i e. said_there (λ (s : ℕ) (p q : Plain). IfAbsent c.step.result (λ tag. AbsentAt p.setup.pool c.args.call.now (tag_number tag) (view_at p s) (Some (open_of p)) (view_at q s) (Some (open_of q)))) i c.port-port.result.seat c.args.client c.port-port.result.pool.now c.args.pool.now c.step.new.port.pool.now _ (returns-clause-accessed c i e) e c.port-port.ensures.seat.2 c.port-port.ensures.pool.0 (search rules)
-    (let p0 = c.port-port.result.pool.now in let q0 = c.step.new.port.pool.now in subst (λ (s : ℕ). IfAbsent c.step.result (λ tag. AbsentAt p0.setup.pool c.args.call.now (tag_number tag) (view_at p0 c.port-port.result.seat) (Some (open_of p0)) (view_at q0 s) (Some (open_of q0)))) (split {C = c.step.new.port.seat ≡ c.port-port.result.seat} c.step.result c.step.ensures.made c.step.ensures.unreached (λ m. m.1.2) (λ u. u.0.1)) c.step.ensures.absent)
+    (let p0 = c.port-port.result.pool.now in let q0 = c.step.new.port.pool.now in subst (λ (s : ℕ). IfAbsent c.step.result (λ tag. AbsentAt p0.setup.pool c.args.call.now (tag_number tag) (view_at p0 c.port-port.result.seat) (Some (open_of p0)) (view_at q0 s) (Some (open_of q0)))) (split {C = c.step.new.port.seat ≡ c.port-port.result.seat} c.step.result c.step.ensures.made c.step.ensures.unreached (λ m. m.1.2) (λ u. u.0.1)) c.step.ensures.went.absent)

@@ -16,19 +16,19 @@ returns c =
     let seat : s ≡ c.args.client - 1 = (let z = c.port-port.ensures.seat.2 in omega arith) in
     let here : p0.setup.pool ≡ c.args.call.now.walk.pool = cc in
     let same : t ≡ s = made_or_refused {C = t ≡ s} r e.made e.refused (λ m. m.1.2) (λ f. f.1) in
-    let behind = subst (λ (p : Pool). IfBehind r (λ (n : ℕ). (n ≡ budget p) × (w.pass.turns ≡ budget p))) (sym here) e.behind in
-    let ahead = subst (λ (p : Pool). OnAhead r (w.pass.turns < budget p)) (sym here) e.ahead in
-    let bound = subst (λ (p : Pool). OnReached r (length w.pass.since ≤ most_accesses p w.pass.turns)) (sym here) e.bound in
+    let behind = subst (λ (p : Pool). IfBehind r (λ (n : ℕ). (n ≡ budget p) × (w.pass.turns ≡ budget p))) (sym here) e.went.behind in
+    let ahead = subst (λ (p : Pool). OnAhead r (w.pass.turns < budget p)) (sym here) e.went.ahead in
+    let bound = subst (λ (p : Pool). OnReached r (length w.pass.since ≤ most_accesses p w.pass.turns)) (sym here) e.went.bound in
     let exact = exact_so c.port-port.result.refuse r (where_made r e.made (λ m. m.1.5)) (where_refused r e.refused (λ f. f.4)) in
     let left = made_or_refused {C = Accessed s c.port-port.result.list p0 q0} r e.made e.refused (λ m. inl (_, _, m.0, m.1.0)) (λ f. inr f.0) in
     port_access p0 c.args.pool.now c.pool-1.given.0 q0 (c.args.client - 1) s t c.args.call.now c.step.new.self r c.args.refuse
     c.port-port.ensures.pool.0 (search rules) seat same
     (record {
       made = where_made r e.made (λ m. (m.0, m.1.1, m.2));
-      answer = e.answer; decided = e.decided; known = e.known; absent = e.absent; differs = e.differs;
+      answer = e.went.answer; decided = e.went.decided; known = e.went.known; absent = e.went.absent; differs = e.went.differs;
       behind = behind; ahead = ahead;
       refused = where_refused r e.refused (λ f. refused_view s t f.1 f.0.1);
-      stands = e.stands; bound = bound;
+      stands = e.went.stands; bound = bound;
     })
     (subst (λ (b : Bool). ExactPut (Some b) r) c.port-port.ensures.fresh.0 exact)
     (subst (λ (b : Bool). Accessed s b p0 q0) c.port-port.ensures.fresh.1 left)

@@ -1,7 +1,7 @@
 use Rattle.clover_get.specs.Getting.{get_step}
 use Rattle.clover_get.specs.Going.{key_of}
 use Rattle.clover_get.proofs.Walks.{finds_from, get_went}
-use Rattle.clover_get.proofs.call.GetCall.advance.Goals as goal
+use Rattle.clover_get.proofs.call.GetCall.step.Goals as goal
 
 pub on-requires-clause-found : goal.on-requires-clause-found
 on-requires-clause-found g c =

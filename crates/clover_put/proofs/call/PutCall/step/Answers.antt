@@ -1,6 +1,6 @@
 use Rattle.clover_put.specs.Putting.{put_step}
 use Rattle.clover_put.proofs.Goes.{put_finds, put_went}
-use Rattle.clover_put.proofs.call.PutCall.advance.Goals as goal
+use Rattle.clover_put.proofs.call.PutCall.step.Goals as goal
 
 pub on-requires-clause-found : goal.on-requires-clause-found
 on-requires-clause-found g c =
