@@ -1,34 +1,30 @@
 -- That the rule allows the access of a put, what it may find, and what the put says where it has gone on by that.
 use Prim.Native.Nat.{suc}
-use Rattle.std.proofs.Common.{◌≡◌, ◌≢◌, ℕ, ◌+◌, ◌*◌, ◌<◌, ◌≤◌, ◌==◌, List, [], ◌∷◌, ◌++◌, length, Bool, true, false, cond, refl, sym, ap, ◌∙◌, inl, inr, ⊎_elim, arith, subst, ne_eqb, eq-eqb}
+use Rattle.std.proofs.Common.{◌≡◌, ◌≢◌, ℕ, ◌+◌, ◌*◌, ◌<◌, ◌≤◌, List, ◌∷◌, length, Bool, false, cond, refl, sym, ap, ◌∙◌, inl, inr, ⊎_elim, arith, subst, ne_eqb, eq-eqb}
 use Rattle.std.specs.Prelude.{Option, Some, None}
 use Rattle.clover_words.specs.declared.pool.Pool.{Pool}
 use Rattle.clover_words.specs.declared.meta.Kind.TheVariants.{Value as IsValue, Tombstone}
 use Rattle.clover_words.specs.declared.word.Word.TheVariants.{Next as NextOf}
 use Rattle.clover_words.specs.Place.{IsWithin}
-use Rattle.clover_words.specs.Tag.{TagParts, tag_number, home}
+use Rattle.clover_words.specs.Tag.{home}
 use Rattle.clover_words.specs.Version.{unlinked, buffer_at, content_at}
 use Rattle.clover_map.specs.declared.bytes.Value.{Value}
-use Rattle.clover_map.specs.declared.call.Reply.{Reply}
 use Rattle.clover_port.specs.Told.{Open, Made}
 use Rattle.clover_rule.specs.Content.{InRange, Fits, content}
 use Rattle.clover_rule.specs.History.{named}
 use Rattle.clover_rule.specs.Lists.{Within, nth}
-use Rattle.clover_rule.specs.Steps.{Step, Asks, LoadNext, LinkNext, DecideNext, RaiseNext, act_of, word_of}
+use Rattle.clover_rule.specs.Steps.{Step, Asks, LinkNext, DecideNext, act_of, word_of}
 use Rattle.clover_rule.specs.Told.{Says, IsMetaWord, IsShown}
 use Rattle.clover_rule.specs.Words.{next_code, next_of, root_of}
 use Rattle.clover_rule.specs.declared.view.View.{View}
 use Rattle.clover_rule.proofs.Ties.{content_in, buffer_in}
 use Rattle.clover_rule.proofs.Tools.{nth_within}
-use Rattle.clover_walk.specs.Finding.{Walked}
-use Rattle.clover_walk.specs.Turning.{Answers as WalkAnswers}
 use Rattle.clover_walk.specs.Walking.{Walking, Stand, AtShort as ToShort, AtRoot, AtTag, AtLink as OnLink, OnTail, Ended, StandsOn, Holds, IsOnWay, ShowsNext, walk_step, step_at, goes_on, key_at, since_turn}
-use Rattle.clover_walk.specs.declared.turn.Turn.{Turn}
 use Rattle.clover_walk.proofs.Endings.{IsPlain, stepped, kept, shows_load, shows_decide, shows_link}
 use Rattle.clover_walk.proofs.Goes.{walk_asks, walk_finds, walk_goes, tail_finds, tail_goes}
 use Rattle.clover_put.specs.Answering.{Answers, OnReached, IsBefore}
 use Rattle.clover_put.specs.Finding.{OnFinding, FindsFrom, AnswersFrom, Came}
-use Rattle.clover_put.specs.Going.{Went, answer_of, done_with}
+use Rattle.clover_put.specs.Going.{Went}
 use Rattle.clover_put.specs.Holding.{Filled, IsAt, PutHolds, behind_it}
 use Rattle.clover_put.specs.Putting.{Putting, Stage, Storing, Flushing, Seeking, AtMeta, AtLink, Deciding, AtBad, AtRaise, AtShort, Over, body, call_of, call_at, commits, kind_of, staged, unless_left, walked, put_step, put_on}
 use Rattle.clover_put.specs.declared.job.Job.{Job}

@@ -1,5 +1,4 @@
 -- What a step of a put says at the tail: the meta word, the exchange, the load that decides, the raise and the store of the shortcut.
-use Prim.Native.Nat.{suc}
 use Rattle.std.proofs.Common.{◌≡◌, ℕ, ◌+◌, ◌<◌, ◌≤◌, ◌==◌, List, [], ◌∷◌, ◌++◌, length, Bool, true, false, cond, eqb, refl, sym, ap, ◌∙◌, inl, inr, arith, subst, eqb-true, eq-eqb}
 use Rattle.std.specs.Prelude.{◌≢◌, Option, Some, None}
 use Rattle.clover_words.specs.declared.meta.Kind.{Kind}
@@ -13,7 +12,7 @@ use Rattle.clover_map.specs.declared.bytes.Value.{Value}
 use Rattle.clover_map.specs.declared.call.Reply.{Reply}
 use Rattle.clover_map.specs.declared.call.Reply.TheVariants.{Absent, Differs, Stored as IsStored, Found as IsFound, Deleted as IsDeleted}
 use Rattle.clover_port.specs.Told.{Open, Made}
-use Rattle.clover_rule.specs.Accesses.{SawDead, SawLive, SawFor, StoredBoth, Decides, Committed, AtTail}
+use Rattle.clover_rule.specs.Accesses.{SawLive, SawFor, StoredBoth, Decides, Committed, AtTail}
 use Rattle.clover_rule.specs.Content.{InRange, content}
 use Rattle.clover_rule.specs.Knowing.{SawTombstone, SawValue, link_view}
 use Rattle.clover_rule.specs.Lists.{nth, Within}
@@ -35,7 +34,7 @@ use Rattle.clover_put.specs.Putting.{Putting, Stage, AtMeta, AtLink, Deciding, A
 use Rattle.clover_put.specs.declared.job.Job.{Job}
 use Rattle.clover_put.specs.declared.job.Job.TheVariants.{Put, Delete, Swap}
 use Rattle.clover_put.specs.declared.turn.PutTurn.{PutTurn}
-use Rattle.clover_put.specs.declared.turn.PutTurn.TheVariants.{More, Decided, Stored, Deleted, Absent as AbsentTurn, Differs as DiffersTurn}
+use Rattle.clover_put.specs.declared.turn.PutTurn.TheVariants.{More, Decided, Stored, Deleted}
 use Rattle.clover_put.proofs.Body.{kind_value, kind_dead}
 use Rattle.clover_put.proofs.Known.{walk_kept, filled_kept}
 use Rattle.clover_put.proofs.Done.{one_more, within_bound, ahead_on, bound_on, goes_more}
