@@ -1,5 +1,5 @@
 -- What an access through a port tells: the step, and the words where the port tells them.
-use Rattle.std.specs.Prelude.{◌≡◌, ℕ, ◌+◌, ◌-◌, ◌^◌, ◌≤◌, min, List, Bool, true, false, Option, Some, None, Result, OnOk, OnErr}
+use Rattle.std.specs.Prelude.{◌≡◌, ℕ, ◌+◌, ◌-◌, ◌^◌, ◌≤◌, min, List, Bool, Option, Some, None}
 use Rattle.clover_words.specs.declared.pool.Pool.{Pool}
 use Rattle.clover_map.specs.declared.call.Entry.{Entry}
 use Rattle.clover_rule.specs.Steps.{Step, words_after_step, next_history}
@@ -26,16 +26,6 @@ pub record Made (p : Pool) (a : Step) (b : Bool) (v : View) (before : Option Ope
   pub told : ToldAt p now.words now.history a b v x w
   pub tells : Tells before now (opened p a v x now) after
 
--- the same where what was found does not come back
-abbrev pub MadeBlind : Pool → Step → Bool → View → Option Open → View → Option Open → Type 0
-MadeBlind p a b v before w after = (x : ℕ) × Made p a b v before x w after
-
 -- the count rose, or stands at its last value
 abbrev pub Rose : ℕ → ℕ → Type 0
 Rose before now = min (before + 1) (2 ^ 64 - 1) ≤ now
-
--- a port that knows how its next access ends tells it: it is refused exactly where that was told
-abbrev pub Exact : {T E : Type 0} → Option Bool → Result T E → Type 0
-Exact None r = Unit {0}
-Exact (Some true) r = OnOk r ⊥
-Exact (Some false) r = OnErr r ⊥

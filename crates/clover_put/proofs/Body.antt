@@ -64,10 +64,6 @@ pub value_word : (x : Value) (j : ℕ) → 0 < j → packed x.bytes (j - 1) ≡ 
 value_word x zero less = absurd (omega arith)
 value_word x (suc k) less = let e : suc k - 1 ≡ k = omega arith in ap (packed x.bytes) e
 
-pub swap_word : (x : Value) (t : _) (j : ℕ) → body_word (Swap t) x j ≡ body_word Put x j
-swap_word x t zero = refl
-swap_word x t (suc k) = refl
-
 -- a meta word by its kind
 kind_by : Bool → Bool → Bool → Option Kind
 kind_by a b d = cond (a && b) (Some IsValue) (cond d (Some Tombstone) None)

@@ -234,15 +234,3 @@ module _ (p : Pool) (c : Putting) (v : View) (o : Option Open) (x y : ℕ) (w : 
 
   pub put_went : length (body c) ≤ c.walk.pool.words + 1 → (n : Putting) (r : PutTurn) → n ≡ put_on c x → AnswersFrom c.stage c x r → Went p c n v o w o1 r
   put_went fit n r e a = subst (λ (z : Putting). Went p c z v o w o1 r) (sym (put_goes n e)) (went_from p c v o y w o1 of fit c.stage is h made r ((stands_for c.stage c x y back).2 r a))
-
--- an access that was refused leaves what the client knows
-pub refused_went : (p : Pool) (c n : Putting) (v : View) (o : Option Open) (w : View) (o1 : Option Open) (r : PutTurn) → PutHolds c v → w ≡ v → Answers c n r → OnReached r ⊥ → Went p c n v o w o1 r
-refused_went p c n v o w o1 Unreached h e a none = record { answer = a; decided = tt; known = tt; absent = tt; differs = tt; behind = tt; ahead = tt; stands = subst (λ (z : Putting). PutHolds z w) (sym a.1) (subst (PutHolds c) (sym e) h); bound = tt }
-refused_went p c n v o w o1 (Linked t) h e a none = record { answer = a; decided = tt; known = tt; absent = tt; differs = tt; behind = tt; ahead = tt; stands = tt; bound = tt }
-refused_went p c n v o w o1 More h e a none = absurd none
-refused_went p c n v o w o1 (Decided t) h e a none = absurd none
-refused_went p c n v o w o1 (Stored t) h e a none = absurd none
-refused_went p c n v o w o1 (Deleted t) h e a none = absurd none
-refused_went p c n v o w o1 (Absent t) h e a none = absurd none
-refused_went p c n v o w o1 (Differs t) h e a none = absurd none
-refused_went p c n v o w o1 (Behind k) h e a none = absurd none

@@ -15,7 +15,7 @@ use Rattle.clover_get.specs.Holding.{GetHolds, StandsOn, copied}
 use Rattle.clover_get.proofs.Counting.{length_first}
 use Rattle.clover_put.specs.Answering.{OnReached}
 use Rattle.clover_put.specs.Holding.{PutHolds, Fills, most}
-use Rattle.clover_put.specs.Putting.{Putting, Stage, Storing, Flushing, Seeking, AtMeta, AtLink, AtDead, AtOther, AtBad, AtRaise, AtShort, Over, body}
+use Rattle.clover_put.specs.Putting.{Putting, Stage, Storing, Flushing, Seeking, AtMeta, AtLink, Deciding, AtBad, AtRaise, AtShort, Over, body}
 use Rattle.clover_put.specs.declared.turn.PutTurn.{PutTurn}
 use Rattle.clover_put.specs.declared.turn.PutTurn.TheVariants.{More, Decided, Stored, Deleted, Absent, Differs, Behind, Unreached, Linked}
 use Rattle.clover_put.proofs.Known.{bounded}
@@ -57,8 +57,7 @@ most_few (Flushing j) c v h = let l = h.1 in omega arith
 most_few Seeking c v h = let l = walk_few c.walk.stand in omega arith
 most_few (AtMeta u) c v h = omega arith
 most_few (AtLink u) c v h = omega arith
-most_few (AtDead u) c v h = omega arith
-most_few (AtOther u) c v h = omega arith
+most_few (Deciding u y) c v h = omega arith
 most_few (AtBad u) c v h = omega arith
 most_few (AtRaise u) c v h = omega arith
 most_few AtShort c v h = omega arith

@@ -1,5 +1,5 @@
 -- What the answer of a walk's step says.
-use Rattle.std.specs.Prelude.{◌≡◌, ℕ, Bool, true, false, Option, Some, None}
+use Rattle.std.specs.Prelude.{◌≡◌, ℕ}
 use Rattle.clover_words.specs.Tag.{TagParts, tag_number}
 use Rattle.clover_words.specs.Version.{unlinked}
 use Rattle.clover_walk.specs.declared.turn.Turn.{Turn}
@@ -50,9 +50,3 @@ abbrev pub ShowsTail : Stand → ℕ → Type 0
 ShowsTail (AtTag t) x = x ≡ unlinked t
 ShowsTail (OnTail t) x = x ≡ unlinked t
 ShowsTail at x = ⊥
-
--- where it was known how the access ends, it is refused exactly where that was known
-abbrev pub ExactTurn : Option Bool → Turn → Type 0
-ExactTurn None r = Unit {0}
-ExactTurn (Some true) r = OnReached r ⊥
-ExactTurn (Some false) r = OnUnreached r ⊥
