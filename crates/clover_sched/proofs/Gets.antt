@@ -245,7 +245,7 @@ module _ (o : Opening) (i : ℕ) (p : Plain) (x : ClientState) (g : Getting) (in
           stands = stands_made o i p x (with_get x g1 into1 asked) s q a g.walk.first n so (links g.stage g.walk k into) same refl refl (opens, gs.pool ∙ under.1, h, under.3 ∙ sym (λ j. GetOf (key_at (names j) (slot j)))) cursors;
           follows = λ d m.
               let u = doing d m in (
-                made_step o i d p.words (length (own p.entries (suc i))) (ClientTask asked u.0.0) u.0.1 act None Quiet (sym m.refusing ∙ free) (came act so.came) (fewer d m) tt (λ w. absurd ((reads g.stage g.walk k into n).0 w)) (tt, (reads g.stage g.walk k into n).1),
+                made_step o i d p.words (length (own p.entries (suc i))) (ClientTask asked u.0.0) u.0.1 act None Quiet (sym m.refusing ∙ free) (came act so.came) (a, n, refl) (fewer d m) tt (λ w. absurd ((reads g.stage g.walk k into n).0 w)) (tt, (reads g.stage g.walk k into n).1),
                 record { refusing = refl; under = (u.0, u.1, ap (λ (l : List Act). l ++ act ∷ []) u.2 ∙ sym so.since ∙ sym (ap (λ (b : Bool). cond b [] (view_at q i).pass.since) gs.first)) },
               );
           longer = λ ne. ap (λ (b : Bool). length (cond b [] (view_at q i).pass.since)) gs.first ∙ ap length so.since ∙ length_snoc act _ ∙ ap (λ (l : List Act). suc (length l)) (sym since);
@@ -273,8 +273,8 @@ module _ (o : Opening) (i : ℕ) (p : Plain) (x : ClientState) (g : Getting) (in
           stands = stands_made o i p x (at_rest x) s q a g.walk.first n so (links g.stage g.walk k into) same refl refl tt cursors;
           follows = λ d m.
               let u = doing d m in (
-                made_step o i d p.words (length (own p.entries (suc i))) (ClientTask asked u.0.0) u.0.1 act None (Refused (suc i) (Behind turns)) (sym m.refusing ∙ free) (came act so.came) (fewer d m) tt (λ w. absurd ((reads g.stage g.walk k into n).0 w))
-                    (refl, much ∙ ap (λ (z : Setup). budget z.pool) s.setup, refl, (reads g.stage g.walk k into n).1),
+                made_step o i d p.words (length (own p.entries (suc i))) (ClientTask asked u.0.0) u.0.1 act None (Refused (suc i) (Behind turns)) (sym m.refusing ∙ free) (came act so.came) (a, n, refl) (fewer d m) tt (λ w. absurd ((reads g.stage g.walk k into n).0 w))
+                    (refl, much ∙ ap (λ (z : Setup). budget z.pool) s.setup, refl, u.1, (reads g.stage g.walk k into n).1),
                 record { refusing = refl; under = refl },
               );
           longer = λ ne. absurd (ne refl);
@@ -338,7 +338,7 @@ module _ (o : Opening) (i : ℕ) (p : Plain) (x : ClientState) (g : Getting) (in
                 let d3 : Decides o.setup.pool p.words o.names (d.since ++ act ∷ []) (GetOf k) reply = subst (λ (z : List Act). Decides o.setup.pool p.words o.names z (GetOf k) reply) acts d2 in
                 let d4 : Decides o.setup.pool p.words o.names (d.since ++ act ∷ []) asked reply = subst (λ (z : Call). Decides o.setup.pool p.words o.names (d.since ++ act ∷ []) z reply) (sym under.3) d3 in
                 let number : x.number + 1 ≡ suc (length (own p.entries (suc i))) = (let b = s.number in omega arith) in (
-                  made_step o i d p.words (length (own p.entries (suc i))) (ClientTask asked u.0.0) u.0.1 act (Some entry) (Answered c reply) (sym m.refusing ∙ free) (came act so.came) (fewer d m)
+                  made_step o i d p.words (length (own p.entries (suc i))) (ClientTask asked u.0.0) u.0.1 act (Some entry) (Answered c reply) (sym m.refusing ∙ free) (came act so.came) (a, n, refl) (fewer d m)
                       (record { access = access i act false; last = refl; made = refl; written = u.0.0; task = u.0.1; first = u.1; client = sym mine; number = number; decided = d4 })
                       (λ w. refl) (sym mine, (commit, refl)),
                   record { refusing = refl; under = refl },

@@ -269,6 +269,7 @@ module _ (o : Opening) (m : Parts) (rs : List Record) (at : IsAt o m rs) where
     idle = λ e. (refl, refl, refl);
     one = λ t e. absurd (cc (none, e));
     access = tt;
+    kind_of = λ z e. absurd cc;
     entry = tt;
     few = λ z e. absurd cc;
     commits = λ z e. absurd cc;

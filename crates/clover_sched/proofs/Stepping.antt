@@ -20,7 +20,7 @@ use Rattle.clover_sched.specs.declared.event.Note.{Note}
 use Rattle.clover_sched.specs.Alone.{EndsIn}
 use Rattle.clover_sched.specs.Client.{stock_at, Stands, Moved, Went, Matches, IsUnder, AreCursors, since_of, step_record}
 use Rattle.clover_sched.specs.Folds.{Doing, listed, words_by, made_by}
-use Rattle.clover_sched.specs.Run.{Opening, IsStep, IsEntry, IsCause, Wrote, most_made}
+use Rattle.clover_sched.specs.Run.{Opening, IsStep, IsEntry, IsCause, IsStepAct, Wrote, most_made}
 use Rattle.clover_sched.proofs.Moving.{MadeSo, RefusedSo, IsNoLink, names_kept, stock_kept}
 
 -- a call under way is none at rest
@@ -98,12 +98,13 @@ own_more h e c is =
 
 module _ (o : Opening) (i : ℕ) (d : Doing) (ws : List ℕ) (n : ℕ) (t : Task) (task : d.task ≡ Some t) (act : Act) where
   -- an access that was made is a step
-  pub made_step : (e : Option Entry) (note : Note) → d.refusing ≡ false → CameBack o.setup.pool ws act → length d.since < most_made o.setup.pool → IfSome e (IsEntry o (suc i) d ws n (step_record i (access i act false) e note))
+  pub made_step : (e : Option Entry) (note : Note) → d.refusing ≡ false → CameBack o.setup.pool ws act → IsStepAct act → length d.since < most_made o.setup.pool → IfSome e (IsEntry o (suc i) d ws n (step_record i (access i act false) e note))
       → (Wrote act → IsSome e) → IsCause o (suc i) d e act note → IsStep o (suc i) d ws n (step_record i (access i act false) e note)
-  made_step e note free came fewer entry commits cause = record {
+  made_step e note free came kind fewer entry commits cause = record {
     idle = λ q. absurd (task_there d.task t task q);
     one = λ s q. refl;
     access = record { actor = refl; refused = sym free; blank = λ q. absurd cc; replays = λ q. came };
+    kind_of = λ z q r. subst (λ (y : Access). IsStepAct y.act) (same_Some _ _ q) kind;
     entry = entry;
     few = λ z q r. fewer;
     commits = λ z q r w. commits (subst (λ (y : Access). Wrote y.act) (sym (same_Some _ _ q)) w);

@@ -173,7 +173,7 @@ module _ (o : Opening) (i : ℕ) (x : ClientState) (c n : Putting) (p q : Plain)
     step : (d : Doing) (call : Call) (m : ℕ) (note : Note) → d.task ≡ Some (ClientTask call m) → d.since ≡ cond c.walk.first [] v0.pass.since → length w0.pass.since ≤ most_made p.setup.pool → x.refusing ≡ d.refusing → x.refusing ≡ false → IsCause o (suc i) d None (act_of (put_step c v0) made.0) note
         → IsStep o (suc i) d p.words (length (own p.entries (suc i))) (step_record i (access i (act_of (put_step c v0) made.0) false) None note)
     step d call m note task since most refusing going cause =
-        made_step o i d p.words (length (own p.entries (suc i))) (ClientTask call m) task (act_of (put_step c v0) made.0) None note (sym refusing ∙ going) (subst (λ (z : Setup). CameBack z.pool p.words (act_of (put_step c v0) made.0)) st.setup made_it.came) (fewer_before p.setup o.setup d.since w0.pass.since _ st.setup (made_it.since ∙ ap (λ (l : List Act). l ++ act_of (put_step c v0) made.0 ∷ []) (sym since)) most) tt (λ h. absurd (quiet_writes c v0 made.0 miss h)) cause
+        made_step o i d p.words (length (own p.entries (suc i))) (ClientTask call m) task (act_of (put_step c v0) made.0) None note (sym refusing ∙ going) (subst (λ (z : Setup). CameBack z.pool p.words (act_of (put_step c v0) made.0)) st.setup made_it.came) (put_step c v0, made.0, refl) (fewer_before p.setup o.setup d.since w0.pass.since _ st.setup (made_it.since ∙ ap (λ (l : List Act). l ++ act_of (put_step c v0) made.0 ∷ []) (sym since)) most) tt (λ h. absurd (quiet_writes c v0 made.0 miss h)) cause
 
 -- The accesses of a call that writes, before its exchange.
 module _ (o : Opening) (i : ℕ) (x : ClientState) (c n : Putting) (call : Call) (p q : Plain) (k : ℕ) (seat : suc i ≡ k) (is : x.under ≡ Write c call) (st : Stands o p i x) (few : p.made < 2 ^ 64 - 1) where
@@ -258,7 +258,7 @@ module _ (o : Opening) (i : ℕ) (x : ClientState) (c n : Putting) (call : Call)
         stands = stands o i x c n p q st few m f.accessed miss Nothing x.cursors tt (cursors m f.accessed);
         follows = λ d h.
             let u : UnderMatches (Write c call) v d = subst (λ (z : Underway). UnderMatches z v d) is h.under in (
-              step o i x c n p q st few m f.accessed miss d call u.0.0 (Refused k (why.Behind turns)) u.0.1 u.2 (made_few i x.refusing c n p q (Behind turns) f) h.refusing (exact_made x.refusing (Behind turns) f.exact (λ z. z)) (sym seat, count, refl, before_shortens c v m.0 under.0),
+              step o i x c n p q st few m f.accessed miss d call u.0.0 (Refused k (why.Behind turns)) u.0.1 u.2 (made_few i x.refusing c n p q (Behind turns) f) h.refusing (exact_made x.refusing (Behind turns) f.exact (λ z. z)) (sym seat, count, refl, u.1, before_shortens c v m.0 under.0),
               record { refusing = refl; under = refl },
             );
         longer = λ b. absurd (b refl);
@@ -335,7 +335,7 @@ module _ (o : Opening) (i : ℕ) (x : ClientState) (c n : Putting) (call : Call)
           let u : UnderMatches (Write c call) v d = subst (λ (y : Underway). UnderMatches y v d) is m.under in
           let e : w.pass.since ≡ d.since ++ act_of a found ∷ [] = so2.since ∙ ap (λ (b : Bool). cond b [] v.pass.since ++ act_of a found ∷ []) (sym later) ∙ ap (λ (l : List Act). l ++ act_of a found ∷ []) (sym u.2) in
           made_step o i d p.words (length (own p.entries (suc i))) (ClientTask call u.0.0) u.0.1 (act_of a found) (Some entry) note (sym m.refusing ∙ going) (subst (λ (y : Setup). CameBack y.pool p.words (act_of a found)) st.setup so2.came)
-          (fewer_before p.setup o.setup d.since w.pass.since _ st.setup e most)
+          (a, found, refl) (fewer_before p.setup o.setup d.since w.pass.since _ st.setup e most)
           (record {
             access = access i (act_of a found) false;
             last = refl;

@@ -15,7 +15,7 @@ use Rattle.clover_script.specs.declared.line.Task.TheVariants.{Client as ClientT
 use Rattle.clover_rule.specs.Accesses.{CameBack, Decides, wrote_link}
 use Rattle.clover_rule.specs.Lists.{Within}
 use Rattle.clover_rule.specs.Memory.{home}
-use Rattle.clover_rule.specs.Steps.{linked}
+use Rattle.clover_rule.specs.Steps.{Step as ClientStep, linked, act_of}
 use Rattle.clover_rule.specs.Words.{buffer_at, root_code}
 use Rattle.clover_rule.specs.declared.access.Access.{Access}
 use Rattle.clover_rule.specs.declared.access.Act.{Act}
@@ -130,8 +130,12 @@ IsAnswer o d (Some e) act r = (IsCommit r ≡ false) × (e.reply ≡ r)
 abbrev pub IsCause : Opening → ℕ → Doing → Option Entry → Act → Note → Type 0
 IsCause o a d e act Quiet = IfSome e (λ (x : Entry). IsCommit x.reply ≡ true) × (Shortens act → ⊥)
 IsCause o a d e act (Answered c r) = (c ≡ a) × IsAnswer o d e act r
-IsCause o a d e act (Refused c (Behind n)) = (c ≡ a) × (n ≡ budget o.setup.pool) × (e ≡ None) × (Shortens act → ⊥)
+IsCause o a d e act (Refused c (Behind n)) = (c ≡ a) × (n ≡ budget o.setup.pool) × (e ≡ None) × (d.decided ≡ None) × (Shortens act → ⊥)
 IsCause o a d e act note = ⊥
+
+-- the act is that of a step that a client makes
+abbrev pub IsStepAct : Act → Type 0
+IsStepAct act = (a : ClientStep) × (n : ℕ) × (act ≡ act_of a n)
 
 -- the most accesses of one call, which ends once its turns reach the budget
 abbrev pub most_made : Pool → ℕ
@@ -142,6 +146,7 @@ pub record IsStep (o : Opening) (a : ℕ) (d : Doing) (ws : List ℕ) (n : ℕ) 
   pub idle : d.task ≡ None → Still r Quiet
   pub one : (t : Task) → d.task ≡ Some t → IsSome r.access
   pub access : IfSome r.access (IsAccess o.setup.pool a d ws)
+  pub kind_of : (x : Access) → r.access ≡ Some x → x.refused ≡ false → IsStepAct x.act
   pub entry : IfSome r.entry (IsEntry o a d ws n r)
   pub few : (x : Access) → r.access ≡ Some x → x.refused ≡ false → length d.since < most_made o.setup.pool
   pub commits : (x : Access) → r.access ≡ Some x → x.refused ≡ false → Wrote x.act → IsSome r.entry
