@@ -52,6 +52,7 @@ stands_kept o p q i x k s =
 moved_kept : (i : ℕ) (a : Access) (e : Option Entry) (p p1 q : Plain) → Kept p p1 → Moved i a e p1 q → Moved i a e p q
 moved_kept i a e p p1 q k m = record {
   words = m.words ∙ (λ z. words_by (k.setup z).pool (k.words z) (Some a));
+  last = m.last;
   others = λ j ne. m.others j ne ∙ kept_view j p p1 k;
   seats = m.seats ∙ ap length k.views;
   entries = m.entries ∙ ap (λ (l : List Entry). l ++ listed e) k.entries;

@@ -114,9 +114,14 @@ spent_by under n = n
 abbrev pub spent : ClientState → ℕ
 spent x = spent_by x.under x.taken
 
+-- the act is the last of these
+abbrev pub IsLast : Act → List Act → Type 0
+IsLast act acts = (before : List Act) × (acts ≡ before ++ act ∷ [])
+
 -- One access of the client of seat i changed the pool so, and added this entry or none.
 pub record Moved (i : ℕ) (x : Access) (e : Option Entry) (p q : Plain) : Type 0 where
   pub words : q.words ≡ words_by p.setup.pool p.words (Some x)
+  pub last : x.refused ≡ false → IsLast x.act (view_at q i).pass.since
   pub others : (j : ℕ) → j ≢ i → view_at q j ≡ view_at p j
   pub seats : length q.views ≡ length p.views
   pub entries : q.entries ≡ p.entries ++ listed e
