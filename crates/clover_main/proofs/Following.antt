@@ -23,7 +23,7 @@ fits_access : (o : Opening) (before : List Record) (r : Record) (e : Event) → 
 fits_access o before r (Begin a t) still x is made = let no : None ≡ Some x = sym still.0 ∙ is in cc
 fits_access o before r (Step a) step x is made =
     let P : Option Access → Type 0 = λ y. IfSome y (IsAccess o.setup.pool a (doing a before) (words_after o.setup.pool o.words before)) in
-    (subst P is step.access).replays made
+    (subst P is step.0.access).replays made
 fits_access o before r (Refuse a) still x is made = let no : None ≡ Some x = sym still.0 ∙ is in cc
 
 -- an entry has its client's next number
@@ -31,7 +31,7 @@ fits_entry : (o : Opening) (before : List Record) (r : Record) (e : Event) → F
 fits_entry o before r (Begin a t) still x is = let no : None ≡ Some x = sym still.1 ∙ is in cc
 fits_entry o before r (Step a) step x is =
     let P : Option Entry → Type 0 = λ y. IfSome y (IsEntry o a (doing a before) (words_after o.setup.pool o.words before) (length (own (entries_in before) a)) r) in
-    let here = subst P is step.entry in
+    let here = subst P is step.0.entry in
     here.number ∙ ap (λ c. suc (length (own (entries_in before) c))) (sym here.client)
 fits_entry o before r (Refuse a) still x is = let no : None ≡ Some x = sym still.1 ∙ is in cc
 

@@ -24,7 +24,6 @@ step_refused o i d ws n act note t task going blank told = record {
   idle = λ none. absurd (task_there d.task t task none);
   one = λ u h. refl;
   access = record { actor = refl; refused = sym going; blank = λ q. blank; replays = λ q. absurd (let z : true ≡ false = q in cc) };
-  kind_of = λ x is made. absurd (let z : true ≡ false = ap (λ (y : Access). y.refused) (same_Some _ _ is) ∙ made in cc);
   entry = tt;
   few = λ x is made. absurd (let z : true ≡ false = ap (λ (y : Access). y.refused) (same_Some _ _ is) ∙ made in cc);
   commits = λ x is made. absurd (let z : true ≡ false = ap (λ (y : Access). y.refused) (same_Some _ _ is) ∙ made in cc);

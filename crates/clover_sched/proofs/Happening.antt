@@ -138,6 +138,7 @@ kept_at o m n rs same at =
         matches = subst (λ (v : View). Matches x v (doing (suc i) rs)) (sym (view i)) was.matches;
         spent = was.spent;
         cursors = was.cursors;
+        goes = was.goes;
       };
       far = at.far;
       legal = at.legal;

@@ -121,7 +121,8 @@ made_at m s keys setup names slots apart running fresh clients = record {
     each : (i : ℕ) (x : ClientState) → nth (replicate s.clients idle_client) i ≡ Some x → IsClientAt (record { setup = s; words = m.pool.words; names = bindings_from 0 keys }) m.pool i x []
     each i x here = subst (λ (y : ClientState). IsClientAt (record { setup = s; words = m.pool.words; names = bindings_from 0 keys }) m.pool i y []) (sym (nth_replicate s.clients i idle_client x here)) (record {
       stands = stands i (subst (λ (n : ℕ). i < n) (length-replicate s.clients idle_client) (nth_within (replicate s.clients idle_client) i x here));
-      matches = record { refusing = refl; under = refl };
+      matches = record { refusing = refl; under = refl; taken = refl };
       spent = omega arith;
       cursors = remembers_none (bindings_from 0 keys);
+      goes = λ busy. absurd (busy refl);
     })

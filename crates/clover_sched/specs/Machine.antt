@@ -28,11 +28,13 @@ use Rattle.clover_sched.specs.declared.event.Event.{Event}
 use Rattle.clover_sched.specs.declared.event.Event.TheVariants.{Begin, Step, Refuse}
 use Rattle.clover_sched.specs.declared.event.Note.{Note}
 use Rattle.clover_sched.specs.Alone.{AllFound, AloneSoFar}
+use Rattle.clover_sched.specs.Calling.{Calling, own_words}
+use Rattle.clover_sched.specs.Calls.{UnderStands}
 use Rattle.clover_sched.specs.Client.{Stands, Matches, IsLast, IsTask, spent, since_of}
 use Rattle.clover_sched.specs.Ends.{ended, IsLatest}
-use Rattle.clover_sched.specs.Folds.{entries_in, accesses_in, words_after, made_in, doing, along}
+use Rattle.clover_sched.specs.Folds.{Doing, entries_in, accesses_in, words_after, made_in, doing, along}
 use Rattle.clover_sched.specs.Record.{Record}
-use Rattle.clover_sched.specs.Run.{Opening, IsRun, most_made}
+use Rattle.clover_sched.specs.Run.{Opening, IsRun, IsCalling, own_of, most_made}
 
 pub record Parts : Type 0 where
   pub setup : Setup
@@ -69,12 +71,20 @@ pub record Remembers (names : List (ℕ × List ℕ)) (k : Known) (h : List (Lis
   pub last : MatchOption k.last (h ≡ []) (λ q. (rest : List (List ℕ × ℕ)) × (h ≡ (key_at names q.0, tag_number q.1) ∷ rest) × Within (q.0, key_at names q.0) names)
   pub list : All (λ q. IsLatest (key_at names q.0) (tag_number q.1) h × Within (q.0, key_at names q.0) names) k.list
 
+-- Where a call is under way, it is a call with room for its version in a buffer, and stands where its acts since its start have led it, by the definition of what a call does.
+pub record GoesSoFar (o : Opening) (a : ℕ) (d : Doing) (h : List (List ℕ × ℕ)) (u : Underway) : Type 0 where
+  pub stands : Calling
+  pub calling : IsCalling o a d h d.since stands
+  pub under : UnderStands u calling.call (own_of o.setup a d.taken) stands
+  pub fits : length (own_words calling.call) ≤ o.setup.pool.words + 1
+
 -- The client of seat i is as these records left it.
 pub record IsClientAt (o : Opening) (p : Plain) (i : ℕ) (x : ClientState) (rs : List Record) : Type 0 where
   pub stands : Stands o p i x
   pub matches : Matches x (view_at p i) (doing (suc i) rs)
   pub spent : spent x ≤ asked (suc i) rs
   pub cursors : Remembers o.names x.cursors (ended (suc i) rs)
+  pub goes : x.under ≢ Nothing → GoesSoFar o (suc i) (doing (suc i) rs) (ended (suc i) rs) x.under
 
 -- The machine stands where these records lead.
 pub record IsAt (o : Opening) (m : Parts) (rs : List Record) : Type 0 where
