@@ -22,8 +22,7 @@ use Rattle.clover_main.specs.Replay.{IsScriptOf, IsReplay, LacksMemory, HasStopp
 use Rattle.clover_main.specs.Running.{PutsEnding, Ran, Fails}
 use Rattle.clover_main.specs.declared.output.Stop.{Stop}
 use Rattle.clover_main.specs.declared.output.Stop.TheVariants.{Memory, Write}
-use Rattle.clover_main.proofs.Committing.{legal_committed}
-use Rattle.clover_main.proofs.Following.{run_replays, run_numbered}
+use Rattle.clover_main.proofs.Following.{lawful_at}
 use Rattle.clover_main.proofs.Listening.{lines_served}
 use Rattle.clover_main.proofs.Pieces.{front_then, whole_put}
 
@@ -32,13 +31,7 @@ module _ (o : Opening) (lines : List Line) (t : Bool) where
   performed m a b w x = record {
     records = x.more;
     covers = x.kind;
-    run = x.at.run;
-    replays = run_replays o x.more x.at.run;
-    legal = x.at.legal;
-    numbered = run_numbered o x.more x.at.run;
-    whole = legal_committed (entries_in x.more) x.at.legal;
-    found = x.at.found;
-    alone = x.at.alone.all;
+    lawful = lawful_at o m x.more x.at;
     printed = refl;
   }
 
@@ -47,12 +40,12 @@ module _ (o : Opening) (lines : List Line) (t : Bool) where
   begun_all m a b w x = record {
     records = x.more;
     opens = record { done = lines; rest = []; before = x.more; part = []; split = sym (append-nil lines); all = sym (append-nil x.more); covers = x.kind; begun = refl };
-    run = x.at.run;
+    lawful = lawful_at o m x.more x.at;
     printed = refl;
   }
 
   begun_some : (stop : Stop) (a c : Option (List ℕ)) → (f : Fails o t [] stop a c [] (Opens lines)) → IsBeginning o lines t (flat_map (said t) f.more)
-  begun_some stop a c f = record { records = f.more; opens = f.kind; run = f.run; printed = refl }
+  begun_some stop a c f = record { records = f.more; opens = f.kind; lawful = f.lawful; printed = refl }
 
 -- the text is a script of these lines, which begins there
 abbrev pub Begins : List ℕ → Opening → List Line → Type 1

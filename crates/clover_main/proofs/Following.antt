@@ -1,4 +1,4 @@
--- what holds of every run: its accesses replay, and each client's entries are numbered
+-- what holds of every run: its accesses replay, and each client's entries are numbered; and of the records behind which a machine stands
 use Rattle.std.proofs.Common.{suc, ◌≡◌, ◌+◌, ℕ, Bool, true, false, cond, List, [], ◌∷◌, ◌++◌, length, Option, Some, None, refl, ap, subst, sym, ◌∙◌, arith, append-nil, append_assoc}
 use Rattle.std.specs.Prelude.{IfSome, if◌then◌else◌}
 use Rattle.clover_words.specs.declared.pool.Pool.{Pool}
@@ -9,18 +9,21 @@ use Rattle.clover_rule.specs.Accesses.{CameBack, words_after_act, ActsReplay, do
 use Rattle.clover_rule.specs.declared.access.Access.{Access}
 use Rattle.clover_rule.specs.declared.access.Act.{Act}
 use Rattle.clover_sched.specs.Folds.{listed, accesses_in, entries_in, words_by, words_after, doing}
+use Rattle.clover_sched.specs.Machine.{Parts, IsAt}
 use Rattle.clover_sched.specs.Record.{Record}
 use Rattle.clover_sched.specs.Run.{Opening, IsAccess, IsEntry, Fits, Goes, IsRun}
 use Rattle.clover_sched.specs.declared.event.Event.{Event}
 use Rattle.clover_sched.specs.declared.event.Event.TheVariants.{Begin, Step, Refuse}
 use Rattle.clover_sched.proofs.Pasts.{entries_more, words_more}
+use Rattle.clover_main.specs.Performing.{IsLawful}
+use Rattle.clover_main.proofs.Committing.{legal_committed}
 
 -- an access that was made came back with what the words give
 fits_access : (o : Opening) (before : List Record) (r : Record) (e : Event) → Fits o before r e → (x : Access) → r.access ≡ Some x → x.refused ≡ false → CameBack o.setup.pool (words_after o.setup.pool o.words before) x.act
 fits_access o before r (Begin a t) still x is made = let no : None ≡ Some x = sym still.0 ∙ is in cc
 fits_access o before r (Step a) step x is made =
     let P : Option Access → Type 0 = λ y. IfSome y (IsAccess o.setup.pool a (doing a before) (words_after o.setup.pool o.words before)) in
-    (subst P is step.access).replays made
+    (subst P is step.0.access).replays made
 fits_access o before r (Refuse a) still x is made = let no : None ≡ Some x = sym still.0 ∙ is in cc
 
 -- an entry has its client's next number
@@ -28,7 +31,7 @@ fits_entry : (o : Opening) (before : List Record) (r : Record) (e : Event) → F
 fits_entry o before r (Begin a t) still x is = let no : None ≡ Some x = sym still.1 ∙ is in cc
 fits_entry o before r (Step a) step x is =
     let P : Option Entry → Type 0 = λ y. IfSome y (IsEntry o a (doing a before) (words_after o.setup.pool o.words before) (length (own (entries_in before) a)) r) in
-    let here = subst P is step.entry in
+    let here = subst P is step.0.entry in
     here.number ∙ ap (λ c. suc (length (own (entries_in before) c))) (sym here.client)
 fits_entry o before r (Refuse a) still x is = let no : None ≡ Some x = sym still.1 ∙ is in cc
 
@@ -65,3 +68,15 @@ numbered_on o before (r ∷ rs) h all =
 -- each client's entries of a run are numbered from 1
 pub run_numbered : (o : Opening) (rs : List Record) → IsRun o rs → IsNumberedByClient (entries_in rs)
 run_numbered o rs run = numbered_on o [] rs run (λ c. tt)
+
+-- what holds of the records behind which a machine stands
+pub lawful_at : (o : Opening) (m : Parts) (rs : List Record) → IsAt o m rs → IsLawful o rs
+lawful_at o m rs at = record {
+  run = at.run;
+  replays = run_replays o rs at.run;
+  legal = at.legal;
+  numbered = run_numbered o rs at.run;
+  whole = legal_committed (entries_in rs) at.legal;
+  found = at.found;
+  alone = at.alone.all;
+}

@@ -7,14 +7,16 @@ use Rattle.clover_rule.specs.declared.access.Access.{Access}
 use Rattle.clover_sched.specs.Folds.{listed, accesses_in}
 use Rattle.clover_sched.specs.Machine.{Parts, IsAt}
 use Rattle.clover_sched.specs.Record.{Record}
-use Rattle.clover_sched.specs.Run.{Opening, IsRun}
+use Rattle.clover_sched.specs.Run.{Opening}
 use Rattle.clover_sched.specs.Text.{said, traced}
 use Rattle.clover_sched.specs.declared.event.Event.{Event}
 use Rattle.clover_sched.specs.declared.event.Note.{Note}
 use Rattle.clover_main.specs.Causes.{AppendsFront}
+use Rattle.clover_main.specs.Performing.{IsLawful}
 use Rattle.clover_main.specs.Running.{Says, Puts, PutsEnding, Ran, Fails, IsOne, IsAtMostOne}
 use Rattle.clover_main.specs.declared.output.Stop.{Stop}
 use Rattle.clover_main.specs.declared.output.Stop.TheVariants.{Memory, Write}
+use Rattle.clover_main.proofs.Following.{lawful_at}
 use Rattle.clover_main.proofs.Puts.{front_of_first}
 
 pub all_said : (t : Bool) (rs qs : List Record) → flat_map (said t) (rs ++ qs) ≡ flat_map (said t) rs ++ flat_map (said t) qs
@@ -93,13 +95,13 @@ module _ (o : Opening) (t : Bool) (rs : List Record) where
   fails_then stop m a b c w v P Q R x y k = record {
     more = x.more ++ y.more;
     kind = k;
-    run = subst (λ l. IsRun o l) (append_assoc rs x.more y.more) y.run;
+    lawful = subst (λ l. IsLawful o l) (append_assoc rs x.more y.more) y.lawful;
     puts = subst (λ l. Puts stop a c (w ++ l)) (sym (all_said t x.more y.more)) (puts_then stop a b c w v (flat_map (said t) x.more) (flat_map (said t) y.more) x.says y.puts);
   }
 
   -- nothing happened
   pub fails_none : (stop : Stop) (m : Parts) (a b : Option (List ℕ)) (w : List ℕ) (Is : List Record → Type 0) → IsAt o m rs → Is [] → Puts stop a b w → Fails o t rs stop a b w Is
-  fails_none stop m a b w Is at k put = record { more = []; kind = k; run = subst (λ l. IsRun o l) (sym (append-nil rs)) at.run; puts = puts_nothing stop a b w put }
+  fails_none stop m a b w Is at k put = record { more = []; kind = k; lawful = subst (λ l. IsLawful o l) (sym (append-nil rs)) (lawful_at o m rs at); puts = puts_nothing stop a b w put }
 
   -- an event happened, and what it prints joined what waits and went on
   pub ran_one : (m : Parts) (a b : Option (List ℕ)) (w v u : List ℕ) (e : Event) (note : Note) (r : Record) → r.event ≡ e → r.note ≡ note → IsAt o m (rs ++ r ∷ []) → v ≡ w ++ said t r → Says a b v u []
@@ -120,6 +122,6 @@ module _ (o : Opening) (t : Bool) (rs : List Record) where
   fails_one stop m a b w v e r why is at grown f = record {
     more = r ∷ [];
     kind = inr (r, refl, is);
-    run = at.run;
+    lawful = lawful_at o m (rs ++ r ∷ []) at;
     puts = subst (λ (s : Stop). Puts s a b (w ++ flat_map (said t) (r ∷ []))) (sym why) (subst (λ l. AppendsFront a b l) (grown ∙ ap (λ l. w ++ l) (sym (append-nil (said t r)))) f);
   }

@@ -33,10 +33,8 @@ IsCommitted h k t v = (e : Entry) × Within e h × (e.reply ≡ Stored t) × Sto
 abbrev pub AllCommitted : List Entry → Type 0
 AllCommitted h = (before after : List Entry) (e : Entry) (k : List ℕ) (t : ℕ) (v : Value) → h ≡ before ++ e ∷ after → e.call ≡ Get k → e.reply ≡ Found t v → IsCommitted before k t v
 
--- Out is the text of a run of the lines: its accesses replay, its history is legal and in each client's order, no value is torn, and a call that runs alone is answered at exactly its cost.
-pub record IsPerformed (o : Opening) (lines : List Line) (t : Bool) (out : List ℕ) : Type 0 where
-  pub records : List Record
-  pub covers : Covers lines [] records
+-- The records are a run whose accesses replay; its history is legal and in each client's order, and no value is torn. At every moment each named key has a chain with a tail, and a call that runs alone is answered at exactly its cost.
+pub record IsLawful (o : Opening) (records : List Record) : Type 0 where
   pub run : IsRun o records
   pub replays : Replays o.setup.pool o.words (accesses_in records)
   pub legal : Legal empty [] (entries_in records)
@@ -44,13 +42,19 @@ pub record IsPerformed (o : Opening) (lines : List Line) (t : Bool) (out : List 
   pub whole : AllCommitted (entries_in records)
   pub found : AllFound o records
   pub alone : AllAlone o records
+
+-- Out is the text of a run of the lines.
+pub record IsPerformed (o : Opening) (lines : List Line) (t : Bool) (out : List ℕ) : Type 0 where
+  pub records : List Record
+  pub covers : Covers lines [] records
+  pub lawful : IsLawful o records
   pub printed : out ≡ text t records
 
 -- Out is what the beginning of a run of the lines prints.
 pub record IsBeginning (o : Opening) (lines : List Line) (t : Bool) (out : List ℕ) : Type 0 where
   pub records : List Record
   pub opens : Opens lines records
-  pub run : IsRun o records
+  pub lawful : IsLawful o records
   pub printed : out ≡ flat_map (said t) records
 
 -- the text of a run, or what the beginning of one prints

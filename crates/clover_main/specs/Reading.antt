@@ -12,6 +12,12 @@ pub record Reads (left after : Option (List ℕ)) (text : List ℕ) : Type 0 whe
   pub ended : IsAtEnd after
   pub short : length text ≤ input_limit
 
+-- At most one byte more than an input may have was taken.
+pub record TakesFew (left after : Option (List ℕ)) : Type 0 where
+  pub bytes : List ℕ
+  pub few : length bytes ≤ input_limit + 1
+  pub taken : Consumes left after bytes
+
 -- As many bytes as an input may have were taken, and one more.
 pub record TakesMore (left after : Option (List ℕ)) : Type 0 where
   pub bytes : List ℕ

@@ -6,7 +6,7 @@ use Rattle.clover_script.specs.declared.line.Line.{Line}
 use Rattle.clover_sched.specs.Lines.{Stands, Covers}
 use Rattle.clover_sched.specs.Machine.{Parts, IsAt}
 use Rattle.clover_sched.specs.Record.{Record}
-use Rattle.clover_sched.specs.Run.{Opening, IsRun}
+use Rattle.clover_sched.specs.Run.{Opening}
 use Rattle.clover_sched.specs.Text.{said}
 use Rattle.clover_sched.specs.declared.event.Event.{Event}
 use Rattle.clover_sched.specs.declared.event.Event.TheVariants.{Step}
@@ -14,6 +14,7 @@ use Rattle.clover_sched.specs.declared.event.Note.{Note}
 use Rattle.clover_main.specs.Beginnings.{IsPartOrAll}
 use Rattle.clover_main.specs.Causes.{AppendsFront}
 use Rattle.clover_main.specs.Hearing.{Heard}
+use Rattle.clover_main.specs.Performing.{IsLawful}
 use Rattle.clover_main.specs.declared.output.Stop.{Stop}
 use Rattle.clover_main.specs.declared.output.Stop.TheVariants.{Memory, Write}
 
@@ -44,7 +45,7 @@ pub record Ran (o : Opening) (t : Bool) (rs : List Record) (n : Parts) (taken no
 pub record Fails (o : Opening) (t : Bool) (rs : List Record) (stop : Stop) (taken now : Option (List ℕ)) (wait : List ℕ) (Is : List Record → Type 0) : Type 0 where
   pub more : List Record
   pub kind : Is more
-  pub run : IsRun o (rs ++ more)
+  pub lawful : IsLawful o (rs ++ more)
   pub puts : Puts stop taken now (wait ++ flat_map (said t) more)
 
 -- what no event changes

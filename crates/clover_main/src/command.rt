@@ -1,6 +1,7 @@
 // The top call.
 ghost use Rattle.std.specs.Prelude.{◌≡◌, ◌≤◌, ◌↔◌, ◌⊎◌, ℕ, List, Bool, Some, IfSome, IfNone};
 ghost use Rattle.clover_main.specs.Causes.{Rose, Writes};
+ghost use Rattle.clover_main.specs.Reading.{TakesFew};
 ghost use Rattle.clover_main.specs.Refusing.{line_of};
 ghost use Rattle.clover_main.specs.Replay.{Replays, StopsShort, LacksMemory, Refuses, IsExact};
 ghost use Rattle.clover_main.specs.Words.{AskForReplay};
@@ -25,6 +26,8 @@ pub fn clover<S: Source, K: Sink>(
     ensures read_fault { result ≡ 2 → Refuses 2 (S.left source.old) (S.left source.new) (S.faults source.old) (S.faults source.new) (K.taken sink.old) (K.taken sink.new) (K.faults sink.old) (K.faults sink.new) }
     ensures write_fault { result ≡ 3 → Rose (K.faults sink.old) (K.faults sink.new) × ((trace : Bool) × AskForReplay trace words.now × StopsShort trace (S.left source.old) (S.left source.new) (K.taken sink.old) (K.taken sink.new)) }
     ensures memory { result ≡ 4 → (trace : Bool) × AskForReplay trace words.now × LacksMemory trace (S.left source.old) (S.left source.new) (K.taken sink.old) (K.taken sink.new) (K.faults sink.old) (K.faults sink.new) }
+    ensures no_fault { result ≡ 4 → S.faults source.new ≡ S.faults source.old }
+    ensures few { TakesFew (S.left source.old) (S.left source.new) }
     ensures bad_words { (result ≡ 6) ↔ ((trace : Bool) → AskForReplay trace words.now → ⊥) }
     ensures bad_words_line { result ≡ 6 → (source.new ≡ source.old) × Writes (K.taken sink.old) (K.taken sink.new) (K.faults sink.old) (K.faults sink.new) (line_of BadWords) }
     ensures no_other { (result ≤ 4) ⊎ (result ≡ 6) }

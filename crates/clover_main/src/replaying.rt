@@ -4,7 +4,7 @@ ghost use Rattle.std.specs.Io.KnownBytes.{Appends};
 ghost use Rattle.clover_script.specs.Line.{Spoken};
 ghost use Rattle.clover_script.specs.Lines.{IsLinesOf};
 ghost use Rattle.clover_main.specs.Causes.{Rose};
-ghost use Rattle.clover_main.specs.Reading.{Reads};
+ghost use Rattle.clover_main.specs.Reading.{Reads, TakesFew};
 ghost use Rattle.clover_main.specs.Refusing.{HasShown};
 ghost use Rattle.clover_main.specs.Replay.{IsReplay, Replays, StopsShort, LacksMemory, HasStopped, Refuses, IsExact};
 
@@ -31,6 +31,10 @@ pub fn replay<S: Source, K: Sink>(alloc: Global, trace: bool, source: &mut S, si
     ensures write_fault { result ≡ 3 → Rose (K.faults sink.old) (K.faults sink.new) × StopsShort trace (S.left source.old) (S.left source.new) (K.taken sink.old) (K.taken sink.new) }
     // What was said before stays, and the line of want of memory stands behind it.
     ensures memory { result ≡ 4 → LacksMemory trace (S.left source.old) (S.left source.new) (K.taken sink.old) (K.taken sink.new) (K.faults sink.old) (K.faults sink.new) }
+    // A failed read is not told as want of memory.
+    ensures no_fault { result ≡ 4 → S.faults source.new ≡ S.faults source.old }
+    // Reading ends one byte past the limit at the latest.
+    ensures few { TakesFew (S.left source.old) (S.left source.new) }
     ensures no_other { result ≤ 4 }
     // Where no count rises, only want of memory keeps a script from being replayed, and any other text from being refused.
     ensures exact { (text : List ℕ) → S.left source.old ≡ Some text → (Rose (S.faults source.old) (S.faults source.new) → ⊥) → (Rose (K.faults sink.old) (K.faults sink.new) → ⊥) → IsExact text result }
@@ -46,6 +50,8 @@ fn attempt<S: Source, K: Sink>(alloc: Global, trace: bool, source: &mut S, sink:
     ensures read_fault { result ≡ 2 → Refuses 2 (S.left source.old) (S.left source.new) (S.faults source.old) (S.faults source.new) (K.taken sink.old) (K.taken sink.new) (K.faults sink.old) (K.faults sink.new) }
     ensures write_fault { result ≡ 3 → Rose (K.faults sink.old) (K.faults sink.new) × StopsShort trace (S.left source.old) (S.left source.new) (K.taken sink.old) (K.taken sink.new) }
     ensures memory { result ≡ 4 → LacksMemory trace (S.left source.old) (S.left source.new) (K.taken sink.old) (K.taken sink.new) (K.faults sink.old) (K.faults sink.new) }
+    ensures no_fault { result ≡ 4 → S.faults source.new ≡ S.faults source.old }
+    ensures few { TakesFew (S.left source.old) (S.left source.new) }
     ensures no_other { result ≤ 4 }
 {
     match script_of(alloc, source) {
@@ -71,6 +77,7 @@ fn script_of<S: Source>(alloc: Global, source: &mut S) -> Result<Script, Refusal
     ensures script { IfOk result (λ script. (said : List Spoken) × IsLinesOf script.text.items script.outline.setup said script.outline.names) }
     ensures quiet { IfOk result (λ script. S.faults source.new ≡ S.faults source.old) }
     ensures err { IfErr result (λ refusal. HasShown (S.left source.old) (S.left source.new) (S.faults source.old) (S.faults source.new) refusal) }
+    ensures few { TakesFew (S.left source.old) (S.left source.new) }
 {
     let text = read_all(alloc, source)?;
     match check_lines(alloc, &text) {

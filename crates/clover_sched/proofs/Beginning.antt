@@ -21,7 +21,7 @@ use Rattle.clover_script.specs.declared.line.Task.{Task}
 use Rattle.clover_script.specs.declared.line.Task.TheVariants.{Client as ClientTask}
 use Rattle.clover_rule.specs.Content.{InRange}
 use Rattle.clover_rule.specs.Lists.{Within}
-use Rattle.clover_rule.specs.Steps.{number_of as role_number}
+use Rattle.clover_rule.specs.Steps.{reply_of, number_of as role_number}
 use Rattle.clover_rule.specs.declared.view.Role.TheVariants.{Client as ClientRole}
 use Rattle.clover_rule.specs.declared.view.View.{View}
 use Rattle.clover_rule.proofs.Ties.{test_below}
@@ -34,17 +34,17 @@ use Rattle.clover_walk.specs.Walking.{Walking, Holds, IsOnWay, made_walk, key_at
 use Rattle.clover_walk.proofs.Calling.{made_holds as walk_holds, IsCursor as IsWalkCursor}
 use Rattle.clover_get.specs.Getting.{Getting, getting, Seeking}
 use Rattle.clover_get.proofs.Begins.{get_begins}
-use Rattle.clover_put.specs.Putting.{call_of}
+use Rattle.clover_put.specs.Putting.{call_of, call_at}
 use Rattle.clover_put.specs.declared.job.Job.{Job}
 use Rattle.clover_put.specs.declared.job.Job.TheVariants.{Put, Delete, Swap}
 use Rattle.clover_put.proofs.Calling.{made_holds as put_holds}
 use Rattle.clover_sched.specs.declared.client.ClientState.{ClientState}
 use Rattle.clover_sched.specs.declared.client.Underway.{Underway}
-use Rattle.clover_sched.specs.declared.client.Underway.TheVariants.{Nothing, Get}
+use Rattle.clover_sched.specs.declared.client.Underway.TheVariants.{Nothing, Get, Write, Raise}
 use Rattle.clover_sched.specs.declared.event.Note.TheVariants.{Quiet, Missing, Refused}
 use Rattle.clover_sched.specs.declared.event.CallRefusal.TheVariants.{TooLong}
 use Rattle.clover_sched.specs.Beginning.{IsBegun, begun_put, no_value}
-use Rattle.clover_sched.specs.Client.{Stands, Starts, Begins, IsTask, IsCursor, AreCursors, size_of, UnderMatches, IsUnder, spent_by, stock_at}
+use Rattle.clover_sched.specs.Client.{Stands, Matches, Starts, Begins, IsTask, IsCursor, AreCursors, size_of, UnderMatches, IsUnder, spent_by, stock_at, taken_by}
 use Rattle.clover_sched.specs.Folds.{Doing}
 use Rattle.clover_sched.specs.Run.{Opening, begin_note, room}
 use Rattle.clover_sched.proofs.Cursoring.{cursors_asked, cursor_held}
@@ -128,7 +128,7 @@ module _ (o : Opening) (p : Plain) (i slot : ℕ) (x : ClientState) (idle : x.un
           e ∙ ap (λ (k : List ℕ). call_of j k value) (sym key_is),
         )
 
-  module _ (u : Underway) (k : Known) (asks : k ≡ asked slot x.cursors) (call : Call) (written : ℕ) (is : IsUnder o.setup.pool v u) (new : (d : Doing) → UnderMatches u v (record { task = Some (ClientTask call written); decided = None; since = []; refusing = d.refusing }))
+  module _ (u : Underway) (k : Known) (asks : k ≡ asked slot x.cursors) (call : Call) (written : ℕ) (is : IsUnder o.setup.pool v u) (new : (d : Doing) → UnderMatches u v (record { task = Some (ClientTask call written); decided = None; since = []; refusing = d.refusing; taken = d.taken }))
       (more : spent_by u x.taken ≤ x.taken + takes call) (fits : written ≤ room o.setup) (first : Starts o (suc i) x.taken x.cursors call u) where
     going : Begins o p i x (after u k) (ClientTask call written) Quiet
     going = record {
@@ -147,12 +147,22 @@ module _ (o : Opening) (p : Plain) (i slot : ℕ) (x : ClientState) (idle : x.un
         cursors = subst (AreCursors o.setup.pool v) (sym asks) (cursors_asked o.setup.pool v slot x.cursors st.cursors);
       };
       says = λ d none. says d none;
-      matches = λ d m. record { refusing = m.refusing; under = new d };
+      matches = λ d m. record { refusing = m.refusing; under = new d; taken = taken d m };
       spent = subst (λ (z : Underway). spent_by u x.taken ≤ spent_by z x.taken + takes call) (sym idle) more;
       starts = λ q. first;
       asks = inr (slot, asks);
     }
       where
+        -- a call that has just begun has committed nothing
+        fresh : (d : Doing) (z : Underway) → UnderMatches z v (record { task = Some (ClientTask call written); decided = None; since = []; refusing = d.refusing; taken = d.taken }) → taken_by z d.taken ≡ d.taken
+        fresh d Nothing h = refl
+        fresh d (Get g into asked) h = refl
+        fresh d (Write c asked) h = refl
+        fresh d (Raise c) h = absurd (let none : None ≡ Some (reply_of c.own (call_at c v)) = h.1 in cc)
+
+        taken : (d : Doing) → Matches x v d → x.taken ≡ taken_by u d.taken
+        taken d m = subst (λ (z : Underway). x.taken ≡ taken_by z d.taken) idle m.taken ∙ sym (fresh d u (new d))
+
         there : ltb o.setup.clients (suc i) ≡ false
         there = let a = st.seat in grind (arith, nat_tests)
 

@@ -37,17 +37,18 @@ use Rattle.clover_sched.specs.declared.client.Underway.TheVariants.{Nothing, Get
 use Rattle.clover_sched.specs.declared.event.CallRefusal.TheVariants.{Unreached, Behind}
 use Rattle.clover_sched.specs.declared.event.Note.TheVariants.{Quiet, Answered, Refused}
 use Rattle.clover_sched.specs.Alone.{GetEnds, EndsIn, Advances}
-use Rattle.clover_sched.specs.Client.{Stands, Moved, Went, Matches, UnderMatches, IsUnder, IsCursor, AreCursors, SetsCursor, since_of, slot_of, spent, spent_by}
+use Rattle.clover_sched.specs.Client.{Stands, Moved, MakesDue, Went, Matches, UnderMatches, IsUnder, IsCursor, AreCursors, SetsCursor, since_of, slot_of, spent, spent_by, taken_by}
 use Rattle.clover_sched.specs.Ends.{end_tag}
 use Rattle.clover_sched.specs.Folds.{Doing}
 use Rattle.clover_sched.specs.Run.{Opening, IsCommit, lost, most_made}
 use Rattle.clover_sched.proofs.Advancing.{get_goes_on, get_answers, get_stays_ahead}
 use Rattle.clover_sched.proofs.Cursoring.{KnowsMore, knows_more, cursors_kept, cursors_set}
+use Rattle.clover_sched.proofs.GetCalls.{Misses, get_goes, get_falls, get_ends}
 use Rattle.clover_sched.proofs.Lefts.{get_few}
 use Rattle.clover_sched.proofs.Moving.{MadeSo, IsNoLink, made_so, refused_so, names_kept, moved_quiet, moved_entered, moved_refused}
 use Rattle.clover_sched.proofs.Places.{same_snoc}
 use Rattle.clover_sched.proofs.Going.{step_refused}
-use Rattle.clover_sched.proofs.Stepping.{made_step, stands_made, stands_entered, stands_refused}
+use Rattle.clover_sched.proofs.Stepping.{no_more, none_taken, plain_taken, made_step, stands_made, stands_entered, stands_refused}
 use Rattle.clover_sched.proofs.Walks.{Reads, on_walk, walk_reads, walk_links, walk_quiet}
 
 -- the walk is on the same slot of the same pool, and its call has made an access
@@ -107,12 +108,6 @@ links (AtFound t f) w k into = tt
 links (AtDead t) w k into = tt
 links (AtBad t) w k into = tt
 links Over w k into = walk_links w.slot w.stand
-
--- a last load shows the tag not unlinked
-abbrev Misses : Stage → ℕ → Type 0
-Misses (AtFound t f) x = (x == unlinked t) ≡ false
-Misses (AtDead t) x = (x == unlinked t) ≡ false
-Misses s x = Unit {0}
 
 -- the history is as it was
 quiet : (s : Stage) (w : Walking) (k : List ℕ) (into : ValueBuf) (h : List Entry) (v : View) (x : ℕ) → Misses s x → next_history (step_from s w k into) h v x ≡ h
@@ -189,6 +184,9 @@ module _ (o : Opening) (i : ℕ) (p : Plain) (x : ClientState) (g : Getting) (in
   fewer : (d : Doing) → Matches x (view_at p i) d → length d.since < most_made o.setup.pool
   fewer d m = subst (λ (l : List Act). length l < most_made o.setup.pool) (sym (doing d m).2) (get_few o.setup.pool g (view_at p i) into under.1 under.2)
 
+  taken_so : (d : Doing) → Matches x (view_at p i) d → x.taken ≡ d.taken
+  taken_so d m = subst (λ (u : Underway). x.taken ≡ taken_by u d.taken) is m.taken
+
   below : i < length p.views
   below = let a = s.seats in let b = s.seat in omega arith
 
@@ -247,11 +245,12 @@ module _ (o : Opening) (i : ℕ) (p : Plain) (x : ClientState) (g : Getting) (in
           follows = λ d m.
               let u = doing d m in (
                 made_step o i d p.words (length (own p.entries (suc i))) (ClientTask asked u.0.0) u.0.1 act None Quiet (sym m.refusing ∙ free) (came act so.came) (fewer d m) tt (λ w. absurd ((reads g.stage g.walk k into n).0 w)) (tt, (reads g.stage g.walk k into n).1),
-                record { refusing = refl; under = (u.0, u.1, ap (λ (l : List Act). l ++ act ∷ []) u.2 ∙ sym so.since ∙ sym (ap (λ (b : Bool). cond b [] (view_at q i).pass.since) gs.first)) },
+                record { refusing = refl; under = (u.0, u.1, ap (λ (l : List Act). l ++ act ∷ []) u.2 ∙ sym so.since ∙ sym (ap (λ (b : Bool). cond b [] (view_at q i).pass.since) gs.first)); taken = taken_so d m },
               );
           longer = λ ne. ap (λ (b : Bool). length (cond b [] (view_at q i).pass.since)) gs.first ∙ ap length so.since ∙ length_snoc act _ ∙ ap (λ (l : List Act). suc (length l)) (sym since);
           spent = spends;
           cursor = refl;
+          calls = λ made1. subst (λ (u : Underway). MakesDue u (Get g1 into1 asked) act Quiet) (sym is) (get_goes g (view_at p i) into asked k n under.3 under.2.stage k g1 (view_at q i) into1 h.stage (going_misses g.stage g.walk into1.length n g1 go opens) go fills);
           alone = λ m free e. get_goes_on (suc i) o.setup.pool m (view_at p i) (moment p.words g into) (moment q.words g1 into1) (ends m e) under.0 (alone g1 into1 go fills) asked opens;
         }
 
@@ -275,12 +274,13 @@ module _ (o : Opening) (i : ℕ) (p : Plain) (x : ClientState) (g : Getting) (in
           follows = λ d m.
               let u = doing d m in (
                 made_step o i d p.words (length (own p.entries (suc i))) (ClientTask asked u.0.0) u.0.1 act None (Refused (suc i) (Behind turns)) (sym m.refusing ∙ free) (came act so.came) (fewer d m) tt (λ w. absurd ((reads g.stage g.walk k into n).0 w))
-                    (refl, much ∙ ap (λ (z : Setup). budget z.pool) s.setup, refl, (reads g.stage g.walk k into n).1),
-                record { refusing = refl; under = refl },
+                    (refl, much ∙ ap (λ (z : Setup). budget z.pool) s.setup, refl, u.1, (reads g.stage g.walk k into n).1),
+                record { refusing = refl; under = refl; taken = taken_so d m ∙ none_taken d.taken d.decided u.1 },
               );
           longer = λ ne. absurd (ne refl);
           spent = spends;
           cursor = refl;
+          calls = λ made1. subst (λ (u : Underway). MakesDue u Nothing act (Refused (suc i) (Behind turns))) (sym is) (get_falls g (view_at p i) into asked k n under.3 under.2.stage k g1 into1 (suc i) (Behind turns) over (turning_misses g.stage g.walk k into n turned) go fills);
           alone = λ m free e. absurd (get_stays_ahead (suc i) o.setup.pool m (view_at p i) (moment p.words g into) (moment q.words g1 into1) (ends m e) under.0 (alone g1 into1 go fills) over
               (subst (λ (y : ℕ). turn_of a y ≢ 0) (so.here ∙ ap (λ (z : Setup). found z.pool a p.words) s.setup) turned));
         }
@@ -342,10 +342,12 @@ module _ (o : Opening) (i : ℕ) (p : Plain) (x : ClientState) (g : Getting) (in
                   made_step o i d p.words (length (own p.entries (suc i))) (ClientTask asked u.0.0) u.0.1 act (Some entry) (Answered c reply) (sym m.refusing ∙ free) (came act so.came) (fewer d m)
                       (record { access = access i act false; last = refl; made = refl; written = u.0.0; task = u.0.1; first = u.1; client = sym mine; number = number; decided = d4 })
                       (λ w. refl) (sym mine, (commit, refl)),
-                  record { refusing = refl; under = refl },
+                  record { refusing = refl; under = refl; taken = taken_so d m ∙ plain_taken d.taken reply commit },
                 );
             longer = λ ne. absurd (ne refl);
             spent = spends;
+            calls = λ made1. subst (λ (u : Underway). MakesDue u Nothing act (Answered c reply)) (sym is) (get_ends g v into asked k n under.3 under.2.stage k c reply
+                (λ miss. no_more (history p) _ (sym grows ∙ so.history ∙ quiet g.stage g.walk k into (history p) v n miss)));
             cursor = subst (λ (u : Underway). SetsCursor (slot_of u) act (Answered c reply) x.cursors known) (sym is) (tail, ap (end_tag reply) last_act ∙ tells, is_set);
             alone = λ m free e. subst (λ (y : ℕ). Advances (suc i) o.setup.pool m r.words Nothing (Answered y reply)) mine
                 (get_answers (suc i) o.setup.pool m (view_at p i) (moment p.words g into) (moment q.words g1 into1) (ends m e) under.0 (alone g1 into1 go fills) r.words reply over);
@@ -362,9 +364,10 @@ module _ (o : Opening) (i : ℕ) (p : Plain) (x : ClientState) (g : Getting) (in
         stands = stands_refused o i p x (at_rest x) s q r refl refl tt refl;
         follows = λ d m.
             let u = doing d m in
-            (step_refused o i d p.words (length (own p.entries (suc i))) r.act (Refused (suc i) Unreached) (ClientTask asked u.0.0) u.0.1 (sym m.refusing ∙ refused) r.blank (ap (λ (y : Option Reply). Refused (suc i) (lost y)) (sym u.1)), record { refusing = refl; under = refl });
+            (step_refused o i d p.words (length (own p.entries (suc i))) r.act (Refused (suc i) Unreached) (ClientTask asked u.0.0) u.0.1 (sym m.refusing ∙ refused) r.blank (ap (λ (y : Option Reply). Refused (suc i) (lost y)) (sym u.1)), record { refusing = refl; under = refl; taken = taken_so d m ∙ none_taken d.taken d.decided u.1 });
         longer = λ ne. absurd (ne refl);
         spent = spends;
         cursor = refl;
+        calls = λ free. absurd (let z : true ≡ false = free in cc);
         alone = λ m free e. absurd (let z : true ≡ false = free in cc);
       }

@@ -3,7 +3,7 @@ use Rattle.std.proofs.Common.{◌≡◌, ◌≢◌, ℕ, ◌-◌, ◌≤◌, ◌
 use Rattle.std.specs.Prelude.{Option, Some, None, Result, Ok, Err, IfSome, IfOk, OnErr, slice_get, if◌then◌else◌}
 use Rattle.std.specs.FinMap as finite
 use Rattle.std.proofs.lemmas.Result.{IfOk-weaker}
-use Rattle.std.proofs.lemmas.Option.{IfSome_then}
+use Rattle.std.proofs.lemmas.Option.{IfSome_then, same_Some}
 use Rattle.clover_words.specs.Tag.{tag_number}
 use Rattle.clover_map.specs.Legal.{Legal}
 use Rattle.clover_map.specs.declared.bytes.OutOfMemory.{OutOfMemory}
@@ -17,6 +17,7 @@ use Rattle.clover_rule.specs.Content.{InRange}
 use Rattle.clover_rule.specs.Lists.{nth, Within}
 use Rattle.clover_rule.specs.Preset.{bindings_from}
 use Rattle.clover_rule.specs.Rule.{longest}
+use Rattle.clover_rule.specs.declared.access.Access.{Access}
 use Rattle.clover_rule.specs.declared.view.View.{View}
 use Rattle.clover_rule.proofs.Steps.{set_here}
 use Rattle.clover_rule.proofs.Tools.{nth_past}
@@ -27,9 +28,9 @@ use Rattle.clover_script.specs.declared.line.Task.{Task}
 use Rattle.clover_script.specs.declared.line.Task.TheVariants.{Client as ClientTask}
 use Rattle.clover_plain.specs.Preset.{AreDistinct}
 use Rattle.clover_sched.specs.Alone.{AloneSoFar}
-use Rattle.clover_sched.specs.Client.{Stands, Matches, Went, Begins, IsUnder, spent, spent_by, since_of}
+use Rattle.clover_sched.specs.Client.{Stands, Matches, Went, Begins, IsUnder, IsLast, spent, spent_by, since_of, step_record}
 use Rattle.clover_sched.specs.Folds.{accesses_in, doing}
-use Rattle.clover_sched.specs.Machine.{Parts, IsAt, IsBehind, IsSame, IsBusy, IsFitting, HasCall, MayCome, left, left_of, left_by}
+use Rattle.clover_sched.specs.Machine.{Parts, IsAt, IsBehind, IsSame, IsBusy, IsFitting, HasCall, MayCome, Happens, IsTold, left, left_of, left_by}
 use Rattle.clover_sched.specs.Record.{Record}
 use Rattle.clover_sched.specs.Run.{Opening, most_made}
 use Rattle.clover_sched.specs.declared.client.ClientState.{ClientState}
@@ -47,9 +48,9 @@ use Rattle.clover_sched.proofs.Onward.{with_client, with_pool, refusing, begun_m
 use Rattle.clover_sched.proofs.Bound.{bound_within, bound_key}
 use Rattle.clover_sched.proofs.Places.{nth_here, nth_get, set_same}
 
--- the event came to this note, and leads from one machine to another
-abbrev pub Happens : Parts → Parts → Event → Note → Type 0
-Happens m n e note = (o : Opening) (rs : List Record) → IsAt o m rs → (r : Record) × (r.event ≡ e) × (r.note ≡ note) × IsAt o n (rs ++ r ∷ [])
+-- no access was made
+none_made : (x : Access) → None ≡ Some x → ⊥
+none_made x is = cc
 
 pub behind : (m n : Parts) (e : Event) (note : Note) → Happens m n e note → IsBehind m → IsBehind n
 behind m n e note h b = let x = h b.0 b.1 b.2 in (b.0, b.1 ++ x.0 ∷ [], x.3)
@@ -60,6 +61,13 @@ not_busy (Get g into call) h = absurd (h (λ e. cc))
 not_busy (Write c call) h = absurd (h (λ e. cc))
 not_busy (Raise c) h = absurd (h (λ e. cc))
 
+-- the access of a client's step is the last that it was told
+went_told : (o : Opening) (m : Parts) (i : ℕ) (x y : ClientState) (q : Plain) (note : Note) → (w : Went o i x y m.pool q note) → IsTold (with_pool m i y q) (step_record i w.access w.entry note)
+went_told o m i x y q note w z is free =
+    let same : w.access ≡ z = same_Some _ _ is in
+    let last : IsLast w.access.act (view_at q i).pass.since = w.moved.last (ap (λ (k : Access). k.refused) same ∙ free) in
+    (i, refl, subst (λ (k : Access). IsLast k.act (view_at q i).pass.since) same last)
+
 module _ (m : Parts) (a : ℕ) (one : 1 ≤ a) where
   same_actor : suc (a - 1) ≡ a
   same_actor = omega arith
@@ -69,22 +77,22 @@ module _ (m : Parts) (a : ℕ) (one : 1 ≤ a) where
   above o rs at past = let n = at.clients in omega arith
 
   pub missing_happens : (t : Task) → length m.clients ≤ a - 1 → Happens m m (Begin a t) (Missing a)
-  missing_happens t past o rs at = (_, refl, refl, begun_missing o m rs at a t (above o rs at past))
+  missing_happens t past o rs at = (_, refl, refl, begun_missing o m rs at a t (above o rs at past), λ z is free. absurd (none_made z is))
 
   pub refused_nobody : length m.clients ≤ a - 1 → Happens m m (Refuse a) Quiet
-  refused_nobody past o rs at = (_, refl, refl, refused_far o m rs at a (above o rs at past))
+  refused_nobody past o rs at = (_, refl, refl, refused_far o m rs at a (above o rs at past), λ z is free. absurd (none_made z is))
 
   -- there is one
   pub busy_happens : (t : Task) (x : ClientState) → nth m.clients (a - 1) ≡ Some x → x.under ≢ Nothing → Happens m m (Begin a t) (Busy a)
-  busy_happens t x here busy o rs at = (_, ap (λ (b : ℕ). Begin b t) same_actor, ap Busy same_actor, begun_busy o m rs at (a - 1) x t here busy)
+  busy_happens t x here busy o rs at = (_, ap (λ (b : ℕ). Begin b t) same_actor, ap Busy same_actor, begun_busy o m rs at (a - 1) x t here busy, λ z is free. absurd (none_made z is))
 
   pub refused_happens : (x : ClientState) → nth m.clients (a - 1) ≡ Some x → Happens m (with_client m (a - 1) (refusing x)) (Refuse a) Quiet
-  refused_happens x here o rs at = (_, ap Refuse same_actor, refl, refused_client o m rs at (a - 1) x here)
+  refused_happens x here o rs at = (_, ap Refuse same_actor, refl, refused_client o m rs at (a - 1) x here, λ z is free. absurd (none_made z is))
 
   -- no call is under way
   quiet_at : (z : Option ClientState) → nth m.clients (a - 1) ≡ z → (IsBusy m a → ⊥) → Happens m m (Step a) Quiet
-  quiet_at None past not o rs at = (_, refl, refl, idled_far o m rs at a (above o rs at (nth_past m.clients (a - 1) past)))
-  quiet_at (Some x) here not o rs at = (_, ap Step same_actor, refl, idled_client o m rs at (a - 1) x here (not_busy x.under (λ (busy : x.under ≢ Nothing). not (a - 1, same_actor, subst HasCall (sym here) busy))))
+  quiet_at None past not o rs at = (_, refl, refl, idled_far o m rs at a (above o rs at (nth_past m.clients (a - 1) past)), λ z is free. absurd (none_made z is))
+  quiet_at (Some x) here not o rs at = (_, ap Step same_actor, refl, idled_client o m rs at (a - 1) x here (not_busy x.under (λ (busy : x.under ≢ Nothing). not (a - 1, same_actor, subst HasCall (sym here) busy))), λ z is free. absurd (none_made z is))
 
   pub quiet_happens : (IsBusy m a → ⊥) → Happens m m (Step a) Quiet
   quiet_happens not = quiet_at (nth m.clients (a - 1)) refl not
@@ -92,7 +100,7 @@ module _ (m : Parts) (a : ℕ) (one : 1 ≤ a) where
   -- a client without a call begins
   pub begin_happens : (t : Task) (x y : ClientState) (note : Note) → nth m.clients (a - 1) ≡ Some x → x.under ≡ Nothing
       → ((o : Opening) (rs : List Record) → IsAt o m rs → Stands o m.pool (a - 1) x → Begins o m.pool (a - 1) x y t note) → (m.pool.opened ≡ true → Running m.pool) → Happens m (with_client m (a - 1) y) (Begin a t) note
-  begin_happens t x y note here idle begins running o rs at = (_, ap (λ (b : ℕ). Begin b t) same_actor, refl, begun_client o m rs at (a - 1) x y t note here idle (begins o rs at (at.each (a - 1) x here).stands) (running at.pool.opened))
+  begin_happens t x y note here idle begins running o rs at = (_, ap (λ (b : ℕ). Begin b t) same_actor, refl, begun_client o m rs at (a - 1) x y t note here idle (begins o rs at (at.each (a - 1) x here).stands) (running at.pool.opened), λ z is free. absurd (none_made z is))
 
   -- a client with a call makes an access
   pub step_happens : (x y : ClientState) (q : Plain) (note : Note) → nth m.clients (a - 1) ≡ Some x → ((o : Opening) (i : ℕ) → suc i ≡ a → Stands o m.pool i x → Went o i x y m.pool q note) → (q.opened ≡ true → Running q)
@@ -101,7 +109,7 @@ module _ (m : Parts) (a : ℕ) (one : 1 ≤ a) where
       let w = went o (a - 1) same_actor (at.each (a - 1) x here).stands in
       let runs : Running q = running (w.moved.opened ∙ at.pool.opened) in
       let legal : Legal finite.empty [] (history q) = runs.rule.history_and_map.legal in
-      (_, ap Step same_actor, refl, stepped_client o m rs at (a - 1) x y q note here w runs (subst (λ (h : List Entry). Legal finite.empty [] h) (sym w.moved.entered) legal))
+      (_, ap Step same_actor, refl, stepped_client o m rs at (a - 1) x y q note here w runs (subst (λ (h : List Entry). Legal finite.empty [] h) (sym w.moved.entered) legal), went_told o m (a - 1) x y q note w)
 
 pub kept_at : (o : Opening) (m n : Parts) (rs : List Record) → IsSame m n → IsAt o m rs → IsAt o n rs
 kept_at o m n rs same at =
@@ -130,6 +138,7 @@ kept_at o m n rs same at =
         matches = subst (λ (v : View). Matches x v (doing (suc i) rs)) (sym (view i)) was.matches;
         spent = was.spent;
         cursors = was.cursors;
+        goes = was.goes;
       };
       far = at.far;
       legal = at.legal;

@@ -27,7 +27,7 @@ use Rattle.clover_sched.specs.declared.client.Underway.{Underway}
 use Rattle.clover_sched.specs.declared.client.Underway.TheVariants.{Nothing, Get, Write, Raise}
 
 -- the accesses of a get since its last turn
-copied_few : (s : GetStage) (w : Walking) (v : View) (into : ValueBuf) → StandsOn s w v into → copied s w.stand w.pool.words ≤ 5 + w.pool.words
+pub copied_few : (s : GetStage) (w : Walking) (v : View) (into : ValueBuf) → StandsOn s w v into → copied s w.stand w.pool.words ≤ 5 + w.pool.words
 copied_few GetSeeking w v into h = let l = walk_few w.stand in omega arith
 copied_few (GetMeta t) w v into h = omega arith
 copied_few (AtValue t f j) w v into h = let a : j < (into.length + 7) / 8 = h.1 in let b = h.2.size in omega arith

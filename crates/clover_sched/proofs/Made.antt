@@ -3,6 +3,7 @@ use Rattle.std.proofs.Common.{◌≡◌, ℕ, ◌≤◌, ◌<◌, ◌-◌, suc, 
 use Rattle.std.specs.Prelude.{Some, None, slice_get, if◌then◌else◌}
 use Rattle.std.proofs.lemmas.List.Elements.{All-nil}
 use Rattle.std.proofs.lemmas.List.{length-replicate}
+use Rattle.clover_words.specs.Place.{pool_words}
 use Rattle.clover_words.specs.Preset.{buffers_total}
 use Rattle.clover_words.specs.declared.setup.Setup.{Setup}
 use Rattle.clover_map.specs.History.{own}
@@ -48,9 +49,9 @@ pub record IsFresh (s : Setup) (keys : List (List ℕ)) (p : Plain) : Type 0 whe
 pub opening : Setup → List (List ℕ) → Plain → Opening
 opening s keys p = record { setup = s; words = p.words; names = bindings_from 0 keys }
 
-pub is_opening : (s : Setup) (keys : List (List ℕ)) (p : Plain) → IsFresh s keys p → IsOpening s keys (opening s keys p)
+pub is_opening : (s : Setup) (keys : List (List ℕ)) (p : Plain) → IsFresh s keys p → Running p → IsOpening s keys (opening s keys p)
 unfolding opening
-is_opening s keys p fresh = record { setup = refl; names = refl; words = fresh.preset }
+is_opening s keys p fresh running = record { setup = refl; names = refl; sized = running.rule.helped.sized ∙ ap (λ (z : Setup). pool_words z.pool) fresh.setup; words = fresh.preset }
 
 pub made_at : (m : Parts) (s : Setup) (keys : List (List ℕ)) → m.setup ≡ s → m.names ≡ keys → length keys ≤ s.pool.slots → AreDistinct keys → (m.pool.opened ≡ true → Running m.pool) → IsFresh s keys m.pool → m.clients ≡ replicate s.clients idle_client → IsAt (opening s keys m.pool) m []
 unfolding opening
@@ -120,7 +121,8 @@ made_at m s keys setup names slots apart running fresh clients = record {
     each : (i : ℕ) (x : ClientState) → nth (replicate s.clients idle_client) i ≡ Some x → IsClientAt (record { setup = s; words = m.pool.words; names = bindings_from 0 keys }) m.pool i x []
     each i x here = subst (λ (y : ClientState). IsClientAt (record { setup = s; words = m.pool.words; names = bindings_from 0 keys }) m.pool i y []) (sym (nth_replicate s.clients i idle_client x here)) (record {
       stands = stands i (subst (λ (n : ℕ). i < n) (length-replicate s.clients idle_client) (nth_within (replicate s.clients idle_client) i x here));
-      matches = record { refusing = refl; under = refl };
+      matches = record { refusing = refl; under = refl; taken = refl };
       spent = omega arith;
       cursors = remembers_none (bindings_from 0 keys);
+      goes = λ busy. absurd (busy refl);
     })

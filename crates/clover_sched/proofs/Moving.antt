@@ -260,6 +260,7 @@ refused_so i p q below same (inr (a, r)) = record {
 pub moved_quiet : (i : ℕ) (p q : Plain) (a : Step) (b : Bool) (x : ℕ) → MadeSo i p q a b x → p.entries ≡ history p → next_history a (history p) (view_at p i) x ≡ history p → Moved i (access i (act_of a x) false) None p q
 moved_quiet i p q a b x m e n = record {
   words = m.words;
+  last = λ free. (cond b [] (view_at p i).pass.since, m.since);
   others = m.others;
   seats = m.seats;
   entries = m.entries ∙ sym (append-nil p.entries);
@@ -278,6 +279,7 @@ pub moved_entered : (i : ℕ) (p q r : Plain) (a : Step) (b : Bool) (x : ℕ) (e
     → r.entries ≡ q.entries ++ e ∷ [] → KeptButEntries q r → Moved i (access i (act_of a x) false) (Some e) p r
 moved_entered i p q r a b x e m entered n more k = record {
   words = k.words ∙ m.words;
+  last = λ free. (cond b [] (view_at p i).pass.since, (λ z. (get_or (k.views z) i (outset (k.setup z))).pass.since) ∙ m.since);
   others = λ j ne. (λ z. get_or (k.views z) j (outset (k.setup z))) ∙ m.others j ne;
   seats = ap length k.views ∙ m.seats;
   entries = more ∙ ap (λ (l : List Entry). l ++ e ∷ []) m.entries;
@@ -295,6 +297,7 @@ moved_entered i p q r a b x e m entered n more k = record {
 pub moved_refused : (i : ℕ) (p q : Plain) (h : RefusedSo i p q) → p.entries ≡ history p → Moved i (access i h.act true) None p q
 moved_refused i p q h e = record {
   words = h.words;
+  last = λ made. absurd (let z : true ≡ false = made in cc);
   others = λ j ne. λ z. get_or (h.views z) j (outset (h.setup z));
   seats = ap length h.views;
   entries = h.entries ∙ sym (append-nil p.entries);

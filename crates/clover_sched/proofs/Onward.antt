@@ -3,7 +3,7 @@ use Rattle.std.proofs.Common.{◌≡◌, ◌≢◌, ℕ, ◌+◌, ◌≤◌, ◌
 use Rattle.std.specs.Prelude.{Option, Some, None, ◌==◌, if◌then◌else◌, IfSome}
 use Rattle.std.specs.FinMap as finite
 use Rattle.std.proofs.lemmas.Bool.{lt-ltb, le-ltb}
-use Rattle.std.proofs.lemmas.Option.{IfSome_then}
+use Rattle.std.proofs.lemmas.Option.{IfSome_then, same_Some}
 use Rattle.std.proofs.lemmas.List.{length-set}
 use Rattle.std.proofs.lemmas.List.Elements.{filter-append}
 use native.Mathlib.Decide.{ℕ_discrete}
@@ -26,24 +26,25 @@ use Rattle.clover_script.specs.Form.{call_in}
 use Rattle.clover_script.specs.declared.line.Task.{Task}
 use Rattle.clover_script.specs.declared.line.Task.TheVariants.{Client as ClientTask}
 use Rattle.clover_sched.specs.Alone.{OpensCall, IsOwnStep, Finds, RunsAlone, cost_of, EndsIn, NotesWith, AloneSoFar, AllFound, HasChain}
-use Rattle.clover_sched.specs.Client.{Stands, AreCursors, Matches, UnderMatches, Moved, Went, Starts, Begins, IsUnder, spent, slot_of, step_record}
+use Rattle.clover_sched.specs.Client.{Stands, AreCursors, Matches, UnderMatches, Moved, Went, Starts, Begins, IsUnder, spent, since_of, slot_of, taken_by, step_record}
 use Rattle.clover_sched.specs.Ends.{ended, MayBegin}
-use Rattle.clover_sched.specs.Folds.{listed, accesses_in, entries_in, words_by, words_after, made_by, made_in, Doing, actor_of, does, doing}
-use Rattle.clover_sched.specs.Machine.{Parts, Remembers, IsAt, IsPoolAt, IsClientAt, asked}
+use Rattle.clover_sched.specs.Folds.{listed, accesses_in, entries_in, words_by, words_after, made_by, made_in, Doing, actor_of, rested, takes_by, replied, begun, stepped, ends, does, doing}
+use Rattle.clover_sched.specs.Machine.{Parts, Remembers, GoesSoFar, IsAt, IsPoolAt, IsClientAt, asked}
 use Rattle.clover_sched.specs.Record.{Record}
-use Rattle.clover_sched.specs.Run.{Opening, Follows, IsStep, IsEntry, begin_note}
+use Rattle.clover_sched.specs.Run.{Opening, Follows, IsStep, IsEntry, AllDue, IsDue, lost, begin_note}
 use Rattle.clover_sched.specs.declared.client.ClientState.{ClientState}
 use Rattle.clover_sched.specs.declared.client.Underway.{Underway}
 use Rattle.clover_sched.specs.declared.client.Underway.TheVariants.{Nothing, Get, Write, Raise}
 use Rattle.clover_sched.specs.declared.event.Event.{Event}
 use Rattle.clover_sched.specs.declared.event.Event.TheVariants.{Begin, Step, Refuse}
 use Rattle.clover_sched.specs.declared.event.Note.{Note}
-use Rattle.clover_sched.specs.declared.event.Note.TheVariants.{Quiet, Busy, Missing}
+use Rattle.clover_sched.specs.declared.event.Note.TheVariants.{Quiet, Answered, Refused, Busy, Missing}
 use Rattle.clover_sched.proofs.Pasts.{accesses_more, entries_more, words_more, made_more, goes_more, doing_own, doing_other, asked_least, asked_own, ended_more}
 use Rattle.clover_sched.proofs.Finding.{begins_alone, chain_here}
 use Rattle.clover_sched.proofs.Alone.{all_found_more, alone_more}
 use Rattle.clover_sched.proofs.Bound.{AreBindings, bindings_are}
 use Rattle.clover_sched.proofs.Cursoring.{cursor_held}
+use Rattle.clover_sched.proofs.Dues.{goes_as, goes_first, leads_on, is_due, ended_not}
 use Rattle.clover_sched.proofs.Remembering.{IsOn, AnswersOnly, ended_still, ended_other, answers_own, under_on, remembers_asked, remembers_step, may_begin}
 
 -- one record more, from what it owes
@@ -99,15 +100,17 @@ other_client o p q i x rs r at apart stands same stays = record {
   matches = subst (λ (v : View). Matches x v (doing (suc i) (rs ++ r ∷ []))) (sym same) (subst (λ (d : Doing). Matches x (view_at p i) d) (sym (doing_other (suc i) rs r apart)) at.matches);
   spent = let l = asked_least (suc i) rs r in let s = at.spent in omega arith;
   cursors = subst (Remembers o.names x.cursors) (sym stays) at.cursors;
+  goes = λ busy. let e = doing_other (suc i) rs r apart in goes_as o (suc i) (doing (suc i) rs) (doing (suc i) (rs ++ r ∷ [])) (ended (suc i) rs) (ended (suc i) (rs ++ r ∷ [])) x.under (ap (λ (d : Doing). d.task) e) (ap (λ (d : Doing). d.since) e) (ap (λ (d : Doing). d.taken) e) stays (at.goes busy);
 }
 
 -- the client of which it is
-own_client : (o : Opening) (q : Plain) (i : ℕ) (y : ClientState) (rs : List Record) (r : Record) → actor_of r.event ≡ suc i → Stands o q i y → Matches y (view_at q i) (does (doing (suc i) rs) r r.event) → spent y ≤ asked (suc i) (rs ++ r ∷ []) → Remembers o.names y.cursors (ended (suc i) (rs ++ r ∷ [])) → IsClientAt o q i y (rs ++ r ∷ [])
-own_client o q i y rs r e stands matches few cursors = record {
+own_client : (o : Opening) (q : Plain) (i : ℕ) (y : ClientState) (rs : List Record) (r : Record) → actor_of r.event ≡ suc i → Stands o q i y → Matches y (view_at q i) (does (doing (suc i) rs) r r.event) → spent y ≤ asked (suc i) (rs ++ r ∷ []) → Remembers o.names y.cursors (ended (suc i) (rs ++ r ∷ [])) → (y.under ≢ Nothing → GoesSoFar o (suc i) (does (doing (suc i) rs) r r.event) (ended (suc i) (rs ++ r ∷ [])) y.under) → IsClientAt o q i y (rs ++ r ∷ [])
+own_client o q i y rs r e stands matches few cursors goes = record {
   stands = stands;
   matches = subst (λ (d : Doing). Matches y (view_at q i) d) (sym (doing_own (suc i) rs r e)) matches;
   spent = few;
   cursors = cursors;
+  goes = λ busy. subst (λ (d : Doing). GoesSoFar o (suc i) d (ended (suc i) (rs ++ r ∷ [])) y.under) (sym (doing_own (suc i) rs r e)) (goes busy);
 }
 
 -- the clients where that of one place is another
@@ -177,7 +180,8 @@ module _ (o : Opening) (m : Parts) (rs : List Record) (at : IsAt o m rs) where
 
       each : (i : ℕ) (x : ClientState) → nth m.clients i ≡ Some x → IsClientAt o m.pool i x (rs ++ still e note ∷ [])
       each i x here = let was = at.each i x here in dite (ℕ_discrete (actor_of e) (suc i))
-          (λ (h : actor_of e ≡ suc i). own_client o m.pool i x rs (still e note) h was.stands (subst (λ (d : Doing). Matches x (view_at m.pool i) d) (sym (same (doing (suc i) rs))) was.matches) (let l = asked_least (suc i) rs (still e note) in let s = was.spent in omega arith) (subst (Remembers o.names x.cursors) (sym (still_ended (suc i) e note)) was.cursors))
+          (λ (h : actor_of e ≡ suc i). own_client o m.pool i x rs (still e note) h was.stands (subst (λ (d : Doing). Matches x (view_at m.pool i) d) (sym (same (doing (suc i) rs))) was.matches) (let l = asked_least (suc i) rs (still e note) in let s = was.spent in omega arith) (subst (Remembers o.names x.cursors) (sym (still_ended (suc i) e note)) was.cursors)
+          (λ busy. subst (λ (d : Doing). GoesSoFar o (suc i) d (ended (suc i) (rs ++ still e note ∷ [])) x.under) (sym (same (doing (suc i) rs))) (subst (λ (l : List (List ℕ × ℕ)). GoesSoFar o (suc i) (doing (suc i) rs) l x.under) (sym (still_ended (suc i) e note)) (was.goes busy))))
           (λ h. other_client o m.pool m.pool i x rs (still e note) was h was.stands refl (still_ended (suc i) e note))
 
   -- an actor that there is not
@@ -198,33 +202,35 @@ module _ (o : Opening) (m : Parts) (rs : List Record) (at : IsAt o m rs) where
   absent : (i : ℕ) (x : ClientState) → nth m.clients i ≡ Some x → o.setup.clients < suc i → ⊥
   absent i x here above = let l = seated i x here in omega arith
 
+  -- what is under way has a task
+  task_of : (u : Underway) (v : View) (d : Doing) → UnderMatches u v d → u ≢ Nothing → (s : Task) × (d.task ≡ Some s)
+  task_of Nothing v d h not = absurd (not refl)
+  task_of (Get g into call) v d h not = (ClientTask call h.0.0, h.0.1)
+  task_of (Write c call) v d h not = (ClientTask call h.0.0, h.0.1)
+  task_of (Raise c) v d h not = (ClientTask _ h.0.0, h.0.1)
+
   -- an actor whose call is not over
   pub begun_busy : (i : ℕ) (x : ClientState) (t : Task) → nth m.clients i ≡ Some x → x.under ≢ Nothing → IsAt o m (rs ++ still (Begin (suc i) t) (Busy (suc i)) ∷ [])
   begun_busy i x t here busy = stayed (Begin (suc i) t) (Busy (suc i)) (refl, refl, told) (λ d. refl) (λ c call s. let q : Busy (suc i) ≡ Quiet = s.quiet in absurd cc)
     where
-      has : (u : Underway) (v : View) (d : Doing) → UnderMatches u v d → u ≢ Nothing → (s : Task) × (d.task ≡ Some s)
-      has Nothing v d h not = absurd (not refl)
-      has (Get g into call) v d h not = (ClientTask call h.0.0, h.0.1)
-      has (Write c call) v d h not = (ClientTask call h.0.0, h.0.1)
-      has (Raise c) v d h not = (ClientTask _ h.0.0, h.0.1)
-
       if_false : (b : Bool) (y z : Note) → b ≡ false → (if b then y else z) ≡ z
       if_false true y z e = absurd cc
       if_false false y z e = refl
 
       busy_note : (d : Doing) (s u : Task) → d.task ≡ Some s → begin_note o.setup d (suc i) u ≡ Busy (suc i)
       busy_note d s (ClientTask call written) e =
-          ap (λ (z : Option Task). begin_note o.setup (record { task = z; decided = d.decided; since = d.since; refusing = d.refusing }) (suc i) (ClientTask call written)) e
+          ap (λ (z : Option Task). begin_note o.setup (record { task = z; decided = d.decided; since = d.since; refusing = d.refusing; taken = d.taken }) (suc i) (ClientTask call written)) e
           ∙ if_false (ltb o.setup.clients (suc i)) (Missing (suc i)) (Busy (suc i)) (le-ltb o.setup.clients (suc i) (seated i x here))
 
       told : Busy (suc i) ≡ begin_note o.setup (doing (suc i) rs) (suc i) t
-      told = let s = has x.under (view_at m.pool i) (doing (suc i) rs) (at.each i x here).matches.under busy in sym (busy_note (doing (suc i) rs) s.0 t s.1)
+      told = let s = task_of x.under (view_at m.pool i) (doing (suc i) rs) (at.each i x here).matches.under busy in sym (busy_note (doing (suc i) rs) s.0 t s.1)
 
   -- one client is another, and the record has no access and no entry
   pub changed : (i : ℕ) (x y : ClientState) (e : Event) (note : Note) → nth m.clients i ≡ Some x → actor_of e ≡ suc i → Follows o rs (still e note) → Stands o m.pool i y
-      → Matches y (view_at m.pool i) (does (doing (suc i) rs) (still e note) e) → spent y ≤ asked (suc i) (rs ++ still e note ∷ []) → Remembers o.names y.cursors (ended (suc i) rs) → BeginsSo e note (set m.clients i y) → IsAt o (with_client m i y) (rs ++ still e note ∷ [])
-  changed i x y e note here actor follows stands matches few cursors opens = pushed o m (with_client m i y) rs (still e note) at follows refl refl (still_pool o m.pool rs (still e note) at.pool refl refl) (length-set m.clients i y)
-      (each_set (λ (j : ℕ) (z : ClientState). IsClientAt o m.pool j z (rs ++ still e note ∷ [])) m.clients i y (own_client o m.pool i y rs (still e note) actor stands matches few (subst (Remembers o.names y.cursors) (sym (still_ended (suc i) e note)) cursors))
+      → Matches y (view_at m.pool i) (does (doing (suc i) rs) (still e note) e) → spent y ≤ asked (suc i) (rs ++ still e note ∷ []) → Remembers o.names y.cursors (ended (suc i) rs) → (y.under ≢ Nothing → GoesSoFar o (suc i) (does (doing (suc i) rs) (still e note) e) (ended (suc i) rs) y.under) → BeginsSo e note (set m.clients i y) → IsAt o (with_client m i y) (rs ++ still e note ∷ [])
+  changed i x y e note here actor follows stands matches few cursors goes opens = pushed o m (with_client m i y) rs (still e note) at follows refl refl (still_pool o m.pool rs (still e note) at.pool refl refl) (length-set m.clients i y)
+      (each_set (λ (j : ℕ) (z : ClientState). IsClientAt o m.pool j z (rs ++ still e note ∷ [])) m.clients i y (own_client o m.pool i y rs (still e note) actor stands matches few (subst (Remembers o.names y.cursors) (sym (still_ended (suc i) e note)) cursors)
+      (λ busy. subst (λ (l : List (List ℕ × ℕ)). GoesSoFar o (suc i) (does (doing (suc i) rs) (still e note) e) l y.under) (sym (still_ended (suc i) e note)) (goes busy)))
       (λ j z apart there. let was = at.each j z there in other_client o m.pool m.pool j z rs (still e note) was (λ (s : actor_of e ≡ suc j). apart (omega (arith, s, actor))) was.stands refl (still_ended (suc j) e note)))
       (λ d above h. absurd (absent i x here (subst (λ (b : ℕ). o.setup.clients < b) actor above)))
       (still_legal (still e note) refl) (found_still e note) (alone_still e note (set m.clients i y) opens)
@@ -257,24 +263,53 @@ module _ (o : Opening) (m : Parts) (rs : List Record) (at : IsAt o m rs) where
       let own = asked_own (suc i) rs (still (Begin (suc i) t) note) t refl in
       let few = was.spent in
       let more = b.spent in
-      changed i x y (Begin (suc i) t) note here refl (refl, refl, b.says (doing (suc i) rs) (idle_task i x here idle)) b.stands (b.matches (doing (suc i) rs) was.matches) (omega arith) (remembers b.asks) (opened i x y t note here b running)
+      changed i x y (Begin (suc i) t) note here refl (refl, refl, b.says (doing (suc i) rs) (idle_task i x here idle)) b.stands (b.matches (doing (suc i) rs) was.matches) (omega arith) (remembers b.asks) (goes note refl) (opened i x y t note here b running)
     where
       remembers : (y.cursors ≡ x.cursors) ⊎ ((s : ℕ) × (y.cursors ≡ asked_for s x.cursors)) → Remembers o.names y.cursors (ended (suc i) rs)
       remembers (inl same) = subst (λ (k : Known). Remembers o.names k (ended (suc i) rs)) (sym same) (at.each i x here).cursors
       remembers (inr (s, is)) = subst (λ (k : Known). Remembers o.names k (ended (suc i) rs)) (sym is) (remembers_asked o.names s x.cursors (ended (suc i) rs) (at.each i x here).cursors)
 
+      d : Doing
+      d = doing (suc i) rs
+
+      -- a client that was turned away has nothing under way
+      away : (k : Note) → note ≡ k → begun d t k ≡ d → y.under ≢ Nothing → ⊥
+      away k is same busy =
+          let under : UnderMatches y.under (view_at m.pool i) d = subst (λ (z : Doing). UnderMatches y.under (view_at m.pool i) z) (ap (begun d t) is ∙ same) (b.matches d (at.each i x here).matches).under in
+          let s = task_of y.under (view_at m.pool i) d under busy in
+          let none : Some s.0 ≡ None = sym s.1 ∙ idle_task i x here idle in
+          absurd cc
+
+      first : (k : Task) → t ≡ k → note ≡ Quiet → GoesSoFar o (suc i) (begun d k Quiet) (ended (suc i) rs) y.under
+      first (ClientTask call written) is quiet =
+          let was = at.each i x here in
+          let s : Starts o (suc i) x.taken x.cursors call y.under = subst (λ (k : Task). Starts o (suc i) x.taken x.cursors (call_in k) y.under) is (b.starts quiet) in
+          let may : MayBegin (ended (suc i) rs) (key_of call) (number_of (cursor_at s.slot x.cursors)) = may_begin o.names names_are x.cursors (ended (suc i) rs) s.slot (key_of call) was.cursors s.named in
+          let taken : x.taken ≡ d.taken = subst (λ (u : Underway). x.taken ≡ taken_by u d.taken) idle was.matches.taken in
+          goes_first o (suc i) x.taken d (ended (suc i) rs) x.cursors call written y.under taken s may
+
+      goes : (k : Note) → note ≡ k → y.under ≢ Nothing → GoesSoFar o (suc i) (begun d t note) (ended (suc i) rs) y.under
+      goes Quiet is busy = subst (λ (k : Note). GoesSoFar o (suc i) (begun d t k) (ended (suc i) rs) y.under) (sym is) (first t refl is)
+      goes (Answered c r) is busy = absurd (away (Answered c r) is refl busy)
+      goes (Refused c r) is busy = absurd (away (Refused c r) is refl busy)
+      goes (Busy c) is busy = absurd (away (Busy c) is refl busy)
+      goes (Missing c) is busy = absurd (away (Missing c) is refl busy)
+
   -- an actor with no task steps
   idled : (a : ℕ) → (doing a rs).task ≡ None → IsAt o m (rs ++ still (Step a) Quiet ∷ [])
-  idled a none = stayed (Step a) Quiet (record {
-    idle = λ e. (refl, refl, refl);
-    one = λ t e. absurd (cc (none, e));
-    access = tt;
-    entry = tt;
-    few = λ z e. absurd cc;
-    commits = λ z e. absurd cc;
-    unreached = λ z e. absurd cc;
-    cause = λ z e. absurd cc;
-  }) (λ d. refl) (λ c call s. let q : Step a ≡ Begin c (ClientTask call s.written) = s.event in absurd cc)
+  idled a none = stayed (Step a) Quiet ((
+    record {
+      idle = λ e. (refl, refl, refl);
+      one = λ t e. absurd (cc (none, e));
+      access = tt;
+      entry = tt;
+      few = λ z e. absurd cc;
+      commits = λ z e. absurd cc;
+      unreached = λ z e. absurd cc;
+      cause = λ z e. absurd cc;
+    },
+    λ z e. absurd (let q : None ≡ Some z = e in cc),
+  )) (λ d. refl) (λ c call s. let q : Step a ≡ Begin c (ClientTask call s.written) = s.event in absurd cc)
 
   pub idled_far : (a : ℕ) → o.setup.clients < a → IsAt o m (rs ++ still (Step a) Quiet ∷ [])
   idled_far a above = idled a (at.far a above)
@@ -291,10 +326,11 @@ module _ (o : Opening) (m : Parts) (rs : List Record) (at : IsAt o m rs) where
       let few = was.spent in
       changed i x (refusing x) (Refuse (suc i)) Quiet here refl (refl, refl, refl)
       (record { setup = s.setup; opened = s.opened; entered = s.entered; seat = s.seat; seats = s.seats; pool = s.pool; role = s.role; names = s.names; stock = s.stock; number = s.number; under = s.under; cursors = s.cursors })
-      (record { refusing = refl; under = same (doing (suc i) rs) x.under was.matches.under }) (omega arith) was.cursors
+      (record { refusing = refl; under = same (doing (suc i) rs) x.under was.matches.under; taken = was.matches.taken }) (omega arith) was.cursors
+      (λ busy. goes_as o (suc i) (doing (suc i) rs) (record (doing (suc i) rs) { refusing = true }) (ended (suc i) rs) (ended (suc i) rs) x.under refl refl refl refl (was.goes busy))
       (silent_opening (Refuse (suc i)) Quiet (set m.clients i (refusing x)) (λ c call s. let q : Refuse (suc i) ≡ Begin c (ClientTask call s.written) = s.event in absurd cc))
     where
-      same : (d : Doing) (u : Underway) → UnderMatches u (view_at m.pool i) d → UnderMatches u (view_at m.pool i) (record { task = d.task; decided = d.decided; since = d.since; refusing = true })
+      same : (d : Doing) (u : Underway) → UnderMatches u (view_at m.pool i) d → UnderMatches u (view_at m.pool i) (record { task = d.task; decided = d.decided; since = d.since; refusing = true; taken = d.taken })
       same d Nothing h = h
       same d (Get g into call) h = h
       same d (Write c call) h = h
@@ -369,6 +405,50 @@ gone o m rs at i x y q note here w s now own =
     let n = u.1 in let k = a.one in
     (a.left, omega arith, subst (λ (c : ℕ). NotesWith c a.left note) seat a.notes, a.ends)
 
+-- the acts of a call under way are those of the client's view
+under_since : (u : Underway) (v : View) (d : Doing) → u ≢ Nothing → UnderMatches u v d → d.since ≡ since_of u v
+under_since Nothing v d busy h = absurd (busy refl)
+under_since (Get g into call) v d busy h = h.2
+under_since (Write c call) v d busy h = h.2
+under_since (Raise c) v d busy h = h.2
+
+-- a call that goes on behind its access stands where that led it
+module _ (o : Opening) (m : Parts) (rs : List Record) (at : IsAt o m rs) (i : ℕ) (x y : ClientState) (q : Plain) (note : Note) (here : nth m.clients i ≡ Some x) (w : Went o i x y m.pool q note) where
+  abbrev d : Doing
+  d = doing (suc i) rs
+
+  abbrev behind : Doing
+  behind = record { task = d.task; decided = replied d.decided w.entry; since = d.since ++ w.access.act ∷ []; refusing = false; taken = d.taken }
+
+  abbrev h1 : List (List ℕ × ℕ)
+  h1 = ended (suc i) (rs ++ step_record i w.access w.entry note ∷ [])
+
+  went : IsStep o (suc i) d m.pool.words (length (own m.pool.entries (suc i))) (step_record i w.access w.entry note) × Matches y (view_at q i) (stepped d (Some w.access) w.entry note)
+  went = w.follows d (at.each i x here).matches
+
+  under_way : x.under ≢ Nothing
+  under_way idle = let none : Some w.access ≡ None = (went.0.idle (idle_task o m rs at i x here idle)).0 in cc
+
+  made_on : (b : Bool) → w.access.refused ≡ b → ends note ≡ false → b ≡ false
+  made_on true refused goes = absurd (let e : note ≡ Refused (suc i) (lost d.decided) = (went.0.unreached w.access refl refused).1 in let f : ends note ≡ true = ap ends e in cc)
+  made_on false free goes = refl
+
+  goes_by : (b : Bool) → ends note ≡ b → y.under ≢ Nothing → GoesSoFar o (suc i) (if b then rested (d.taken + takes_by (replied d.decided w.entry)) else behind) h1 y.under
+  goes_by true over still =
+      let under : UnderMatches y.under (view_at q i) (rested (d.taken + takes_by (replied d.decided w.entry))) = subst (λ (b : Bool). UnderMatches y.under (view_at q i) (if b then rested (d.taken + takes_by (replied d.decided w.entry)) else behind)) over went.1.under in
+      let s = task_of o m rs at y.under (view_at q i) (rested (d.taken + takes_by (replied d.decided w.entry))) under still in
+      let none : None ≡ Some s.0 = s.1 in
+      absurd cc
+  goes_by false goes still =
+      let was = at.each i x here in
+      let since : d.since ≡ since_of x.under (view_at m.pool i) = under_since x.under (view_at m.pool i) d under_way was.matches.under in
+      let on = leads_on o (suc i) d (ended (suc i) rs) (view_at m.pool i) x.under y.under w.access.act note under_way was.stands.under since (was.goes under_way) (w.calls (made_on w.access.refused refl goes)) in
+      goes_as o (suc i) (record d { since = d.since ++ w.access.act ∷ [] }) behind (ended (suc i) rs) h1 y.under refl refl refl
+      (ended_more (suc i) rs (step_record i w.access w.entry note) ∙ ended_not (suc i) d.task note w.access (ended (suc i) rs) goes) on
+
+  goes_on_so : y.under ≢ Nothing → GoesSoFar o (suc i) (stepped d (Some w.access) w.entry note) h1 y.under
+  goes_on_so still = goes_by (ends note) refl still
+
 -- a client makes the next access of its call
 pub stepped_client : (o : Opening) (m : Parts) (rs : List Record) → IsAt o m rs → (i : ℕ) (x y : ClientState) (q : Plain) (note : Note) → nth m.clients i ≡ Some x → (w : Went o i x y m.pool q note) → Running q → Legal finite.empty [] q.entries
     → IsAt o (with_pool m i y q) (rs ++ step_record i w.access w.entry note ∷ [])
@@ -394,8 +474,14 @@ stepped_client o m rs at i x y q note here w running legal =
     (λ s now own. let g = gone o m rs at i x y q note here w s now own in (g.0, g.1, g.2))
     (λ s now own j z seat there. let g = gone o m rs at i x y q note here w s now own in subst (λ (k : ClientState). EndsIn o.setup.pool q.words g.0 k.under) (client_set m i y j z (seat ∙ sym (own_client_is own.event)) there) g.3)
     (λ c call opens. absurd (no_begin c call opens)) in
-    pushed o m (with_pool m i y q) rs r at steps refl refl pool (length-set m.clients i y)
-    (each_set (λ (j : ℕ) (z : ClientState). IsClientAt o q j z (rs ++ r ∷ [])) m.clients i y (own_client o q i y rs r refl w.stands went.1 (omega arith) cursors)
+    let knows = was.stands.under in
+    let since : d.since ≡ since_of x.under (view_at m.pool i) = under_since x.under (view_at m.pool i) d busy was.matches.under in
+    let dues : AllDue o (suc i) d (ended (suc i) rs) r = (λ z is free.
+    let same : w.access ≡ z = same_Some _ _ is in
+    let made : w.access.refused ≡ false = ap (λ (k : Access). k.refused) same ∙ free in
+    subst (λ (k : Access). IsDue o (suc i) d (ended (suc i) rs) k.act note) same (is_due o (suc i) d (ended (suc i) rs) (view_at m.pool i) x.under y.under w.access.act note busy knows since (was.goes busy) (w.calls made))) in
+    pushed o m (with_pool m i y q) rs r at (steps, dues) refl refl pool (length-set m.clients i y)
+    (each_set (λ (j : ℕ) (z : ClientState). IsClientAt o q j z (rs ++ r ∷ [])) m.clients i y (own_client o q i y rs r refl w.stands went.1 (omega arith) cursors (λ still. goes_on_so o m rs at i x y q note here w still))
     (λ j z apart there. let was = at.each j z there in other_client o m.pool q j z rs r was (λ (s : suc i ≡ suc j). apart (omega arith)) (stands_on o i j z w.access w.entry m.pool q apart client w.moved was.stands) (w.moved.others j apart)
     (ended_more (suc j) rs r ∙ ended_other (suc j) (suc i) (doing (suc j) rs).task note w.access (ended (suc j) rs) answers (λ (s : suc i ≡ suc j). apart (omega arith)))))
     (λ d above h. absurd (let l = was.stands.seat in omega arith))

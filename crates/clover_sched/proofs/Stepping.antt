@@ -1,15 +1,19 @@
 -- What one access of a client is in a run, and where the client stands behind it.
-use Rattle.std.proofs.Common.{◌≡◌, inl, inr, ℕ, suc, ◌+◌, ◌<◌, ◌==◌, List, [], ◌∷◌, ◌++◌, length, get_or, Bool, true, false, cond, if◌then◌else◌, refl, sym, ap, ◌∙◌, subst, eq-eqb}
+use Rattle.std.proofs.Common.{◌≡◌, inl, inr, ℕ, suc, ◌+◌, ◌<◌, ◌==◌, List, [], ◌∷◌, ◌++◌, length, get_or, Bool, true, false, cond, if◌then◌else◌, refl, sym, ap, ◌∙◌, subst, arith, eq-eqb}
 use Rattle.std.specs.Prelude.{Option, Some, None, IfSome, IsSome}
 use Rattle.std.proofs.lemmas.List.Elements.{filter-append}
 use Rattle.std.proofs.lemmas.Option.{same_Some}
 use Rattle.std.proofs.Math.ListN.{length-append}
 use Rattle.clover_map.specs.History.{own}
+use Rattle.clover_map.specs.declared.call.Call.{Call}
+use Rattle.clover_map.specs.declared.call.Call.TheVariants.{Get as GetOf, Put as PutOf, Delete as DeleteOf, Swap as SwapOf}
 use Rattle.clover_map.specs.declared.call.Entry.{Entry}
+use Rattle.clover_map.specs.declared.call.Reply.{Reply}
+use Rattle.clover_map.specs.declared.call.Reply.TheVariants.{Stored, Deleted, Found, Absent, Differs}
 use Rattle.clover_script.specs.declared.line.Task.{Task}
 use Rattle.clover_rule.specs.Accesses.{CameBack}
 use Rattle.clover_rule.specs.Rule.{longest}
-use Rattle.clover_rule.specs.Steps.{Step, act_of, next_history}
+use Rattle.clover_rule.specs.Steps.{Step, act_of, next_history, reply_of}
 use Rattle.clover_rule.specs.declared.access.Access.{Access}
 use Rattle.clover_rule.specs.declared.access.Act.{Act}
 use Rattle.clover_rule.specs.declared.view.View.{View}
@@ -19,13 +23,37 @@ use Rattle.clover_sched.specs.declared.client.ClientState.{ClientState}
 use Rattle.clover_sched.specs.declared.event.Note.{Note}
 use Rattle.clover_sched.specs.Alone.{EndsIn}
 use Rattle.clover_sched.specs.Client.{stock_at, Stands, Moved, Went, Matches, IsUnder, AreCursors, since_of, step_record}
-use Rattle.clover_sched.specs.Folds.{Doing, listed, words_by, made_by}
-use Rattle.clover_sched.specs.Run.{Opening, IsStep, IsEntry, IsCause, Wrote, most_made}
+use Rattle.clover_sched.specs.Folds.{Doing, listed, words_by, made_by, takes_by}
+use Rattle.clover_sched.specs.Run.{Opening, IsStep, IsEntry, IsCause, IsCommit, Wrote, most_made}
 use Rattle.clover_sched.proofs.Moving.{MadeSo, RefusedSo, IsNoLink, names_kept, stock_kept}
 
 -- a call under way is none at rest
 pub task_there : (o : Option Task) (t : Task) → o ≡ Some t → o ≡ None → ⊥
 task_there o t e f = let g : Some t ≡ None = sym e ∙ f in cc
+
+-- a history with one entry more is another
+pub no_more : (h : List Entry) (e : Entry) → h ++ e ∷ [] ≡ h → ⊥
+no_more h e same = let l = length-append h (e ∷ []) in let k = ap length same in absurd (omega arith)
+
+-- how many buffers are taken where a call ends: none without a commit, one with it
+pub none_taken : (n : ℕ) (o : Option Reply) → o ≡ None → n ≡ n + takes_by o
+none_taken n o none = let e : takes_by o ≡ 0 = ap takes_by none in omega arith
+
+pub plain_taken : (n : ℕ) (r : Reply) → IsCommit r ≡ false → n ≡ n + takes_by (Some r)
+plain_taken n (Stored t) h = absurd cc
+plain_taken n (Deleted t) h = absurd cc
+plain_taken n (Found t x) h = omega arith
+plain_taken n Absent h = omega arith
+plain_taken n (Differs t) h = omega arith
+
+pub one_taken : (n t : ℕ) (call : Call) (o : Option Reply) → o ≡ Some (reply_of t call) → suc n ≡ n + takes_by o
+one_taken n t call o is = let e : takes_by o ≡ 1 = ap takes_by is ∙ go call in omega arith
+  where
+    go : (c : Call) → takes_by (Some (reply_of t c)) ≡ 1
+    go (GetOf key) = refl
+    go (PutOf key x) = refl
+    go (DeleteOf key) = refl
+    go (SwapOf key e x) = refl
 
 -- room that was made changes nothing of what is said
 pub kept_view : (i : ℕ) (p q : Plain) → Kept p q → view_at q i ≡ view_at p i
@@ -52,6 +80,7 @@ stands_kept o p q i x k s =
 moved_kept : (i : ℕ) (a : Access) (e : Option Entry) (p p1 q : Plain) → Kept p p1 → Moved i a e p1 q → Moved i a e p q
 moved_kept i a e p p1 q k m = record {
   words = m.words ∙ (λ z. words_by (k.setup z).pool (k.words z) (Some a));
+  last = m.last;
   others = λ j ne. m.others j ne ∙ kept_view j p p1 k;
   seats = m.seats ∙ ap length k.views;
   entries = m.entries ∙ ap (λ (l : List Entry). l ++ listed e) k.entries;
@@ -82,6 +111,7 @@ went_kept o i x y p p1 q note k w =
       longer = λ n. w.longer n ∙ ap (λ (v : View). suc (length (since_of x.under v))) e;
       spent = w.spent;
       cursor = w.cursor;
+      calls = w.calls;
       alone = λ n free h. w.alone n free (subst (λ (ws : List ℕ). EndsIn o.setup.pool ws n x.under) (sym k.words) h);
     }
 

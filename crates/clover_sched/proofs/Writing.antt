@@ -49,18 +49,19 @@ use Rattle.clover_sched.specs.declared.event.CallRefusal.TheVariants as why
 use Rattle.clover_sched.specs.declared.event.Note.{Note}
 use Rattle.clover_sched.specs.declared.event.Note.TheVariants.{Quiet, Answered, Refused}
 use Rattle.clover_sched.specs.Alone.{PutEnds, EndsIn, Advances}
-use Rattle.clover_sched.specs.Client.{Stands, Moved, Matches, UnderMatches, Went, IsUnder, HasLinked, IsCursor, AreCursors, SetsCursor, stock_at, step_record, since_of, slot_of, spent_by}
+use Rattle.clover_sched.specs.Client.{Stands, Moved, MakesDue, Matches, UnderMatches, Went, IsUnder, HasLinked, IsCursor, AreCursors, SetsCursor, stock_at, step_record, since_of, slot_of, spent_by, taken_by}
 use Rattle.clover_sched.specs.Folds.{Doing}
 use Rattle.clover_sched.specs.Ends.{end_tag}
 use Rattle.clover_sched.specs.Run.{Opening, IsStep, IsCause, IsAnswer, IsCommit, Flushes, Shortens, EndsCommit, lost, most_made}
 use Rattle.clover_sched.specs.Writing.{PutAccess, next_entry}
 use Rattle.clover_sched.proofs.Advancing.{put_goes_on, put_commits, put_answers, put_stays_ahead}
 use Rattle.clover_sched.proofs.Cursoring.{KnowsMore, knows_more, cursors_kept, cursors_set}
-use Rattle.clover_sched.proofs.Stepping.{made_step, stands_refused}
+use Rattle.clover_sched.proofs.Stepping.{no_more, none_taken, plain_taken, one_taken, made_step, stands_refused}
 use Rattle.clover_sched.proofs.Going.{step_refused, seat_below, stands_moved, number_same, number_more}
 use Rattle.clover_sched.proofs.Lefts.{made_few, fewer_before}
 use Rattle.clover_sched.proofs.Moving.{MadeSo, made_so, RefusedSo, refused_so, names_kept, stock_kept, moved_quiet, moved_entered, moved_refused}
 use Rattle.clover_sched.proofs.Places.{same_snoc}
+use Rattle.clover_sched.proofs.PutCalls.{put_goes, put_raises, put_closes, put_falls, put_ends, put_links}
 use Rattle.clover_sched.proofs.PutOnward.{SameCall, same_call, later_call, Misses, quiet_history, quiet_stock, quiet_writes, before_shortens, before_misses, onward_before, behind_misses, linked_hit}
 use Rattle.clover_sched.proofs.Remembering.{key_of_call}
 
@@ -186,6 +187,9 @@ module _ (o : Opening) (i : ℕ) (x : ClientState) (c n : Putting) (call : Call)
   under : IsBefore c.stage × (c.walk.pool ≡ o.setup.pool) × PutHolds c v × (call ≡ call_at c v)
   under = subst (IsUnder o.setup.pool v) is st.under
 
+  taken_so : (d : Doing) → Matches x v d → x.taken ≡ d.taken
+  taken_so d h = subst (λ (u : Underway). x.taken ≡ taken_by u d.taken) is h.taken
+
   ends : (j : ℕ) → EndsIn o.setup.pool p.words j x.under → PutEnds o.setup.pool j p.words c
   ends j h = subst (λ (u : Underway). EndsIn o.setup.pool p.words j u) is h
 
@@ -238,11 +242,12 @@ module _ (o : Opening) (i : ℕ) (x : ClientState) (c n : Putting) (call : Call)
         follows = λ d h.
             let u : UnderMatches (Write c call) v d = subst (λ (z : Underway). UnderMatches z v d) is h.under in (
               step o i x c n p q st few m f.accessed miss d call u.0.0 Quiet u.0.1 u.2 (made_few i x.refusing c n p q More f) h.refusing (exact_made x.refusing More f.exact (λ z. z)) (tt, before_shortens c v m.0 under.0),
-              record { refusing = refl; under = (u.0, u.1, ap (λ (l : List Act). l ++ act_of (put_step c v) m.0 ∷ []) u.2 ∙ sym since) },
+              record { refusing = refl; under = (u.0, u.1, ap (λ (l : List Act). l ++ act_of (put_step c v) m.0 ∷ []) u.2 ∙ sym since); taken = taken_so d h },
             );
         longer = λ b. ap length since ∙ length_snoc (act_of (put_step c v) m.0) (since_of (Write c call) v) ∙ ap (λ (l : List Act). suc (length l)) (sym is_since);
         spent = subst (λ (u : Underway). suc x.taken ≤ spent_by u x.taken) (sym is) (omega arith);
         cursor = refl;
+        calls = λ free. subst (λ (u : Underway). MakesDue u (Write n call) (act_of (put_step c v) m.0) Quiet) (sym is) (put_goes c n v m.0 under.2 m.2 call w under.0 f.step.stands miss);
         alone = λ j free h. more_alone m f.accessed j h before;
       }
 
@@ -258,12 +263,13 @@ module _ (o : Opening) (i : ℕ) (x : ClientState) (c n : Putting) (call : Call)
         stands = stands o i x c n p q st few m f.accessed miss Nothing x.cursors tt (cursors m f.accessed);
         follows = λ d h.
             let u : UnderMatches (Write c call) v d = subst (λ (z : Underway). UnderMatches z v d) is h.under in (
-              step o i x c n p q st few m f.accessed miss d call u.0.0 (Refused k (why.Behind turns)) u.0.1 u.2 (made_few i x.refusing c n p q (Behind turns) f) h.refusing (exact_made x.refusing (Behind turns) f.exact (λ z. z)) (sym seat, count, refl, before_shortens c v m.0 under.0),
-              record { refusing = refl; under = refl },
+              step o i x c n p q st few m f.accessed miss d call u.0.0 (Refused k (why.Behind turns)) u.0.1 u.2 (made_few i x.refusing c n p q (Behind turns) f) h.refusing (exact_made x.refusing (Behind turns) f.exact (λ z. z)) (sym seat, count, refl, u.1, before_shortens c v m.0 under.0),
+              record { refusing = refl; under = refl; taken = taken_so d h ∙ none_taken d.taken d.decided u.1 },
             );
         longer = λ b. absurd (b refl);
         spent = subst (λ (u : Underway). x.taken ≤ spent_by u x.taken) (sym is) (omega arith);
         cursor = refl;
+        calls = λ free. subst (λ (u : Underway). MakesDue u Nothing (act_of (put_step c v) m.0) (Refused k (why.Behind turns))) (sym is) (put_falls c n v m.0 under.2 m.2 call k (why.Behind turns) under.0 f.step.answer.1 miss);
         alone = λ j free h. absurd (ahead_alone m f.accessed j h f.step.answer.1 f.step.behind.1);
       }
 
@@ -278,10 +284,11 @@ module _ (o : Opening) (i : ℕ) (x : ClientState) (c n : Putting) (call : Call)
         stands = stands_refused o i p x (with_under x Nothing) st q so1 refl refl tt refl;
         follows = λ d h.
             let u : UnderMatches (Write c call) v d = subst (λ (z : Underway). UnderMatches z v d) is h.under in
-            (step_refused o i d p.words (length (own p.entries (suc i))) so1.act (Refused k why.Unreached) (ClientTask call u.0.0) u.0.1 (sym h.refusing ∙ exact_refused x.refusing Unreached f.exact (λ z. z)) so1.blank (λ j. Refused (sym seat j) (lost (sym u.1 j))), record { refusing = refl; under = refl });
+            (step_refused o i d p.words (length (own p.entries (suc i))) so1.act (Refused k why.Unreached) (ClientTask call u.0.0) u.0.1 (sym h.refusing ∙ exact_refused x.refusing Unreached f.exact (λ z. z)) so1.blank (λ j. Refused (sym seat j) (lost (sym u.1 j))), record { refusing = refl; under = refl; taken = taken_so d h ∙ none_taken d.taken d.decided u.1 });
         longer = λ b. absurd (b refl);
         spent = subst (λ (u : Underway). x.taken ≤ spent_by u x.taken) (sym is) (omega arith);
         cursor = refl;
+        calls = λ free. absurd (let z : true ≡ false = free in cc);
         alone = λ j free h. absurd (let z : true ≡ false = free in cc);
       }
 
@@ -384,10 +391,12 @@ module _ (o : Opening) (i : ℕ) (x : ClientState) (c n : Putting) (call : Call)
           moved = moved2 last (unlinked ended.tag) r ended.made acc later last_adds ended.made.now.words last_words ended.decides z more kept;
           stands = stands2 last (unlinked ended.tag) r ended.made acc later last_adds ended.made.now.words last_words ended.decides z more kept y refl stock tt
               (cursors_set o.setup.pool v (view_at z i) c.walk.slot t x.cursors known (knows2 last (unlinked ended.tag) r ended.made acc later last_adds ended.made.now.words last_words ended.decides z more kept) st.cursors new is_set);
-          follows = λ d h. (step2 last (unlinked ended.tag) r ended.made acc later last_adds ended.made.now.words last_words ended.decides z more kept d (Answered k r) h most going (sym seat, (plain, refl)), record { refusing = refl; under = refl });
+          follows = λ d h. (step2 last (unlinked ended.tag) r ended.made acc later last_adds ended.made.now.words last_words ended.decides z more kept d (Answered k r) h most going (sym seat, (plain, refl)), record { refusing = refl; under = refl; taken = taken_so d h ∙ plain_taken d.taken r plain });
           longer = λ b. absurd (b refl);
           spent = subst (λ (u : Underway). x.taken ≤ spent_by u x.taken) (sym is) (omega arith);
           cursor = subst (λ (u : Underway). SetsCursor (slot_of u) (act_of last (unlinked ended.tag)) (Answered k r) x.cursors known) (sym is) (t, ap (end_tag r) same ∙ tells, is_set);
+          calls = λ free. subst (λ (u : Underway). MakesDue u Nothing (act_of last (unlinked ended.tag)) (Answered k r)) (sym is) (subst (λ (act : Act). MakesDue (Write c call) Nothing act (Answered k r)) (sym same)
+              (put_ends c n v made.0 under.2 made.2 call k r over (λ miss. no_more (history p) _ (sym last_adds ∙ sym so3.history ∙ (made_it o i x c n p q st few made acc).history ∙ quiet_history c v (history p) v made.0 miss))));
           alone = λ j free h. answered_alone made acc j z.words r h over;
         }
 
@@ -490,11 +499,14 @@ module _ (o : Opening) (i : ℕ) (x : ClientState) (c n : Putting) (call : Call)
             follows = λ d h.
                 let u : UnderMatches (Write c call) v d = subst (λ (s : Underway). UnderMatches s v d) is h.under in (
                   step2 link (unlinked tail) reply made3 f.accessed later3 link_adds f.step.decided.made.now.words link_words f.step.decided.decides z more3 kept d Quiet h (made_few i x.refusing c n p q (Decided t) f) (exact_made x.refusing (Decided t) f.exact (λ s. s)) (commits_always c.own (call_at c v), λ s. s),
-                  record { refusing = refl; under = ((u.0.0, u.0.1 ∙ ap (λ (s : Call). Some (ClientTask s u.0.0)) (sym name4)), (λ j. Some (reply_of (sym own4 j) ((sym under.3 ∙ sym name4) j))), ap (λ (l : List Act). l ++ wrote_link tail c.own ∷ []) u.2 ∙ sym since4) },
+                  record { refusing = refl; under = ((u.0.0, u.0.1 ∙ ap (λ (s : Call). Some (ClientTask s u.0.0)) (sym name4)), (λ j. Some (reply_of (sym own4 j) ((sym under.3 ∙ sym name4) j))), ap (λ (l : List Act). l ++ wrote_link tail c.own ∷ []) u.2 ∙ sym since4); taken = ap suc (taken_so d h) },
                 );
             longer = λ b. ap length since4 ∙ length_snoc (wrote_link tail c.own) (since_of (Write c call) v) ∙ ap (λ (l : List Act). suc (length l)) (sym is_since);
             spent = subst (λ (u : Underway). suc x.taken ≤ spent_by u x.taken) (sym is) (omega arith);
             cursor = refl;
+            calls = λ free. subst (λ (u : Underway). MakesDue u (Raise n) (act_of link (unlinked tail)) Quiet) (sym is)
+                (subst (λ (act : Act). MakesDue (Write c call) (Raise n) act Quiet) (ap (λ (a : Step). act_of a f.step.made.0) (at_step c (AtLink tail) v f.step.answer.1) ∙ ap (act_of link) hit)
+                (put_links c n v f.step.made.0 under.2 f.step.made.2 call w tail f.step.answer.1 stage_is hit f.step.stands));
             alone = λ j free h. subst (λ (ws : List ℕ). Advances (suc i) o.setup.pool j ws (Raise n) Quiet) (sym kept.words) (commits_alone f.step.made f.accessed j tail h at);
           }
 
@@ -528,6 +540,9 @@ module _ (o : Opening) (i : ℕ) (x : ClientState) (c n : Putting) (p q : Plain)
 
   doing5 : (d : Doing) → Matches x v5 d → UnderMatches (Raise c) v5 d
   doing5 d h = subst (λ (u : Underway). UnderMatches u v5 d) is h.under
+
+  taken5 : (d : Doing) → Matches x v5 d → x.taken ≡ suc d.taken
+  taken5 d h = subst (λ (u : Underway). x.taken ≡ taken_by u d.taken) is h.taken
 
   ends5 : (j : ℕ) → EndsIn o.setup.pool p.words j x.under → PutEnds o.setup.pool j p.words c
   ends5 j h = subst (λ (u : Underway). EndsIn o.setup.pool p.words j u) is h
@@ -575,11 +590,12 @@ module _ (o : Opening) (i : ℕ) (x : ClientState) (c n : Putting) (p q : Plain)
             follows = λ d h.
                 let g = doing5 d h in (
                   step o i x c n p q st few m acc miss5 d (call_at c v5) g.0.0 Quiet g.0.1 g.2 most h.refusing going (tt, λ s. subst Shortens is_raise s),
-                  record { refusing = refl; under = ((g.0.0, g.0.1 ∙ ap (λ (s : Call). Some (ClientTask s g.0.0)) (sym name6)), g.1 ∙ (λ j. Some (reply_of (sym after j).own (sym name6 j))), ap (λ (l : List Act). l ++ act_of (put_step c v5) m.0 ∷ []) g.2 ∙ sym since6) },
+                  record { refusing = refl; under = ((g.0.0, g.0.1 ∙ ap (λ (s : Call). Some (ClientTask s g.0.0)) (sym name6)), g.1 ∙ (λ j. Some (reply_of (sym after j).own (sym name6 j))), ap (λ (l : List Act). l ++ act_of (put_step c v5) m.0 ∷ []) g.2 ∙ sym since6); taken = taken5 d h },
                 );
             longer = λ b. ap length since6 ∙ length_snoc (act_of (put_step c v5) m.0) (since_of (Raise c) v5) ∙ ap (λ (l : List Act). suc (length l)) (sym is_since);
             spent = spends;
             cursor = refl;
+            calls = λ free. subst (λ (z : Underway). MakesDue z (Raise n) (act_of (put_step c v5) m.0) Quiet) (sym is) (put_raises c n v5 m.0 under5.1 m.2 w5 u at holds);
             alone = λ j free h. put_commits (suc i) o.setup.pool j v5 p.words q.words c n (ends5 j h) (subst IsPutOpen (sym at) tt) (words_then o i x c n p q st few m acc) (call_then o i x c n p q st few m acc) (subst (λ (z : Putting). IsPutOpen z.stage) (sym after) tt);
           }
 
@@ -614,10 +630,11 @@ module _ (o : Opening) (i : ℕ) (x : ClientState) (c n : Putting) (p q : Plain)
         entry = None;
         moved = moved o i x c n p q st few m acc miss7;
         stands = stands o i x c n p q st few m acc miss7 Nothing known tt new_cursors;
-        follows = λ d h. let g = doing5 d h in (step o i x c n p q st few m acc miss7 d (call_at c v5) g.0.0 (Answered k r) g.0.1 g.2 most h.refusing going (sym seat, answers d g), record { refusing = refl; under = refl });
+        follows = λ d h. let g = doing5 d h in (step o i x c n p q st few m acc miss7 d (call_at c v5) g.0.0 (Answered k r) g.0.1 g.2 most h.refusing going (sym seat, answers d g), record { refusing = refl; under = refl; taken = taken5 d h ∙ one_taken d.taken c.own (call_at c v5) d.decided g.1 });
         longer = λ b. absurd (b refl);
         spent = spends;
         cursor = subst (λ (u : Underway). SetsCursor (slot_of u) (act_of (put_step c v5) m.0) (Answered k r) x.cursors known) (sym is) (t, tells, is_set);
+        calls = λ free. subst (λ (u : Underway). MakesDue u Nothing (act_of (put_step c v5) m.0) (Answered k r)) (sym is) (put_closes c n v5 m.0 under5.1 m.2 k r at);
         alone = λ j free h. subst (λ (s : ℕ). Advances (suc i) o.setup.pool j q.words Nothing (Answered s r)) seat
             (put_answers (suc i) o.setup.pool j v5 p.words q.words c n (ends5 j h) (subst IsPutOpen (sym at) tt) (words_then o i x c n p q st few m acc) (call_then o i x c n p q st few m acc) q.words r (ap (λ (z : Putting). z.stage) after));
       }
@@ -640,9 +657,10 @@ module _ (o : Opening) (i : ℕ) (x : ClientState) (c n : Putting) (p q : Plain)
         follows = λ d h.
             let u = doing5 d h in
             let told : why.Linked t ≡ lost d.decided = ap why.Linked e ∙ sym (lost_commit c.own (call_at c v5)) ∙ sym (ap lost u.1) in
-            (step_refused o i d p.words (length (own p.entries (suc i))) so6.act (Refused k (why.Linked t)) (ClientTask (call_at c v5) u.0.0) u.0.1 (sym h.refusing ∙ refused) so6.blank (λ j. Refused (sym seat j) (told j)), record { refusing = refl; under = refl });
+            (step_refused o i d p.words (length (own p.entries (suc i))) so6.act (Refused k (why.Linked t)) (ClientTask (call_at c v5) u.0.0) u.0.1 (sym h.refusing ∙ refused) so6.blank (λ j. Refused (sym seat j) (told j)), record { refusing = refl; under = refl; taken = taken5 d h ∙ one_taken d.taken c.own (call_at c v5) d.decided u.1 });
         longer = λ b. absurd (b refl);
         spent = spends;
         cursor = refl;
+        calls = λ free. absurd (let z : true ≡ false = free in cc);
         alone = λ j free h. absurd (let z : true ≡ false = free in cc);
       }

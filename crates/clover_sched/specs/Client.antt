@@ -16,7 +16,7 @@ use Rattle.clover_script.specs.declared.line.Task.TheVariants.{Client as ClientT
 use Rattle.clover_rule.specs.Accesses.{wrote_link}
 use Rattle.clover_rule.specs.Content.{InRange}
 use Rattle.clover_rule.specs.Lists.{Within}
-use Rattle.clover_rule.specs.Steps.{reply_of}
+use Rattle.clover_rule.specs.Steps.{Step as Due, act_of, reply_of}
 use Rattle.clover_rule.specs.declared.access.Access.{Access}
 use Rattle.clover_rule.specs.declared.access.Act.{Act}
 use Rattle.clover_rule.specs.declared.view.Role.TheVariants.{Client as ClientRole}
@@ -39,10 +39,12 @@ use Rattle.clover_sched.specs.declared.event.Note.{Note}
 use Rattle.clover_sched.specs.declared.event.Note.TheVariants.{Quiet, Answered}
 use Rattle.clover_sched.specs.Alone.{EndsIn, Advances}
 use Rattle.clover_sched.specs.Beginning.{IsBegun}
+use Rattle.clover_sched.specs.Calling.{Calling, due, after}
+use Rattle.clover_sched.specs.Calls.{UnderStands}
 use Rattle.clover_sched.specs.Ends.{end_tag}
 use Rattle.clover_sched.specs.Folds.{Doing, listed, words_by, made_by, begun, stepped}
 use Rattle.clover_sched.specs.Record.{Record}
-use Rattle.clover_sched.specs.Run.{Opening, Flushes, IsStep, begin_note, room}
+use Rattle.clover_sched.specs.Run.{Opening, Flushes, IsStep, Tells, begin_note, room}
 
 -- a client that has done nothing
 abbrev pub idle_client : ClientState
@@ -102,9 +104,15 @@ UnderMatches (Get g into call) v d = ((n : ℕ) × (d.task ≡ Some (ClientTask 
 UnderMatches (Write c call) v d = ((n : ℕ) × (d.task ≡ Some (ClientTask call n))) × (d.decided ≡ None) × (d.since ≡ since_of (Write c call) v)
 UnderMatches (Raise c) v d = ((n : ℕ) × (d.task ≡ Some (ClientTask (call_at c v) n))) × (d.decided ≡ Some (reply_of c.own (call_at c v))) × (d.since ≡ since_of (Raise c) v)
 
+-- how many buffers of its stock a client has committed, where the calls before the one under way took so many
+abbrev pub taken_by : Underway → ℕ → ℕ
+taken_by (Raise c) n = suc n
+taken_by under n = n
+
 pub record Matches (x : ClientState) (v : View) (d : Doing) : Type 0 where
   pub refusing : x.refusing ≡ d.refusing
   pub under : UnderMatches x.under v d
+  pub taken : x.taken ≡ taken_by x.under d.taken
 
 -- how many buffers of its stock the client has committed or may yet commit
 abbrev pub spent_by : Underway → ℕ → ℕ
@@ -114,9 +122,14 @@ spent_by under n = n
 abbrev pub spent : ClientState → ℕ
 spent x = spent_by x.under x.taken
 
+-- the act is the last of these
+abbrev pub IsLast : Act → List Act → Type 0
+IsLast act acts = (before : List Act) × (acts ≡ before ++ act ∷ [])
+
 -- One access of the client of seat i changed the pool so, and added this entry or none.
 pub record Moved (i : ℕ) (x : Access) (e : Option Entry) (p q : Plain) : Type 0 where
   pub words : q.words ≡ words_by p.setup.pool p.words (Some x)
+  pub last : x.refused ≡ false → IsLast x.act (view_at q i).pass.since
   pub others : (j : ℕ) → j ≢ i → view_at q j ≡ view_at p j
   pub seats : length q.views ≡ length p.views
   pub entries : q.entries ≡ p.entries ++ listed e
@@ -144,6 +157,11 @@ abbrev pub SetsCursor : ℕ → Act → Note → Known → Known → Type 0
 SetsCursor s act (Answered c reply) k n = (t : TagParts) × (end_tag reply act ≡ tag_number t) × IsSet s t k n
 SetsCursor s act note k n = n ≡ k
 
+-- By the definition of what a call does, this act is the step that is due of what is under way where that stands, and the note tells where it leaves that.
+abbrev pub MakesDue : Underway → Underway → Act → Note → Type 0
+MakesDue x y act note = (call : Call) (own : ℕ) (c : Calling) → UnderStands x call own c
+    → (a : Due) × (k : ℕ) × (due call own c ≡ Some a) × (act ≡ act_of a k) × UnderStands y call own (after call own c k) × Tells call own (after call own c k) note
+
 -- The client of seat i made the next access of its call, which came to this note: in any run that leads to where it stood this is a step, and it stands where that leads.
 pub record Went (o : Opening) (i : ℕ) (x y : ClientState) (p q : Plain) (note : Note) : Type 0 where
   pub access : Access
@@ -156,6 +174,7 @@ pub record Went (o : Opening) (i : ℕ) (x y : ClientState) (p q : Plain) (note 
   pub longer : y.under ≢ Nothing → length (since_of y.under (view_at q i)) ≡ suc (length (since_of x.under (view_at p i)))
   pub spent : spent y ≤ spent x
   pub cursor : SetsCursor (slot_of x.under) access.act note x.cursors y.cursors
+  pub calls : access.refused ≡ false → MakesDue x.under y.under access.act note
   -- where its call is to end in so many accesses made alone, this one was one of them
   pub alone : (n : ℕ) → access.refused ≡ false → EndsIn o.setup.pool p.words n x.under → Advances (suc i) o.setup.pool n q.words y.under note
 

@@ -1,9 +1,10 @@
 -- What some records lead to, each thing as a fold of its own: the accesses, the entries, the words, and what each client has under way.
 use Prim.Native.Nat.{suc}
-use Rattle.std.specs.Prelude.{ℕ, ◌==◌, List, [], ◌∷◌, ◌++◌, Bool, true, false, if◌then◌else◌, Option, Some, None}
+use Rattle.std.specs.Prelude.{ℕ, ◌+◌, ◌==◌, List, [], ◌∷◌, ◌++◌, Bool, true, false, if◌then◌else◌, Option, Some, None}
 use Rattle.clover_words.specs.declared.pool.Pool.{Pool}
 use Rattle.clover_map.specs.declared.call.Entry.{Entry}
 use Rattle.clover_map.specs.declared.call.Reply.{Reply}
+use Rattle.clover_map.specs.declared.call.Reply.TheVariants.{Stored, Deleted}
 use Rattle.clover_script.specs.declared.line.Task.{Task}
 use Rattle.clover_rule.specs.Accesses.{words_after_act}
 use Rattle.clover_rule.specs.declared.access.Access.{Access}
@@ -48,15 +49,20 @@ made_by n (Some x) = if x.refused then n else suc n
 abbrev pub made_in : List Record → ℕ
 made_in rs = along (λ (n : ℕ) (r : Record). made_by n r.access) 0 rs
 
--- What an actor has under way: its task, its reply from the deciding access on, the acts that were made since its begin, and whether its next access is refused.
+-- What an actor has under way: its task, its reply from the deciding access on, the acts that were made since its begin, whether its next access is refused, and how many buffers of its stock its calls before have committed.
 pub record Doing : Type 0 where
   pub task : Option Task
   pub decided : Option Reply
   pub since : List Act
   pub refusing : Bool
+  pub taken : ℕ
+
+-- no task, behind calls that have committed so many buffers
+abbrev pub rested : ℕ → Doing
+rested n = record { task = None; decided = None; since = []; refusing = false; taken = n }
 
 abbrev pub nothing : Doing
-nothing = record { task = None; decided = None; since = []; refusing = false }
+nothing = rested 0
 
 abbrev pub actor_of : Event → ℕ
 actor_of (Begin a t) = a
@@ -72,7 +78,7 @@ ends (Busy a) = false
 ends (Missing a) = false
 
 abbrev pub begun : Doing → Task → Note → Doing
-begun d t Quiet = record { task = Some t; decided = None; since = []; refusing = d.refusing }
+begun d t Quiet = record { task = Some t; decided = None; since = []; refusing = d.refusing; taken = d.taken }
 begun d t note = d
 
 -- the reply that stands after an entry
@@ -80,14 +86,20 @@ abbrev pub replied : Option Reply → Option Entry → Option Reply
 replied o None = o
 replied o (Some e) = Some e.reply
 
+-- how many buffers a call takes from its client's stock that ends behind this reply
+abbrev pub takes_by : Option Reply → ℕ
+takes_by (Some (Stored t)) = 1
+takes_by (Some (Deleted t)) = 1
+takes_by o = 0
+
 abbrev pub stepped : Doing → Option Access → Option Entry → Note → Doing
 stepped d None e note = d
-stepped d (Some x) e note = if ends note then nothing else record { task = d.task; decided = replied d.decided e; since = d.since ++ x.act ∷ []; refusing = false }
+stepped d (Some x) e note = if ends note then rested (d.taken + takes_by (replied d.decided e)) else record { task = d.task; decided = replied d.decided e; since = d.since ++ x.act ∷ []; refusing = false; taken = d.taken }
 
 abbrev pub does : Doing → Record → Event → Doing
 does d r (Begin a t) = begun d t r.note
 does d r (Step a) = stepped d r.access r.entry r.note
-does d r (Refuse a) = record { task = d.task; decided = d.decided; since = d.since; refusing = true }
+does d r (Refuse a) = record { task = d.task; decided = d.decided; since = d.since; refusing = true; taken = d.taken }
 
 abbrev pub does_of : ℕ → Doing → Record → Doing
 does_of a d r = if actor_of r.event == a then does d r r.event else d

@@ -1,9 +1,11 @@
 pub mod Record
 pub mod Folds
 pub mod Ends
+pub mod Calling
 pub mod Run
 pub mod Lines
 pub mod Text
+pub mod Calls
 pub mod Alone
 pub mod Client
 pub mod Writing

@@ -1,9 +1,10 @@
 -- What contracts see of a machine, and that it stands where some records lead.
 use Prim.Native.Nat.{suc}
-use Rattle.std.specs.Prelude.{◌≡◌, ◌≢◌, ℕ, ◌+◌, ◌-◌, ◌<◌, ◌≤◌, ◌==◌, List, [], ◌∷◌, length, Contains, true, if◌then◌else◌, All, Option, Some, None, MatchOption}
+use Rattle.std.specs.Prelude.{◌≡◌, ◌≢◌, ℕ, ◌+◌, ◌-◌, ◌<◌, ◌≤◌, ◌==◌, List, [], ◌∷◌, ◌++◌, length, Contains, true, false, if◌then◌else◌, All, Option, Some, None, MatchOption}
 use Rattle.std.specs.FinMap as finite
 use Rattle.clover_words.specs.declared.pool.Pool.{Pool}
 use Rattle.clover_words.specs.declared.setup.Setup.{Setup}
+use Rattle.clover_words.specs.Place.{pool_words}
 use Rattle.clover_words.specs.Preset.{HasDealt}
 use Rattle.clover_words.specs.Tag.{tag_number}
 use Rattle.clover_map.specs.Legal.{Legal}
@@ -13,6 +14,7 @@ use Rattle.clover_script.specs.Lines.{takes}
 use Rattle.clover_script.specs.declared.line.Task.TheVariants.{Client as ClientTask}
 use Rattle.clover_rule.specs.Lists.{nth, Within}
 use Rattle.clover_rule.specs.Preset.{bindings_from}
+use Rattle.clover_rule.specs.declared.access.Access.{Access}
 use Rattle.clover_rule.specs.declared.view.View.{View}
 use Rattle.clover_walk.specs.Walking.{key_at}
 use Rattle.clover_cache.specs.Node.{Known}
@@ -24,12 +26,15 @@ use Rattle.clover_sched.specs.declared.client.Underway.{Underway}
 use Rattle.clover_sched.specs.declared.client.Underway.TheVariants.{Nothing, Write, Raise}
 use Rattle.clover_sched.specs.declared.event.Event.{Event}
 use Rattle.clover_sched.specs.declared.event.Event.TheVariants.{Begin, Step, Refuse}
+use Rattle.clover_sched.specs.declared.event.Note.{Note}
 use Rattle.clover_sched.specs.Alone.{AllFound, AloneSoFar}
-use Rattle.clover_sched.specs.Client.{Stands, Matches, IsTask, spent, since_of}
+use Rattle.clover_sched.specs.Calling.{Calling, own_words}
+use Rattle.clover_sched.specs.Calls.{UnderStands}
+use Rattle.clover_sched.specs.Client.{Stands, Matches, IsLast, IsTask, spent, since_of}
 use Rattle.clover_sched.specs.Ends.{ended, IsLatest}
-use Rattle.clover_sched.specs.Folds.{entries_in, accesses_in, words_after, made_in, doing, along}
+use Rattle.clover_sched.specs.Folds.{Doing, entries_in, accesses_in, words_after, made_in, doing, along}
 use Rattle.clover_sched.specs.Record.{Record}
-use Rattle.clover_sched.specs.Run.{Opening, IsRun, most_made}
+use Rattle.clover_sched.specs.Run.{Opening, IsRun, IsCalling, own_of, most_made}
 
 pub record Parts : Type 0 where
   pub setup : Setup
@@ -66,12 +71,20 @@ pub record Remembers (names : List (ℕ × List ℕ)) (k : Known) (h : List (Lis
   pub last : MatchOption k.last (h ≡ []) (λ q. (rest : List (List ℕ × ℕ)) × (h ≡ (key_at names q.0, tag_number q.1) ∷ rest) × Within (q.0, key_at names q.0) names)
   pub list : All (λ q. IsLatest (key_at names q.0) (tag_number q.1) h × Within (q.0, key_at names q.0) names) k.list
 
+-- Where a call is under way, it is a call with room for its version in a buffer, and stands where its acts since its start have led it, by the definition of what a call does.
+pub record GoesSoFar (o : Opening) (a : ℕ) (d : Doing) (h : List (List ℕ × ℕ)) (u : Underway) : Type 0 where
+  pub stands : Calling
+  pub calling : IsCalling o a d h d.since stands
+  pub under : UnderStands u calling.call (own_of o.setup a d.taken) stands
+  pub fits : length (own_words calling.call) ≤ o.setup.pool.words + 1
+
 -- The client of seat i is as these records left it.
 pub record IsClientAt (o : Opening) (p : Plain) (i : ℕ) (x : ClientState) (rs : List Record) : Type 0 where
   pub stands : Stands o p i x
   pub matches : Matches x (view_at p i) (doing (suc i) rs)
   pub spent : spent x ≤ asked (suc i) rs
   pub cursors : Remembers o.names x.cursors (ended (suc i) rs)
+  pub goes : x.under ≢ Nothing → GoesSoFar o (suc i) (doing (suc i) rs) (ended (suc i) rs) x.under
 
 -- The machine stands where these records lead.
 pub record IsAt (o : Opening) (m : Parts) (rs : List Record) : Type 0 where
@@ -92,10 +105,11 @@ pub record IsAt (o : Opening) (m : Parts) (rs : List Record) : Type 0 where
 abbrev pub IsBehind : Parts → Type 0
 IsBehind m = (o : Opening) × (rs : List Record) × IsAt o m rs
 
--- where the run of a setup and of these keys begins: the preset pool
+-- where the run of a setup and of these keys begins: the words of the preset pool, no more and no less
 pub record IsOpening (s : Setup) (keys : List (List ℕ)) (o : Opening) : Type 0 where
   pub setup : o.setup ≡ s
   pub names : o.names ≡ bindings_from 0 keys
+  pub sized : length o.words ≡ pool_words s.pool
   pub words : IsPreset s keys o.words
 
 -- what a client has that asks for a call: a slot with its key, and for a call that writes a buffer
@@ -108,6 +122,14 @@ abbrev pub MayCome : Parts → Event → Type 0
 MayCome m (Begin a (ClientTask call written)) = (1 ≤ a) × IsTask (ClientTask call written) × HasFor m a call
 MayCome m (Step a) = 1 ≤ a
 MayCome m (Refuse a) = 1 ≤ a
+
+-- an access that was made is the last of those that its client was told
+abbrev pub IsTold : Parts → Record → Type 0
+IsTold m r = (x : Access) → r.access ≡ Some x → x.refused ≡ false → (i : ℕ) × (r.event ≡ Step (suc i)) × IsLast x.act (view_at m.pool i).pass.since
+
+-- The event came to this note: behind any records behind which the machine stood before it, it stands behind one more, which is of this event and note, and whose access its client was told.
+abbrev pub Happens : Parts → Parts → Event → Note → Type 0
+Happens m n e note = (o : Opening) (rs : List Record) → IsAt o m rs → (r : Record) × (r.event ≡ e) × (r.note ≡ note) × IsAt o n (rs ++ r ∷ []) × IsTold n r
 
 -- the same but for the room of the pool's lists
 pub record IsSame (m n : Parts) : Type 0 where

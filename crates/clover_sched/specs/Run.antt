@@ -5,9 +5,10 @@ use Rattle.clover_words.specs.declared.pool.Pool.{Pool}
 use Rattle.clover_words.specs.declared.setup.Setup.{Setup}
 use Rattle.clover_words.specs.declared.word.Word.TheVariants.{Next as NextOf, Short}
 use Rattle.clover_words.specs.declared.word.Side.TheVariants.{Current}
+use Rattle.clover_words.specs.Next.{root_code}
+use Rattle.clover_words.specs.Preset.{dealt_number}
 use Rattle.clover_words.specs.Tag.{home}
 use Rattle.clover_words.specs.Version.{linked, buffer_at}
-use Rattle.clover_words.specs.Next.{root_code}
 use Rattle.clover_map.specs.History.{own, key_of}
 use Rattle.clover_map.specs.declared.call.Call.{Call}
 use Rattle.clover_map.specs.declared.call.Entry.{Entry}
@@ -21,13 +22,16 @@ use Rattle.clover_rule.specs.declared.access.Access.{Access}
 use Rattle.clover_rule.specs.declared.access.Act.{Act}
 use Rattle.clover_rule.specs.declared.access.Act.TheVariants.{Load, Store, Exchange, Raise}
 use Rattle.clover_rule.specs.declared.access.Actor.TheVariants.{Client}
-use Rattle.clover_walk.specs.Walking.{budget, most_accesses}
+use Rattle.clover_plain.specs.Preset.{tag_at}
+use Rattle.clover_walk.specs.Walking.{Ended, budget, most_accesses}
 use Rattle.clover_sched.specs.declared.event.CallRefusal.{CallRefusal}
 use Rattle.clover_sched.specs.declared.event.CallRefusal.TheVariants.{Unreached, Linked, Behind, TooLong}
 use Rattle.clover_sched.specs.declared.event.Event.{Event}
 use Rattle.clover_sched.specs.declared.event.Event.TheVariants.{Begin, Step, Refuse}
 use Rattle.clover_sched.specs.declared.event.Note.{Note}
 use Rattle.clover_sched.specs.declared.event.Note.TheVariants.{Quiet, Answered, Refused, Busy, Missing}
+use Rattle.clover_sched.specs.Calling.{Calling, begun_call, due, LeadsTo}
+use Rattle.clover_sched.specs.Ends.{ended, MayBegin}
 use Rattle.clover_sched.specs.Folds.{Doing, entries_in, words_after, doing}
 use Rattle.clover_sched.specs.Record.{Record}
 
@@ -130,7 +134,7 @@ IsAnswer o d (Some e) act r = (IsCommit r ≡ false) × (e.reply ≡ r)
 abbrev pub IsCause : Opening → ℕ → Doing → Option Entry → Act → Note → Type 0
 IsCause o a d e act Quiet = IfSome e (λ (x : Entry). IsCommit x.reply ≡ true) × (Shortens act → ⊥)
 IsCause o a d e act (Answered c r) = (c ≡ a) × IsAnswer o d e act r
-IsCause o a d e act (Refused c (Behind n)) = (c ≡ a) × (n ≡ budget o.setup.pool) × (e ≡ None) × (Shortens act → ⊥)
+IsCause o a d e act (Refused c (Behind n)) = (c ≡ a) × (n ≡ budget o.setup.pool) × (e ≡ None) × (d.decided ≡ None) × (Shortens act → ⊥)
 IsCause o a d e act note = ⊥
 
 -- the most accesses of one call, which ends once its turns reach the budget
@@ -148,10 +152,43 @@ pub record IsStep (o : Opening) (a : ℕ) (d : Doing) (ws : List ℕ) (n : ℕ) 
   pub unreached : (x : Access) → r.access ≡ Some x → x.refused ≡ true → (r.entry ≡ None) × (r.note ≡ Refused a (lost d.decided))
   pub cause : (x : Access) → r.access ≡ Some x → x.refused ≡ false → IsCause o a d r.entry x.act r.note
 
+-- the tag of the buffer that a client is dealt for its next version, behind so many
+abbrev pub own_of : Setup → ℕ → ℕ → ℕ
+own_of s a n = tag_at s.pool (dealt_number s a n)
+
+-- The acts are those of the call under way since its start: on its key's slot, at a cursor where it may begin, with the next buffer of its client's stock. They lead it there.
+pub record IsCalling (o : Opening) (a : ℕ) (d : Doing) (h : List (List ℕ × ℕ)) (acts : List Act) (n : Calling) : Type 0 where
+  pub call : Call
+  pub written : ℕ
+  pub task : d.task ≡ Some (ClientTask call written)
+  pub slot : ℕ
+  pub named : Within (slot, key_of call) o.names
+  pub cursor : Option ℕ
+  pub may : MayBegin h (key_of call) cursor
+  pub leads : LeadsTo call (own_of o.setup a d.taken) (begun_call o.setup.pool slot cursor (own_of o.setup a d.taken) call) acts n
+
+-- what a note tells of where its access left the call: it has a step to make, it is over, or its turns have reached the budget
+abbrev pub Tells : Call → ℕ → Calling → Note → Type 0
+Tells call own n Quiet = IsSome (due call own n)
+Tells call own n (Answered a r) = (n.steps ≡ []) × (n.over ≡ true)
+Tells call own n (Refused a y) = (n.steps ≡ []) × (n.over ≡ false) × (n.walk.stand ≡ Ended)
+Tells call own n note = ⊥
+
+-- An access that was made is the one that was due of the call under way, the note tells where it left the call, and the call has made no more accesses than its turns allow.
+pub record IsDue (o : Opening) (a : ℕ) (d : Doing) (h : List (List ℕ × ℕ)) (act : Act) (note : Note) : Type 0 where
+  pub stands : Calling
+  pub calling : IsCalling o a d h (d.since ++ act ∷ []) stands
+  pub tells : Tells calling.call (own_of o.setup a d.taken) stands note
+  pub few : length d.since < most_accesses o.setup.pool stands.walk.turns
+
+-- each access of a step that was made is due
+abbrev pub AllDue : Opening → ℕ → Doing → List (List ℕ × ℕ) → Record → Type 0
+AllDue o a d h r = (x : Access) → r.access ≡ Some x → x.refused ≡ false → IsDue o a d h x.act r.note
+
 -- the record fits behind those before it
 abbrev pub Fits : Opening → List Record → Record → Event → Type 0
 Fits o before r (Begin a t) = Still r (begin_note o.setup (doing a before) a t)
-Fits o before r (Step a) = IsStep o a (doing a before) (words_after o.setup.pool o.words before) (length (own (entries_in before) a)) r
+Fits o before r (Step a) = IsStep o a (doing a before) (words_after o.setup.pool o.words before) (length (own (entries_in before) a)) r × AllDue o a (doing a before) (ended a before) r
 Fits o before r (Refuse a) = Still r Quiet
 
 abbrev pub Follows : Opening → List Record → Record → Type 0

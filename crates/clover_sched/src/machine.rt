@@ -5,7 +5,7 @@ ghost use Rattle.clover_map.specs.History.{key_of};
 ghost use Rattle.clover_script.specs.Form.{call_in};
 ghost use Rattle.clover_sched.specs.Client.{idle_client};
 ghost use Rattle.clover_sched.specs.Folds.{entries_in, accesses_in, made_in};
-ghost use Rattle.clover_sched.specs.Machine.{IsAt, IsOpening, IsSame, MayCome, IsBusy, IsFitting, left};
+ghost use Rattle.clover_sched.specs.Machine.{IsAt, IsOpening, Happens, IsSame, MayCome, IsBusy, IsFitting, left};
 ghost use Rattle.clover_sched.specs.Record.{Record};
 ghost use Rattle.clover_sched.specs.Run.{Opening};
 ghost use Rattle.clover_sched.specs.declared.event.Event.TheVariants.{Begin as BeginOf, Step as StepOf, Refuse as RefuseOf};
@@ -110,7 +110,7 @@ impl Machine {
     /// `OutOfMemory` for want of memory, before anything has changed.
     pub fn event(&mut self, event: Event) -> Result<Note, OutOfMemory>
         requires may { MayCome self.old event }
-        ensures happened { IfOk result (λ note. (o : Opening) (rs : List Record) → IsAt o self.old rs → (r : Record) × (r.event ≡ event) × (r.note ≡ note) × IsAt o self.new (rs ++ r ∷ [])) }
+        ensures happened { IfOk result (Happens self.old self.new event) }
         ensures parts { IfOk result (λ note. (self.new.setup ≡ self.old.setup) × (self.new.names ≡ self.old.names) × (self.new.pool.traced ≡ self.old.pool.traced)) }
         ensures less { IfOk result (λ note. (a : ℕ) → event ≡ StepOf a → IsBusy self.old a → left self.new a < left self.old a) }
         ensures same { OnErr result (IsSame self.old self.new) }
@@ -128,7 +128,7 @@ impl Machine {
     // Begins a task of an actor.
     fn begin(&mut self, actor: u32, task: Task) -> Note
         requires may { MayCome self.old (BeginOf actor task) }
-        ensures happened { (o : Opening) (rs : List Record) → IsAt o self.old rs → (r : Record) × (r.event ≡ BeginOf actor task) × (r.note ≡ result) × IsAt o self.new (rs ++ r ∷ []) }
+        ensures happened { Happens self.old self.new (BeginOf actor task) result }
         ensures parts { (self.new.setup ≡ self.old.setup) × (self.new.names ≡ self.old.names) × (self.new.pool.traced ≡ self.old.pool.traced) }
     {
         let seat = actor as usize - 1;
@@ -148,7 +148,7 @@ impl Machine {
     // Makes the next access of an actor's call.
     fn step(&mut self, actor: u32) -> Result<Note, OutOfMemory>
         requires { 1 ≤ actor }
-        ensures happened { IfOk result (λ note. (o : Opening) (rs : List Record) → IsAt o self.old rs → (r : Record) × (r.event ≡ StepOf actor) × (r.note ≡ note) × IsAt o self.new (rs ++ r ∷ [])) }
+        ensures happened { IfOk result (Happens self.old self.new (StepOf actor)) }
         ensures parts { IfOk result (λ note. (self.new.setup ≡ self.old.setup) × (self.new.names ≡ self.old.names) × (self.new.pool.traced ≡ self.old.pool.traced)) }
         ensures less { IfOk result (λ note. IsBusy self.old actor → left self.new actor < left self.old actor) }
         ensures same { OnErr result (IsSame self.old self.new) }
@@ -167,7 +167,7 @@ impl Machine {
     // Has the next access of an actor refused.
     fn refuse(&mut self, actor: u32)
         requires { 1 ≤ actor }
-        ensures happened { (o : Opening) (rs : List Record) → IsAt o self.old rs → (r : Record) × (r.event ≡ RefuseOf actor) × (r.note ≡ IsQuiet) × IsAt o self.new (rs ++ r ∷ []) }
+        ensures happened { Happens self.old self.new (RefuseOf actor) IsQuiet }
         ensures parts { (self.new.setup ≡ self.old.setup) × (self.new.names ≡ self.old.names) × (self.new.pool.traced ≡ self.old.pool.traced) }
     {
         let seat = actor as usize - 1;

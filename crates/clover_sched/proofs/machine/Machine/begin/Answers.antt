@@ -4,11 +4,11 @@ use Rattle.clover_map.specs.History.{key_of}
 use Rattle.clover_script.specs.Form.{call_in}
 use Rattle.clover_rule.specs.Lists.{nth}
 use Rattle.clover_sched.specs.Kept.{meaning}
-use Rattle.clover_sched.specs.Machine.{Parts, IsAt, MayCome}
+use Rattle.clover_sched.specs.Machine.{Parts, IsAt, Happens, MayCome}
 use Rattle.clover_sched.specs.declared.client.ClientState.{ClientState}
 use Rattle.clover_sched.specs.declared.client.Underway.TheVariants.{Nothing}
 use Rattle.clover_sched.specs.declared.event.Event.TheVariants.{Begin}
-use Rattle.clover_sched.proofs.Happening.{missing_happens, busy_happens, Happens, begin_on, behind, may_one, may_stock, may_cursor, not_busy}
+use Rattle.clover_sched.proofs.Happening.{missing_happens, busy_happens, begin_on, behind, may_one, may_stock, may_cursor, not_busy}
 use Rattle.clover_sched.proofs.Onward.{with_client}
 use Rattle.clover_sched.proofs.Places.{nth_here}
 use Rattle.clover_sched.proofs.machine.Machine.begin.Goals as goal

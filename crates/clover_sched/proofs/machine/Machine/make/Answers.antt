@@ -34,4 +34,4 @@ pub invariant_of-result : goal.invariant_of-result
 invariant_of-result c = (opening c.args.setup c.args.names c.preset.new.self, [], made_at (record { setup = c.args.setup; names = c.args.names; pool = c.preset.new.self; clients = c.in_ok-clients.clients.items }) c.args.setup c.args.names refl refl c.requires.slots (apart c) c.stands.ensures.running (fresh c) c.in_ok-clients.ensures)
 
 pub returns-clause-at : goal.returns-clause-at
-returns-clause-at c = (opening c.args.setup c.args.names c.preset.new.self, is_opening c.args.setup c.args.names c.preset.new.self (fresh c), made_at (record { setup = c.args.setup; names = c.args.names; pool = c.preset.new.self; clients = c.in_ok-clients.clients.items }) c.args.setup c.args.names refl refl c.requires.slots (apart c) c.stands.ensures.running (fresh c) c.in_ok-clients.ensures)
+returns-clause-at c = (opening c.args.setup c.args.names c.preset.new.self, is_opening c.args.setup c.args.names c.preset.new.self (fresh c) (c.stands.ensures.running (fresh c).opened), made_at (record { setup = c.args.setup; names = c.args.names; pool = c.preset.new.self; clients = c.in_ok-clients.clients.items }) c.args.setup c.args.names refl refl c.requires.slots (apart c) c.stands.ensures.running (fresh c) c.in_ok-clients.ensures)
