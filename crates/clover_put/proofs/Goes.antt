@@ -22,7 +22,7 @@ use Rattle.clover_rule.proofs.Tools.{nth_within}
 use Rattle.clover_walk.specs.Walking.{Walking, Stand, AtShort as ToShort, AtRoot, AtTag, AtLink as OnLink, OnTail, Ended, StandsOn, Holds, IsOnWay, ShowsNext, walk_step, step_at, goes_on, key_at, since_turn}
 use Rattle.clover_walk.proofs.Endings.{IsPlain, stepped, kept, shows_load, shows_decide, shows_link}
 use Rattle.clover_walk.proofs.Goes.{walk_asks, walk_finds, walk_goes, tail_finds, tail_goes}
-use Rattle.clover_put.specs.Answering.{Answers, OnReached, IsBefore}
+use Rattle.clover_put.specs.Answering.{IsBefore}
 use Rattle.clover_put.specs.Finding.{OnFinding, FindsFrom, AnswersFrom, Came}
 use Rattle.clover_put.specs.Going.{Went}
 use Rattle.clover_put.specs.Holding.{Filled, IsAt, PutHolds, behind_it}
@@ -30,7 +30,7 @@ use Rattle.clover_put.specs.Putting.{Putting, Stage, Storing, Flushing, Seeking,
 use Rattle.clover_put.specs.declared.job.Job.{Job}
 use Rattle.clover_put.specs.declared.job.Job.TheVariants.{Put, Delete, Swap}
 use Rattle.clover_put.specs.declared.turn.PutTurn.{PutTurn}
-use Rattle.clover_put.specs.declared.turn.PutTurn.TheVariants.{More, Decided, Stored, Deleted, Absent, Differs, Behind, Unreached, Linked}
+use Rattle.clover_put.specs.declared.turn.PutTurn.TheVariants.{Decided}
 use Rattle.clover_put.proofs.Body.{body_fits, kind_meta, none_some}
 use Rattle.clover_put.proofs.Done.{one_more, stored, flushed}
 use Rattle.clover_put.proofs.Known.{filled_kept}

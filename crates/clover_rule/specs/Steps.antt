@@ -24,7 +24,7 @@ use Rattle.clover_rule.specs.Knowing.{CopiedValue, SawValue, SawTombstone, link_
 use Rattle.clover_rule.specs.Lists.{Within, nth}
 use Rattle.clover_rule.specs.Memory.{Next, word}
 use Rattle.clover_rule.specs.Views.{raise_view, shown}
-use Rattle.clover_rule.specs.Words.{next_code, next_of, root_of}
+use Rattle.clover_rule.specs.Words.{next_of, root_of}
 use Rattle.clover_rule.specs.declared.access.Act.{Act}
 use Rattle.clover_rule.specs.declared.access.Act.TheVariants.{Load, Store, Exchange, Raise}
 use Rattle.clover_rule.specs.declared.view.Link.{Link}

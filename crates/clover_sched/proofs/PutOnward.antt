@@ -6,7 +6,7 @@ use Rattle.clover_words.specs.declared.word.Side.TheVariants.{Current, Flushed}
 use Rattle.clover_words.specs.Tag.{home}
 use Rattle.clover_words.specs.Version.{unlinked, content_at}
 use Rattle.clover_map.specs.declared.call.Entry.{Entry}
-use Rattle.clover_map.specs.declared.call.Reply.TheVariants.{Absent, Differs}
+use Rattle.clover_map.specs.declared.call.Reply.TheVariants.{Absent}
 use Rattle.clover_rule.specs.Steps.{LoadNext, DecideNext, act_of, next_view, next_history}
 use Rattle.clover_rule.specs.declared.access.Act.TheVariants.{Store}
 use Rattle.clover_rule.specs.declared.view.View.{View}

@@ -25,10 +25,16 @@ returns c =
     c.port-port.ensures.pool.0 (search rules) seat same
     (record {
       made = where_made r e.made (λ m. (m.0, m.1.1, m.2));
-      answer = e.went.answer; decided = e.went.decided; known = e.went.known; absent = e.went.absent; differs = e.went.differs;
-      behind = behind; ahead = ahead;
+      answer = e.went.answer;
+      decided = e.went.decided;
+      known = e.went.known;
+      absent = e.went.absent;
+      differs = e.went.differs;
+      behind = behind;
+      ahead = ahead;
       refused = where_refused r e.refused (λ f. refused_view s t f.1 f.0.1);
-      stands = e.went.stands; bound = bound;
+      stands = e.went.stands;
+      bound = bound;
     })
     (subst (λ (b : Bool). ExactPut (Some b) r) c.port-port.ensures.fresh.0 exact)
     (subst (λ (b : Bool). Accessed s b p0 q0) c.port-port.ensures.fresh.1 left)
