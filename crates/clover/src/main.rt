@@ -1,8 +1,8 @@
 //! The program: it gives the top call the words behind its name, standard input and standard output,
-//! and ends with the status that the call answers.
+//! and ends as `exit` says, with the status that the call answers.
 #![tactic(auto)]
 
-use clover_main::{Refusal, StdSink, StdSource, clover, refuse};
+use clover_main::{Refusal, StdSink, StdSource, exit};
 use std::env;
 use std::io::ErrorKind;
 use std::process::ExitCode;
@@ -10,10 +10,7 @@ use std::process::ExitCode;
 fn main(rt: HostRuntime) -> ExitCode {
     let mut source = StdSource::make(rt.reader());
     let mut sink = StdSink::make(std::io::writer(&rt));
-    ExitCode::from(match words(&rt) {
-        Ok(words) => clover(rt.alloc(), &words, &mut source, &mut sink),
-        Err(refusal) => refuse(&mut sink, refusal),
-    })
+    exit(rt.alloc(), words(&rt), &mut source, &mut sink)
 }
 
 /// The words behind the program's name. Words that are no text are those of no command.

@@ -1,16 +1,16 @@
-// The top call.
-ghost use Rattle.std.specs.Prelude.{◌≡◌, ◌≤◌, ◌↔◌, ◌⊎◌, ℕ, List, Bool, Some, IfSome, IfNone};
-ghost use Rattle.clover_main.specs.Causes.{Rose, Writes};
-ghost use Rattle.clover_main.specs.Reading.{TakesFew};
-ghost use Rattle.clover_main.specs.Refusing.{line_of};
-ghost use Rattle.clover_main.specs.Replay.{Replays, StopsShort, LacksMemory, Refuses, IsExact};
+// The top call, and how the program ends with its status.
+ghost use Rattle.std.specs.Prelude.{◌≡◌, Bool, IfSome, IfNone, IfOk, IfErr};
+ghost use Rattle.std.specs.Process.{exit_status};
+ghost use Rattle.clover_main.specs.Causes.{Writes};
+ghost use Rattle.clover_main.specs.Command.{Commands};
+ghost use Rattle.clover_main.specs.Refusing.{status_of, line_of};
 ghost use Rattle.clover_main.specs.Words.{AskForReplay};
-ghost use Rattle.clover_main.specs.declared.refusal.Refusal.TheVariants.{BadWords};
 
 use crate::io::{Sink, Source};
 use crate::refusal::{Refusal, refuse};
 use crate::replaying::replay;
 use std::alloc::Global;
+use std::process::ExitCode;
 
 /// Runs the command that the words behind the program's name ask for, and answers the exit status:
 /// that of `replay`, or 6 where the words are of no command, and then nothing was read.
@@ -20,23 +20,30 @@ pub fn clover<S: Source, K: Sink>(
     source: &mut S,
     sink: &mut K,
 ) -> u8
-    ensures done { result ≡ 0 → (trace : Bool) × AskForReplay trace words.now × Replays trace (S.left source.old) (S.left source.new) (K.taken sink.old) (K.taken sink.new) }
-    ensures quiet { result ≡ 0 → (S.faults source.new ≡ S.faults source.old) × (K.faults sink.new ≡ K.faults sink.old) }
-    ensures refused { result ≡ 1 → Refuses 1 (S.left source.old) (S.left source.new) (S.faults source.old) (S.faults source.new) (K.taken sink.old) (K.taken sink.new) (K.faults sink.old) (K.faults sink.new) }
-    ensures read_fault { result ≡ 2 → Refuses 2 (S.left source.old) (S.left source.new) (S.faults source.old) (S.faults source.new) (K.taken sink.old) (K.taken sink.new) (K.faults sink.old) (K.faults sink.new) }
-    ensures write_fault { result ≡ 3 → Rose (K.faults sink.old) (K.faults sink.new) × ((trace : Bool) × AskForReplay trace words.now × StopsShort trace (S.left source.old) (S.left source.new) (K.taken sink.old) (K.taken sink.new)) }
-    ensures memory { result ≡ 4 → (trace : Bool) × AskForReplay trace words.now × LacksMemory trace (S.left source.old) (S.left source.new) (K.taken sink.old) (K.taken sink.new) (K.faults sink.old) (K.faults sink.new) }
-    ensures no_fault { result ≡ 4 → S.faults source.new ≡ S.faults source.old }
-    ensures few { TakesFew (S.left source.old) (S.left source.new) }
-    ensures bad_words { (result ≡ 6) ↔ ((trace : Bool) → AskForReplay trace words.now → ⊥) }
-    ensures bad_words_line { result ≡ 6 → (source.new ≡ source.old) × Writes (K.taken sink.old) (K.taken sink.new) (K.faults sink.old) (K.faults sink.new) (line_of BadWords) }
-    ensures no_other { (result ≤ 4) ⊎ (result ≡ 6) }
-    ensures exact { (trace : Bool) (text : List ℕ) → AskForReplay trace words.now → S.left source.old ≡ Some text → (Rose (S.faults source.old) (S.faults source.new) → ⊥) → (Rose (K.faults sink.old) (K.faults sink.new) → ⊥) → IsExact text result }
+    ensures commands { Commands words.now (record { left = S.left source.old; after = S.left source.new; read_faults = S.faults source.old; read_faults_after = S.faults source.new; taken = K.taken sink.old; now = K.taken sink.new; write_faults = K.faults sink.old; write_faults_after = K.faults sink.new }) result }
+    ensures unread { result ≡ 6 → source.new ≡ source.old }
 {
     match trace_asked(words) {
         Some(trace) => replay(alloc, trace, source, sink),
         None => refuse(sink, Refusal::BadWords),
     }
+}
+
+/// What the program ends with: the status of its command, or that of the refusal to which reading its
+/// words came.
+pub fn exit<S: Source, K: Sink>(
+    alloc: Global,
+    words: Result<Vec<String>, Refusal>,
+    source: &mut S,
+    sink: &mut K,
+) -> ExitCode
+    ensures command { IfOk words (λ list. Commands list.items (record { left = S.left source.old; after = S.left source.new; read_faults = S.faults source.old; read_faults_after = S.faults source.new; taken = K.taken sink.old; now = K.taken sink.new; write_faults = K.faults sink.old; write_faults_after = K.faults sink.new }) (exit_status result)) }
+    ensures refused { IfErr words (λ refusal. (exit_status result ≡ status_of refusal) × Writes (K.taken sink.old) (K.taken sink.new) (K.faults sink.old) (K.faults sink.new) (line_of refusal)) }
+{
+    ExitCode::from(match words {
+        Ok(words) => clover(alloc, &words, source, sink),
+        Err(refusal) => refuse(sink, refusal),
+    })
 }
 
 /// Whether the words ask for a replay with a trace. None where they ask for no replay.

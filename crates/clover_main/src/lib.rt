@@ -12,7 +12,7 @@ mod replaying;
 mod running;
 mod stdio;
 
-pub use command::clover;
+pub use command::{clover, exit};
 pub use io::{Failed, Sink, Source};
 pub use memory::{MemorySink, MemorySource, NumberList, SteadySource};
 pub use read::read_all;

@@ -1,6 +1,6 @@
-// Standard input and output as a source and a sink. They tell no bytes: this is the trusted edge. What
-// contracts see of either is its count of faults.
-ghost use Rattle.std.specs.Prelude.{◌≡◌};
+// Standard input and output as a source and a sink: over any reader and writer. They tell the bytes that
+// these tell; what is trusted is the reader and the writer.
+ghost use Rattle.std.specs.Prelude.{◌≡◌, ◌≤◌, drop, length};
 
 use crate::io::{Failed, Sink, Source};
 use std::io::{Read, Write};
@@ -14,28 +14,26 @@ pub struct StdSource<I: Read + Drop> {
 }
 
 impl<I: Read + Drop> Model for StdSource<I> {
-    ghost use Rattle.std.specs.Prelude.{ℕ};
+    ghost use Rattle.clover_main.specs.Edge.{Counted};
 
-    ghost Value = { ℕ };
+    ghost Value = { Counted I };
 
-    ghost view = { λ s. s.faults };
+    ghost view = { λ s. record { inner = s.reader; faults = s.faults } };
 }
 
 impl<I: Read + Drop> StdSource<I> {
     /// The source over this reader, with no fault yet. Takes no memory.
     pub fn make(reader: I) -> StdSource<I>
-        ensures { result ≡ 0 }
+        ensures { (result.inner ≡ reader) × (result.faults ≡ 0) }
     {
         StdSource { reader, faults: 0 }
     }
 }
 
 impl<I: Read + Drop> Source for StdSource<I> {
-    ghost use Rattle.std.specs.Prelude.{None};
+    ghost left = { λ s. I.remaining s.inner };
 
-    ghost left = { λ s. None };
-
-    ghost faults = { λ s. s };
+    ghost faults = { λ s. s.faults };
 
     fn take(&mut self, into: &mut [u8]) -> Result<usize, Failed> {
         match self.reader.read(into) {
@@ -56,34 +54,32 @@ pub struct StdSink<W: Write + Drop> {
 }
 
 impl<W: Write + Drop> Model for StdSink<W> {
-    ghost use Rattle.std.specs.Prelude.{ℕ};
+    ghost use Rattle.clover_main.specs.Edge.{Counted};
 
-    ghost Value = { ℕ };
+    ghost Value = { Counted W };
 
-    ghost view = { λ s. s.faults };
+    ghost view = { λ s. record { inner = s.writer; faults = s.faults } };
 }
 
 impl<W: Write + Drop> StdSink<W> {
     /// The sink over this writer, with no fault yet. Takes no memory.
     pub fn make(writer: W) -> StdSink<W>
-        ensures { result ≡ 0 }
+        ensures { (result.inner ≡ writer) × (result.faults ≡ 0) }
     {
         StdSink { writer, faults: 0 }
     }
 }
 
 impl<W: Write + Drop> Sink for StdSink<W> {
-    ghost use Rattle.std.specs.Prelude.{None};
+    ghost taken = { λ s. W.contents s.inner };
 
-    ghost taken = { λ s. None };
-
-    ghost faults = { λ s. s };
+    ghost faults = { λ s. s.faults };
 
     fn put(&mut self, piece: &[u8]) -> Result<(), Failed> {
         let mut rest = piece;
         while !rest.is_empty() {
             match self.writer.write(rest) {
-                Ok(count) if count > 0 => rest = &rest[count..],
+                Ok(count) if count > 0 => rest = behind(rest, count),
                 _ => {
                     self.faults = self.faults.saturating_add(1);
                     return Err(Failed);
@@ -92,4 +88,12 @@ impl<W: Write + Drop> Sink for StdSink<W> {
         }
         Ok(())
     }
+}
+
+/// What is behind the first bytes.
+fn behind(bytes: &[u8], count: usize) -> &[u8]
+    requires { count ≤ length bytes.now }
+    ensures { result.now ≡ drop count bytes.now }
+{
+    &bytes[count..]
 }
