@@ -1,16 +1,19 @@
 -- The laws of a step: it keeps the rule, it tells its actor facts, and its access replays.
 use Rattle.std.proofs.Common.{◌≡◌, ℕ, List, refl, sym}
+use Rattle.clover_words.specs.declared.pool.Pool.{Pool}
+use Rattle.clover_words.specs.Tag.{home}
+use Rattle.clover_words.specs.Version.{content_at, buffer_at}
+use Rattle.clover_rule.specs.Accesses.{CameBack, words_after_act}
+use Rattle.clover_rule.specs.Serving.{Serve, Look, FlushOf, RootOf, FlushRootOf, PassOf, FreeOf, Hold, HoldFlushed, Spell, SpellFlushed, Bind, BindFlushed, Name, serve_word, serve_side, serve_becomes, serve_act}
 use Rattle.std.specs.Prelude.{slice_set, slice_index}
 use Rattle.std.proofs.lemmas.List.{set-get_or}
 use Rattle.clover_words.specs.declared.word.Word.TheVariants.{Next as NextOf}
 use Rattle.clover_words.specs.declared.word.Side.TheVariants.{Current}
 use Rattle.clover_words.specs.Place.{address_of}
-use Rattle.clover_words.specs.Tag.{home}
-use Rattle.clover_words.specs.Version.{content_at, buffer_at}
 use Rattle.clover_rule.specs.Laws.{PartsLaw, StepLaw, ToldLaw, TableStepLaw, AccessLaw}
-use Rattle.clover_rule.specs.Steps.{LoadNext, DecideNext, RaiseNext, LinkNext, StoreContent, FlushContent, LoadContent, ReadRoot, ReadShort, StoreShort, ReadCount, AbsentCount, word_of}
+use Rattle.clover_rule.specs.Steps.{LoadNext, DecideNext, RaiseNext, LinkNext, StoreContent, FlushContent, LoadContent, ReadRoot, ReadShort, StoreShort, ReadCount, AbsentCount, Served, word_of}
 use Rattle.clover_rule.specs.Told.{Told}
-use Rattle.clover_rule.proofs.Keeps.{keeps}
+use Rattle.clover_rule.proofs.AllKeeps.{keeps}
 use Rattle.clover_rule.proofs.Telling.{told, table_law}
 use Rattle.clover_rule.proofs.TwelveParts.{rule_holds}
 
@@ -43,3 +46,19 @@ access_law p ws (ReadShort s) = (refl, same_words ws (address_of p (word_of (Rea
 access_law p ws (StoreShort s t) = (tt, refl)
 access_law p ws ReadCount = (refl, same_words ws (address_of p (word_of ReadCount) Current))
 access_law p ws (AbsentCount c) = (refl, same_words ws (address_of p (word_of ReadCount) Current))
+access_law p ws (Served a) = served p ws a
+  where
+    served : (p : Pool) (ws : List ℕ) (a : Serve) → CameBack p ws (serve_act a (slice_index ws (address_of p (serve_word a) (serve_side a)))) × (words_after_act p ws (serve_act a (slice_index ws (address_of p (serve_word a) (serve_side a)))) ≡ slice_set ws (address_of p (serve_word a) (serve_side a)) (serve_becomes a (slice_index ws (address_of p (serve_word a) (serve_side a)))))
+    served p ws (Look s r) = (refl, same_words ws (address_of p (NextOf (buffer_at (home r))) Current))
+    served p ws (FlushOf s r t) = (refl, refl)
+    served p ws (RootOf s r t) = (tt, refl)
+    served p ws (FlushRootOf s r t) = (tt, refl)
+    served p ws (PassOf s r t) = (refl, refl)
+    served p ws (FreeOf s r) = (refl, refl)
+    served p ws (Hold s k t) = (tt, refl)
+    served p ws (HoldFlushed s k t) = (tt, refl)
+    served p ws (Spell s k t j x) = (tt, refl)
+    served p ws (SpellFlushed s k t j x) = (tt, refl)
+    served p ws (Bind s k t) = (tt, refl)
+    served p ws (BindFlushed s k t) = (tt, refl)
+    served p ws (Name s k t n) = (tt, refl)

@@ -6,6 +6,7 @@ use Rattle.clover_words.specs.declared.pool.Pool.{Pool}
 use Rattle.clover_words.specs.declared.word.Word.TheVariants.{Next as NextOf, Root, Key}
 use Rattle.clover_words.specs.declared.word.Side.TheVariants.{Current, Flushed}
 use Rattle.clover_words.proofs.Places.{has_current}
+use Rattle.clover_words.specs.Tag.{home}
 use Rattle.clover_words.specs.Version.{buffer_at, content_at}
 use Rattle.clover_map.specs.declared.call.Entry.{Entry}
 use Rattle.clover_map.specs.Tagged.{Tagged}
@@ -14,16 +15,18 @@ use Rattle.clover_rule.specs.Content.{IsKey, Spells, inside}
 use Rattle.clover_rule.specs.Cut.{IsCut, image_of, ImageDecodes, IsKnownDurable, AfterCut, CutLaw}
 use Rattle.clover_rule.specs.History.{Survives, Version, Map, shows, kept, leads, ends}
 use Rattle.clover_rule.specs.Image.{Image, IsImage, Reads, ReadsMap, missing, tags, Chain}
+use Rattle.clover_rule.specs.Lists.{Within, nth}
+use Prim.Native.Nat.{suc}
 use Rattle.clover_rule.specs.Meets.{Meets, IsCode}
-use Rattle.clover_rule.specs.Memory.{Mem, word}
+use Rattle.clover_rule.specs.Memory.{Mem, word, link}
 use Rattle.clover_rule.specs.Sound.{Sound}
-use Rattle.clover_rule.specs.Story.{Story, Durable}
+use Rattle.clover_rule.specs.Story.{Story, Durable, Chained}
 use Rattle.clover_rule.specs.Words.{guarded, mem_of, next_of, root_of}
 use Rattle.clover_rule.specs.declared.view.View.{View}
 use Rattle.clover_rule.proofs.Steps.{each_within}
 use Rattle.clover_rule.proofs.Snocs.{within_nth}
 use Rattle.clover_rule.proofs.Cuts.{cut_survives, cut_stands}
-use Rattle.clover_rule.proofs.Soundness.{cut_sound, cut_ends, bound_root as bound_key, spelled as spelled_key}
+use Rattle.clover_rule.proofs.Soundness.{cut_sound, cut_ends, bound_root as bound_key, spelled as spelled_key, chain_placed}
 use Rattle.clover_rule.proofs.Spelling.{one_key}
 use Rattle.clover_rule.proofs.Keys.{key_discrete}
 use Rattle.clover_rule.proofs.TaggedMaps.{legal_history}
@@ -109,6 +112,30 @@ module _ (p : Pool) (first : Tagged) (used ws : List ℕ) (vs : List View) (st :
       unbound = λ k f. ap (λ (g : Map). g k) l.3 ∙ unspelled k f;
     };
   }
+
+-- an image has one chain from a link
+same_chain : (i : Image) (x : Option ℕ) (ts us : List ℕ) → Chain i x ts → Chain i x us → ts ≡ us
+same_chain i None [] [] c d = refl
+same_chain i None [] (u ∷ us) c d = absurd d
+same_chain i None (t ∷ ts) us c d = absurd c
+same_chain i (Some x) [] us c d = absurd c
+same_chain i (Some x) (t ∷ ts) [] c d = absurd d
+same_chain i (Some x) (t ∷ ts) (u ∷ us) c d = let q : t ≡ u = sym c.0 ∙ d.0 in
+    let z : ts ≡ us = same_chain i (link (i.next (home x))) ts us c.2 d.2 in cc
+
+place_within : (ts : List ℕ) (t : ℕ) → Within t ts → (i : ℕ) × (nth ts i ≡ Some t)
+place_within [] t w = absurd w
+place_within (u ∷ ts) t (inl e) = (0, ap Some e)
+place_within (u ∷ ts) t (inr w) = let q = place_within ts t w in (suc q.0, q.1)
+
+-- a buffer that stands on no slot's chain stands on no chain of an image of these words
+pub nowhere : (p : Pool) (first : Tagged) (used ws : List ℕ) (vs : List View) (st : Story) (h : List Entry) → Meets p first used ws vs st h → (b : ℕ) → ((s : ℕ) → st.place b ≢ Chained s)
+    → (im : List ℕ) → IsCut p ws im → (s : ℕ) (ts : List ℕ) → Chain (image_of p im) ((image_of p im).root s) ts → (t : ℕ) → Within t ts → home t ≢ b
+nowhere p first used ws vs st h r b off im cut s ts c t w e =
+    let i : Image = image_of p im in
+    let so : Sound p i = cut_sound p (shows first) used (mem_of p ws) vs st h r.whole i (is p first used ws vs st h r im cut) in
+    let q = place_within (so.chain s) t (subst (Within t) (same_chain i (i.root s) ts (so.chain s) c (so.walk s)) w) in
+    off s (ap st.place (sym e) ∙ chain_placed p (shows first) used (mem_of p ws) vs st h r.whole i (is p first used ws vs st h r im cut) s q.0 t q.1)
 
 pub cut_law : CutLaw
 cut_law p first used ws vs h im r cut = after p first used ws vs r.story h r.helped im cut

@@ -1,19 +1,19 @@
 -- The laws of a binding's stores of the root, its flushed copy and the count.
-use Rattle.std.proofs.Common.{◌≡◌, ℕ, zero, suc, ◌+◌, ◌≤◌, ◌≢◌, ◌⊎◌, List, [], ◌∷◌, ◌++◌, length, append-nil, Bool, true, cond, leb, refl, sym, ap, ◌∙◌, inl, inr, ⊎_elim, arith, subst, eq-eqb, true≢false}
+use Rattle.std.proofs.Common.{◌≡◌, ℕ, zero, suc, ◌+◌, ◌≤◌, ◌≢◌, ◌⊎◌, List, [], ◌∷◌, ◌++◌, length, append-nil, Bool, true, cond, leb, refl, sym, ap, ◌∙◌, inl, inr, ⊎_elim, arith, subst, eq-eqb, true≢false, ne_eqb}
 use native.Mathlib.Decide.{ℕ_discrete}
 use mathlib.Core.Logic.{dite}
 use Rattle.std.specs.Prelude.{Option, Some, None}
 use Rattle.std.proofs.lemmas.List.{nil_from_length}
-use Rattle.clover_words.specs.Tag.{home, age}
+use Rattle.clover_words.specs.Tag.{home}
 use Rattle.clover_map.specs.declared.call.Entry.{Entry}
 use Rattle.clover_rule.specs.Content.{spelling, Fits, IsKey}
 use Rattle.clover_rule.specs.History.{Version, Map, commits, ends, at_key}
 use Rattle.clover_rule.specs.Lists.{nth, upd}
 use Rattle.clover_rule.specs.Memory.{gen, Mem}
-use Rattle.clover_rule.specs.Server.{Ready, IsStoring, Stage, Help, is_home, book_of, Serves, Whole, IsWhole}
-use Rattle.clover_rule.specs.ServerSteps.{BindRoot, server_after, served_view, ServerLaw}
-use Rattle.clover_rule.specs.Story.{Place, Chained, Story, tag_in_version, tag_at, Core, Tale, unsure}
-use Rattle.clover_rule.specs.Views.{book, Holds, Stands, Basis, renewed, book_at, root_at}
+use Rattle.clover_rule.specs.Server.{Ready, IsStoring, Stage, Help, is_home, book_of, Serves, Whole, root_in}
+use Rattle.clover_rule.specs.ServerSteps.{BindRoot, server_after, served_view, ServerLaw, IsServed}
+use Rattle.clover_rule.specs.Story.{Place, Chained, Story, tag_in_version, tag_at, Core, Tale, unsure, Stocked}
+use Rattle.clover_rule.specs.Views.{book, Holds, Stands, Basis, renewed, root_at}
 use Rattle.clover_rule.specs.declared.view.BufferState.TheVariants.{Bound as IsBound, Out as IsOut}
 use Rattle.clover_rule.specs.declared.view.Role.TheVariants.{Serving}
 use Rattle.clover_rule.specs.declared.view.Task.TheVariants.{Storing, Rooted}
@@ -24,7 +24,7 @@ use Rattle.clover_rule.proofs.Spelling.{dead_word}
 use Rattle.clover_rule.proofs.Tools.{upd_same, upd_else, nth_within}
 use Rattle.clover_rule.proofs.Standings.{tag_there, tag_within}
 use Rattle.clover_rule.proofs.Steps.{prefix_self, Grows, durable_kept}
-use Rattle.clover_rule.proofs.ServerTools.{core_copy, Moves, whole, book_same}
+use Rattle.clover_rule.proofs.ServerTools.{core_copy, Moves, whole, book_same, no_stock}
 use Rattle.clover_rule.proofs.ServerLaws.{stage_at, serves_at}
 use Rattle.clover_rule.proofs.Binding.{CanBind, bound_story, bind_core, Case, here_tag, else_case, log_here, here_sure}
 use Rattle.clover_rule.proofs.Cuts.{unread_less, unsure_less}
@@ -199,9 +199,17 @@ module _ (l : Pool) (m0 : Map) (used : List ℕ) (m : Mem) (vs : List View) (id 
     fgens = λ b. omega arith;
   }
 
-  roots_now : (s1 : ℕ) → upd (root_at v.server) s (Some t) s1 ≡ tag_at st1 s1 (st1.gone s1)
-  roots_now s1 = dite (ℕ_discrete s1 s) (λ d. ap (upd (root_at v.server) s (Some t)) d ∙ upd_same (root_at v.server) s (Some t) ∙ sym (ap (λ (a : ℕ). tag_at st1 a (st1.gone a)) d ∙ ap (tag_at st1 s) (upd_same st.gone s 0) ∙ here_tag m st s x r.core can))
-      (λ d. upd_else (root_at v.server) s s1 (Some t) d ∙ sv.roots s1 ∙ sym (ap (tag_at st1 s1) (same s1 d).gone ∙ (same s1 d).tags (st.gone s1)))
+  -- the directory has no root of the slot yet
+  rootless : root_at v.server s ≡ None
+  rootless = sv.roots s ∙ none (nth (st.log s) (st.gone s)) refl
+    where
+      none : (o : Option Version) → nth (st.log s) (st.gone s) ≡ o → tag_in_version o ≡ None
+      none None e1 = refl
+      none (Some w1) e1 = let z = nth_within (st.log s) (st.gone s) w1 e1 in absurd (omega (arith, bare))
+
+  roots_now : (s1 : ℕ) → root_at v.server s1 ≡ root_in (Rooted s k t) st1 s1
+  roots_now s1 = dite (ℕ_discrete s1 s) (λ d. ap (root_at v.server) d ∙ rootless ∙ sym (ap (λ (b : Bool). cond b None (tag_at st1 s1 (st1.gone s1))) (eq-eqb s s1 (sym d))))
+      (λ d. sv.roots s1 ∙ sym (ap (tag_at st1 s1) (same s1 d).gone ∙ (same s1 d).tags (st.gone s1)) ∙ sym (ap (λ (b : Bool). cond b None (tag_at st1 s1 (st1.gone s1))) (ne_eqb s s1 (λ z. d (sym z)))))
 
   serves1 : Serves l m1 st1 (Rooted s k t) (server_after l (BindRoot s k t) v.server)
   serves1 = record {
@@ -209,19 +217,18 @@ module _ (l : Pool) (m0 : Map) (used : List ℕ) (m : Mem) (vs : List View) (id 
     directory = ap (λ (a : List (ℕ × List ℕ)). a ++ (s, k) ∷ []) (sv.directory ∙ append-nil st.bindings);
     roots = roots_now;
     books = λ b i. dite (ℕ_discrete b (home t))
-        (λ d. ap (upd (book_at v.server) (home t) (book (age t) IsBound)) d ∙ upd_same (book_at v.server) (home t) (book (age t) IsBound)
-        ∙ sym (ap (λ (a : ℕ). book_of (Rooted s k t) st1 (st1.place a) (gen (m.next a)) a) d ∙ ap (λ (p : Place). book_of (Rooted s k t) st1 p (gen (m.next (home t))) (home t)) (upd_same st.place (home t) (Chained s))
-        ∙ ap (λ (a : Option ℕ). book (gen (m.next (home t))) (cond (is_home a (home t)) IsBound IsOut)) (ap (tag_at st1 s) (upd_same st.gone s 0) ∙ here_tag m st s x r.core can)
-        ∙ ap (λ (a : Bool). book (gen (m.next (home t))) (cond a IsBound IsOut)) (eq-eqb (home t) (home t) refl) ∙ ap (λ (a : ℕ). book a IsBound) (ap gen is.now)))
-        (λ d. upd_else (book_at v.server) (home t) b (book (age t) IsBound) d ∙ sv.books b i
+        (λ d. sv.books b i ∙ ap (λ (q : Place). book_of (Storing s k t n) st q (gen (m.next b)) b) (ap st.place d ∙ is.place)
+        ∙ sym (ap (λ (p : Place). book_of (Rooted s k t) st1 p (gen (m.next b)) b) (ap st1.place d ∙ upd_same st.place (home t) (Chained s))
+        ∙ ap (λ (c : Bool). book (gen (m.next b)) (cond (is_home (cond c None (tag_at st1 s (st1.gone s))) b) IsBound IsOut)) (eq-eqb s s refl)))
+        (λ d. sv.books b i
         ∙ sym (book_same (Storing s k t n) (Rooted s k t) st st1 (st.place b) (gen (m.next b)) b
-        (λ s1 q. ap (λ (a : Option ℕ). is_home a b) (let f : s1 ≢ s = λ z. let c = r.core.chained b s1 q in let c1 = tag_within st s1 c.0 c.1 c.2 in let c2 = bare in let c3 = ap (λ (a : ℕ). length (st.log a)) z in absurd (omega arith) in ap (tag_at st1 s1) (same s1 f).gone ∙ (same s1 f).tags (st.gone s1)))
+        (λ s1 q. ap (λ (a : Option ℕ). is_home a b) (let f : s1 ≢ s = λ z. let c = r.core.chained b s1 q in let c1 = tag_within st s1 c.0 c.1 c.2 in let c2 = bare in let c3 = ap (λ (a : ℕ). length (st.log a)) z in absurd (omega arith) in ap (λ (y : Bool). cond y None (tag_at st1 s1 (st1.gone s1))) (ne_eqb s s1 (λ z. f (sym z))) ∙ ap (tag_at st1 s1) (same s1 f).gone ∙ (same s1 f).tags (st.gone s1)))
         (λ q. absurd (d (let z : Some (home t) ≡ Some b = g.holds b q in cc))))
         ∙ sym (ap (λ (p : Place). book_of (Rooted s k t) st1 p (gen (m.next b)) b) (place_else b d)));
   }
 
-  pub bind_root_whole : IsWhole l m0 used m1 (renewed vs id (served_view l (BindRoot s k t) v))
-  bind_root_whole = (st1, h, whole l m0 used m vs st h w id v at role (BindRoot s k t) m1 st1 moves serves1)
+  pub bind_root_whole : IsServed l m0 used m1 (renewed vs id (served_view l (BindRoot s k t) v)) st h
+  bind_root_whole = (st1, whole l m0 used m vs st h w id v at role (BindRoot s k t) m1 st1 moves serves1, no_stock st.place (home t) (Chained s) (λ i z. absurd (let y : Chained s ≡ Stocked i = z in cc)))
 
 pub bind_root_law : (l : Pool) (s : ℕ) (k : List ℕ) (t : ℕ) → ServerLaw l (BindRoot s k t)
-bind_root_law l s k t m0 used m vs id v (st, h, w) at role e = bind_root_whole l m0 used m vs id v st h w at role s k t e
+bind_root_law l s k t m0 used m vs id v st h w at role e = bind_root_whole l m0 used m vs id v st h w at role s k t e

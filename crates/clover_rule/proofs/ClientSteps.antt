@@ -165,8 +165,8 @@ module _ (l : Pool) (m : Mem) (st : Story) (c : Core m st) (p : Help l m st) (s 
       by : (T : Task) → root_in T st' s1 ≡ root_in T st s1
       by Idle = gone_kept
       by (Storing s2 k2 t2 n2) = gone_kept
-      by (Rooted s2 k2 t2) = gone_kept
-      by (Waiting s2 k2 t2) = gone_kept
+      by (Rooted s2 k2 t2) = ap (cond (eqb s2 s1) None) gone_kept
+      by (Waiting s2 k2 t2) = ap (cond (eqb s2 s1) None) gone_kept
       by (Loaded s2 k2 t2) = gone_kept
       by (Raised s2 k2 t2) = gone_kept
       by (Led s2 k2 t2) = gone_kept
@@ -187,11 +187,15 @@ module _ (l : Pool) (m : Mem) (st : Story) (c : Core m st) (p : Help l m st) (s 
       still : is_home (tag_at st s (st.gone s)) (home t) ≡ false
       still = root_away (tag_at st s (st.gone s)) refl
 
+      none_or : (b : Bool) → is_home (cond b None (tag_at st s (st.gone s))) (home t) ≡ false
+      none_or true = refl
+      none_or false = still
+
       by : (T : Task) → AtStage l m st T → is_home (root_in T st s) (home t) ≡ false
       by Idle a = still
       by (Storing s2 k2 t2 n2) a = still
-      by (Rooted s2 k2 t2) a = still
-      by (Waiting s2 k2 t2) a = still
+      by (Rooted s2 k2 t2) a = none_or (eqb s2 s)
+      by (Waiting s2 k2 t2) a = none_or (eqb s2 s)
       by (Loaded s2 k2 t2) a = still
       by (Raised s2 k2 t2) a = still
       by (Led s2 k2 t2) a = still

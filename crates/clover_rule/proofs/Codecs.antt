@@ -7,7 +7,6 @@ use Rattle.clover_words.specs.declared.word.Word.TheVariants.{Next as NextOf, Ro
 use Rattle.clover_words.specs.Place.{IsBuffer}
 use Rattle.clover_words.specs.Tag.{TagParts, IsTag, tag_number, home, age}
 use Rattle.clover_words.specs.Next.{NextParts, IsNext, IsLink, next_word, root_word, root_code}
-use Rattle.clover_words.specs.Version.{unlinked, linked, buffer_at}
 use Rattle.clover_rule.specs.Content.{InRange}
 use Rattle.clover_rule.specs.Memory.{word}
 use Rattle.clover_rule.specs.Told.{IsShown}

@@ -12,9 +12,9 @@ use Rattle.clover_rule.specs.Content.{InRange, inside}
 use Rattle.clover_rule.specs.History.{Map}
 use Rattle.clover_rule.specs.Lists.{nth, upd}
 use Rattle.clover_rule.specs.Memory.{Next, word, gen, Mem, greater, order}
-use Rattle.clover_rule.specs.Server.{Ready, Stage, Help, root_in, is_home, book_of, Serves, Whole, IsWhole}
-use Rattle.clover_rule.specs.ServerSteps.{ServerStep, LoadRoot, FlushLink, StoreRoot, StoreFlushedRoot, ExchangeRoot, FreeOld, Begin, FlushMeta, StoreKey, FlushKey, BindRoot, BindFlushedRoot, StoreCount, freed, served_view, ServerLaw}
-use Rattle.clover_rule.specs.Story.{Place, Chained, Free, Worn, Taken, Story, tag_at, Core, Standing, only}
+use Rattle.clover_rule.specs.Server.{Ready, Stage, Help, root_in, is_home, book_of, Serves, Whole}
+use Rattle.clover_rule.specs.ServerSteps.{ServerStep, LoadRoot, FlushLink, StoreRoot, StoreFlushedRoot, ExchangeRoot, FreeOld, Begin, FlushMeta, StoreKey, FlushKey, BindRoot, BindFlushedRoot, StoreCount, freed, served_view, ServerLaw, IsServed}
+use Rattle.clover_rule.specs.Story.{Place, Chained, Stocked, Free, Worn, Taken, Story, tag_at, Core, Standing, only}
 use Rattle.clover_rule.specs.Views.{Book, book, Basis, renewed, book_at, root_at}
 use Rattle.clover_rule.specs.declared.view.BufferState.TheVariants.{Free as IsFree, Worn as IsWorn, Bound as IsBound, Out as IsOut}
 use Rattle.clover_rule.specs.declared.view.Role.TheVariants.{Serving}
@@ -23,7 +23,7 @@ use Rattle.clover_rule.specs.declared.view.View.{View}
 use Rattle.clover_words.specs.declared.pool.Pool.{Pool}
 use Rattle.clover_rule.proofs.Tools.{upd_same, upd_else}
 use Rattle.clover_rule.proofs.Steps.{prefix_self}
-use Rattle.clover_rule.proofs.ServerTools.{core_copy, whole, book_same, tale_copy}
+use Rattle.clover_rule.proofs.ServerTools.{core_copy, whole, book_same, tale_copy, no_stock}
 use Rattle.clover_rule.proofs.ServerLaws.{stage_at, serves_at, begin_law, flush_meta_law, store_key_law, flush_key_law}
 use Rattle.clover_rule.proofs.BindLaws.{bind_root_law}
 use Rattle.clover_rule.proofs.Stages.{load_root_whole, flush_link_whole, store_root_whole, store_flushed_whole, bind_flushed_whole, store_count_whole}
@@ -119,10 +119,9 @@ module _ (l : Pool) (m0 : Map) (used : List ℕ) (m : Mem) (vs : List View) (id 
         (λ d. sv.books b i ∙ sym (book_same (Both s r t) (Exchanged s r t) st st1 (st.place b) (gen (m.next b)) b (λ s1 q. ap (λ (x : Option ℕ). is_home x b) (roots_kept s1)) (λ q. absurd (let z : ◌≡◌ {A = Option ℕ} None (Some b) = g.holds b q in cc)))
         ∙ sym (ap (λ (p : Place). book_of (Exchanged s r t) st1 p (gen (m1.next b)) b) (place_else b d) ∙ ap (λ (x : ℕ). book_of (Exchanged s r t) st1 (st.place b) x b) (ap gen (next_else b d))))
 
-    pub exchange_whole : IsWhole l m0 used m1 (renewed vs id (served_view l (ExchangeRoot s r t) v))
+    pub exchange_whole : IsServed l m0 used m1 (renewed vs id (served_view l (ExchangeRoot s r t) v)) st h
     exchange_whole = (
       st1,
-      h,
       whole l m0 used m vs st h w id v at role (ExchangeRoot s r t) m1 st1
           record {
             core = core_copy m1 (recycled_story st s r) (recycle_core m st s r ru.core can) m.body m.fbody m.key m.fkey m.short m.count st.keys st.first st.bindings (Exchanged s r t) st.slot_named;
@@ -137,6 +136,7 @@ module _ (l : Pool) (m0 : Map) (used : List ℕ) (m : Mem) (vs : List View) (id 
             fgens = λ b. omega arith;
           }
           record { task_is = refl; directory = sv.directory; roots = λ s1. sv.roots s1 ∙ sym (roots_kept s1); books = books1 },
+      no_stock st.place (home r) Taken (λ i z. absurd (let y : Taken ≡ Stocked i = z in cc)),
     )
 
   module _ (s r t : ℕ) (e : v.server.task ≡ Exchanged s r t) where
@@ -156,6 +156,10 @@ module _ (l : Pool) (m0 : Map) (used : List ℕ) (m : Mem) (vs : List View) (id 
 
     abbrev q0 : Place
     q0 = place_of (eqb (suc (age r)) l.wear)
+
+    unstocked : (b : Bool) (i : ℕ) → place_of b ≢ Stocked i
+    unstocked true i z = absurd (let y : Worn ≡ Stocked i = z in cc)
+    unstocked false i z = absurd (let y : Free ≡ Stocked i = z in cc)
 
     unchained : (s1 : ℕ) → q0 ≢ Chained s1
     unchained s1 = go (eqb (suc (age r)) l.wear)
@@ -261,10 +265,9 @@ module _ (l : Pool) (m0 : Map) (used : List ℕ) (m : Mem) (vs : List View) (id 
         (λ f. upd_else (book_at v.server) (home t) b (book (age t) IsBound) f ∙ se.books b i ∙ sym (book_same (Exchanged s r t) Idle st st2 (st.place b) (gen (m.next b)) b (λ s1 q. same_home b d f s1) (λ q. absurd (d (let z : Some b0 ≡ Some b = ge.holds b q in cc))))
         ∙ sym (ap (λ (p : Place). book_of Idle st2 p (gen (m.next b)) b) (place2_else b d))))
 
-    pub free_old_whole : IsWhole l m0 used m2 (renewed vs id (served_view l (FreeOld s r t) v))
+    pub free_old_whole : IsServed l m0 used m2 (renewed vs id (served_view l (FreeOld s r t) v)) st h
     free_old_whole = (
       st2,
-      h,
       whole l m0 used m vs st h w id v at role (FreeOld s r t) m2 st2
           record {
             core = core_copy m2 (record st { place = upd st.place b0 q0 }) core2 m.body m.fbody m.key m.fkey m.short m.count st.keys st.first st.bindings Idle st.slot_named;
@@ -279,20 +282,21 @@ module _ (l : Pool) (m0 : Map) (used : List ℕ) (m : Mem) (vs : List View) (id 
             fgens = λ b. dite (ℕ_discrete b b0) (λ d. let z = ap gen (ap m2.fnext d ∙ f_now) in let z1 = ap gen (ap m.fnext d ∙ ge.here.safe) in omega arith) (λ d. let z = ap gen (f_else b d) in omega arith);
           }
           record { task_is = refl; directory = se.directory; roots = roots2; books = serves2 },
+      no_stock st.place b0 q0 (unstocked (eqb (suc (age r)) l.wear)),
     )
 
 -- the laws of all acts of the server
 pub server_law : (l : Pool) (a : ServerStep) → ServerLaw l a
-server_law l (LoadRoot s r t) m0 used m vs id v (st, h, w) at role (e, f, f1) = load_root_whole l m0 used m vs id v st h w at role s r t e f f1
-server_law l (FlushLink s r t) m0 used m vs id v (st, h, w) at role e = flush_link_whole l m0 used m vs id v st h w at role s r t e
-server_law l (StoreRoot s r t) m0 used m vs id v (st, h, w) at role e = store_root_whole l m0 used m vs id v st h w at role s r t e
-server_law l (StoreFlushedRoot s r t) m0 used m vs id v (st, h, w) at role e = store_flushed_whole l m0 used m vs id v st h w at role s r t e
-server_law l (ExchangeRoot s r t) m0 used m vs id v (st, h, w) at role e = exchange_whole l m0 used m vs id v st h w at role s r t e
-server_law l (FreeOld s r t) m0 used m vs id v (st, h, w) at role e = free_old_whole l m0 used m vs id v st h w at role s r t e
-server_law l (Begin s k t) m0 used m vs id v z at role e = begin_law l s k t m0 used m vs id v z at role e
-server_law l (FlushMeta s k t) m0 used m vs id v z at role e = flush_meta_law l s k t m0 used m vs id v z at role e
-server_law l (StoreKey s k t j x) m0 used m vs id v z at role e = store_key_law l s k t j x m0 used m vs id v z at role e
-server_law l (FlushKey s k t j x) m0 used m vs id v z at role e = flush_key_law l s k t j x m0 used m vs id v z at role e
-server_law l (BindRoot s k t) m0 used m vs id v z at role e = bind_root_law l s k t m0 used m vs id v z at role e
-server_law l (BindFlushedRoot s k t) m0 used m vs id v (st, h, w) at role e = bind_flushed_whole l m0 used m vs id v st h w at role s k t e
-server_law l (StoreCount s k t) m0 used m vs id v (st, h, w) at role e = store_count_whole l m0 used m vs id v st h w at role s k t e
+server_law l (LoadRoot s r t) m0 used m vs id v st h w at role (e, f, f1) = load_root_whole l m0 used m vs id v st h w at role s r t e f f1
+server_law l (FlushLink s r t) m0 used m vs id v st h w at role e = flush_link_whole l m0 used m vs id v st h w at role s r t e
+server_law l (StoreRoot s r t) m0 used m vs id v st h w at role e = store_root_whole l m0 used m vs id v st h w at role s r t e
+server_law l (StoreFlushedRoot s r t) m0 used m vs id v st h w at role e = store_flushed_whole l m0 used m vs id v st h w at role s r t e
+server_law l (ExchangeRoot s r t) m0 used m vs id v st h w at role e = exchange_whole l m0 used m vs id v st h w at role s r t e
+server_law l (FreeOld s r t) m0 used m vs id v st h w at role e = free_old_whole l m0 used m vs id v st h w at role s r t e
+server_law l (Begin s k t) m0 used m vs id v st h w at role e = begin_law l s k t m0 used m vs id v st h w at role e
+server_law l (FlushMeta s k t) m0 used m vs id v st h w at role e = flush_meta_law l s k t m0 used m vs id v st h w at role e
+server_law l (StoreKey s k t j x) m0 used m vs id v st h w at role e = store_key_law l s k t j x m0 used m vs id v st h w at role e
+server_law l (FlushKey s k t j x) m0 used m vs id v st h w at role e = flush_key_law l s k t j x m0 used m vs id v st h w at role e
+server_law l (BindRoot s k t) m0 used m vs id v st h w at role e = bind_root_law l s k t m0 used m vs id v st h w at role e
+server_law l (BindFlushedRoot s k t) m0 used m vs id v st h w at role e = bind_flushed_whole l m0 used m vs id v st h w at role s k t e
+server_law l (StoreCount s k t) m0 used m vs id v st h w at role e = store_count_whole l m0 used m vs id v st h w at role s k t e

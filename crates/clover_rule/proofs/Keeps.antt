@@ -30,7 +30,7 @@ use Rattle.clover_rule.specs.Lists.{Within, upd, nth, Each}
 use Rattle.clover_rule.specs.Meets.{IsCode, Meets, IsMet}
 use Rattle.clover_rule.specs.Memory.{Next, word, gen, link, order, greater, Mem}
 use Rattle.clover_rule.specs.Server.{Whole, Ready}
-use Rattle.clover_rule.specs.Steps.{IsClient, client, counted, Step, LoadNext, DecideNext, RaiseNext, LinkNext, StoreContent, FlushContent, LoadContent, ReadRoot, ReadShort, StoreShort, ReadCount, AbsentCount, word_of, side_of, becomes, act_of, turn_at, Asks, MayDecide, MayReply, MayCommit, MayCall, MayMiss, learned, seen, decided, started, counts, missed, rest_of, value_of, reply_of, next_view, next_history, found, words_after_step, number_of}
+use Rattle.clover_rule.specs.Steps.{IsClient, client, counted, Step, LoadNext, DecideNext, RaiseNext, LinkNext, StoreContent, FlushContent, LoadContent, ReadRoot, ReadShort, StoreShort, ReadCount, AbsentCount, Served, word_of, side_of, becomes, act_of, turn_at, Asks, MayDecide, MayReply, MayCommit, MayCall, MayMiss, learned, seen, decided, started, counts, missed, rest_of, value_of, reply_of, next_view, next_history, found, words_after_step, number_of}
 use Rattle.clover_rule.specs.Story.{Chained, Stocked, Durable, Story, tag_at, only}
 use Rattle.clover_rule.specs.Views.{IsLink, renewed, raise_view, Owned}
 use Rattle.clover_rule.specs.Words.{next_code, root_of, next_of, mem_of}
@@ -90,23 +90,23 @@ max_case : (x k : ℕ) (P : ℕ → Type 0) → P x → P k → P (max x k)
 max_case x k P a b = dite (dec_le x k) (λ h. subst P (let e : k ≡ max x k = omega arith in e) b) (λ h. subst P (let e : x ≡ max x k = omega arith in e) a)
 
 -- the flushed copy and a link of one generation have one link
-one_link : (a t : ℕ) (n : Next) → (gen n ≡ a → (n ≡ word a None) ⊎ (n ≡ word a (Some t))) → OneLink (word a (Some t)) n
+pub one_link : (a t : ℕ) (n : Next) → (gen n ≡ a → (n ≡ word a None) ⊎ (n ≡ word a (Some t))) → OneLink (word a (Some t)) n
 one_link a t (word b None) f = tt
 one_link a t (word b (Some u)) f = λ e. ⊎_elim {C = t ≡ u} (λ q. absurd (let z : Some u ≡ None = ap link q in cc)) (λ q. let z : Some u ≡ Some t = ap link q in cc) (f (sym e))
 
-greater_case : (o n : Next) (P : Next → Type 0) → P o → P n → P (greater o n)
+pub greater_case : (o n : Next) (P : Next → Type 0) → P o → P n → P (greater o n)
 greater_case o n P a b = elim (ltb (order o) (order n)) as (λ t. P (cond t n o)) [ true ↦ b | false ↦ a ]
 
 small_code : (w : Next) → Small w → root_code (link w) < 8796093022208
 small_code (word a None) s = omega arith
 small_code (word a (Some t)) s = omega arith
 
-again : (w : Next) → Small w → next_of (next_code w) ≡ w
+pub again : (w : Next) → Small w → next_of (next_code w) ≡ w
 again (word a None) s = next_again a None (omega arith)
 again (word a (Some t)) s = next_again a (Some t) (omega arith)
 
 -- what a number says is small
-small_of : (n : ℕ) → Small (next_of n)
+pub small_of : (n : ℕ) → Small (next_of n)
 small_of n = go (nat_lt (n % 8796093022208) 4398046511104)
   where
     go : (b : Bool) → Small (word (n / 8796093022208) (cond b None (Some ((n % 8796093022208) - 4398046511104))))
@@ -316,17 +316,23 @@ module _ (p : Pool) (first : Tagged) (used : List ℕ) (ws : List ℕ) (vs : Lis
       miss_does (Swap k y x) q e = (refl, e)
       miss_does (Put k x) q e = absurd q
 
+  -- a step of the server is not one of a client
+  abbrev pub ByClient : Step → Type 0
+  ByClient (Served a) = ⊥
+  ByClient a = Unit {0}
+
   -- the law: whatever the words, the views and the history are, a step that the client may make keeps the helping facts
-  pub keeps : (a : Step) (b : Bool) → Asks p a v → IsMet p first used (words_after_step p a ws) (slice_set vs id (next_view b a h v (found p a ws))) (next_history a h v (found p a ws))
-  keeps (LoadNext s t) b (hw, (cl, d)) = load_next b (LoadNext s t) s t refl refl hw tt cl d (turn_at t (found p (LoadNext s t) ws))
-  keeps (DecideNext s t c y) b (hw, may) = decide_next b s t c y hw may
-  keeps (RaiseNext l) b (hw, (cl, d)) = raise_next b l hw cl d
-  keeps (LinkNext s u t c) b (hw, may) = link_next b s u t c hw may
-  keeps (StoreContent t j x) b (hw, (cl, own)) = store_content b t j x hw cl own
-  keeps (FlushContent t j x) b (hw, (cl, own)) = flush_content b t j x hw cl own
-  keeps (LoadContent s t j) b (hw, (cl, d)) = load_content b s t j hw cl d
-  keeps (ReadRoot s) b (hw, cl) = read_slot b (ReadRoot s) s tt hw cl (λ t e. root_durable p m0 used m vs st h r.whole id v at cl s t (read_root p ws s hw ∙ e))
-  keeps (ReadShort s) b (hw, cl) = read_slot b (ReadShort s) s tt hw cl (λ t e. r.whole.help.short s t (read_short p ws s hw ∙ e))
-  keeps (StoreShort s t) b (hw, (cl, d)) = store_short b s t hw cl d
-  keeps ReadCount b (hw, cl) = quiet_step ReadCount tt tt cl b (counts v (found p ReadCount ws)) (record { role = refl; pool = refl; map = refl; used = refl }) (λ z q. q) 0 h (counts_whole p m0 used m vs st h r.whole id v at cl)
-  keeps (AbsentCount c) b (hw, (cl, mc, away)) = absent_count b c cl mc away
+  pub client_keeps : (a : Step) (b : Bool) → ByClient a → Asks p a v → IsMet p first used (words_after_step p a ws) (slice_set vs id (next_view b a h v (found p a ws))) (next_history a h v (found p a ws))
+  client_keeps (LoadNext s t) b by (hw, (cl, d)) = load_next b (LoadNext s t) s t refl refl hw tt cl d (turn_at t (found p (LoadNext s t) ws))
+  client_keeps (DecideNext s t c y) b by (hw, may) = decide_next b s t c y hw may
+  client_keeps (RaiseNext l) b by (hw, (cl, d)) = raise_next b l hw cl d
+  client_keeps (LinkNext s u t c) b by (hw, may) = link_next b s u t c hw may
+  client_keeps (StoreContent t j x) b by (hw, (cl, own)) = store_content b t j x hw cl own
+  client_keeps (FlushContent t j x) b by (hw, (cl, own)) = flush_content b t j x hw cl own
+  client_keeps (LoadContent s t j) b by (hw, (cl, d)) = load_content b s t j hw cl d
+  client_keeps (ReadRoot s) b by (hw, cl) = read_slot b (ReadRoot s) s tt hw cl (λ t e. root_durable p m0 used m vs st h r.whole id v at cl s t (read_root p ws s hw ∙ e))
+  client_keeps (ReadShort s) b by (hw, cl) = read_slot b (ReadShort s) s tt hw cl (λ t e. r.whole.help.short s t (read_short p ws s hw ∙ e))
+  client_keeps (StoreShort s t) b by (hw, (cl, d)) = store_short b s t hw cl d
+  client_keeps ReadCount b by (hw, cl) = quiet_step ReadCount tt tt cl b (counts v (found p ReadCount ws)) (record { role = refl; pool = refl; map = refl; used = refl }) (λ z q. q) 0 h (counts_whole p m0 used m vs st h r.whole id v at cl)
+  client_keeps (AbsentCount c) b by (hw, (cl, mc, away)) = absent_count b c cl mc away
+  client_keeps (Served a) b by asks = absurd by

@@ -9,6 +9,11 @@ pub mod TwelveParts
 pub mod Tails
 pub mod Telling
 pub mod Keeps
+pub mod AllKeeps
+pub mod ServerKeeps
+pub mod FirstRun
+pub mod DueLaws
+pub mod HandOver
 pub mod Keeping
 pub mod Learning
 pub mod Ties

@@ -10,9 +10,9 @@ use Rattle.clover_rule.specs.Content.{spelling}
 use Rattle.clover_rule.specs.History.{Map}
 use Rattle.clover_rule.specs.Lists.{nth, upd, Within}
 use Rattle.clover_rule.specs.Memory.{word, gen, link, Mem}
-use Rattle.clover_rule.specs.Server.{Ready, IsStoring, Stage, Help, book_of, Serves, Whole, IsWhole}
-use Rattle.clover_rule.specs.ServerSteps.{ServerStep, Begin, FlushMeta, StoreKey, FlushKey, server_after, served_view, ServerLaw}
-use Rattle.clover_rule.specs.Story.{Place, Taken, Loose, Story}
+use Rattle.clover_rule.specs.Server.{Ready, IsStoring, Stage, Help, book_of, Serves, Whole}
+use Rattle.clover_rule.specs.ServerSteps.{ServerStep, Begin, FlushMeta, StoreKey, FlushKey, server_after, served_view, ServerLaw, IsServed}
+use Rattle.clover_rule.specs.Story.{Place, Taken, Loose, Story, Stocked}
 use Rattle.clover_rule.specs.Views.{book, renewed, book_at, line}
 use Rattle.clover_rule.specs.declared.view.BufferState.TheVariants.{Out as IsOut}
 use Rattle.clover_rule.specs.declared.view.Role.TheVariants.{Serving}
@@ -23,7 +23,7 @@ use Rattle.clover_rule.specs.declared.view.View.{View}
 use Rattle.clover_words.specs.declared.pool.Pool.{Pool}
 use Rattle.clover_rule.proofs.Standings.{word_is}
 use Rattle.clover_rule.proofs.Tools.{upd_same, upd_else, nth_within}
-use Rattle.clover_rule.proofs.ServerTools.{whole, free_place}
+use Rattle.clover_rule.proofs.ServerTools.{whole, free_place, no_stock}
 use Rattle.clover_rule.proofs.Contents.{content_moves, storing_stage, storing_serves}
 
 module _ (l : Pool) (m0 : Map) (used : List ℕ) (m : Mem) (vs : List View) (id : ℕ) (v : View) (st : Story) (h : List Entry) (w : Whole l m0 used m vs st h) (at : nth vs id ≡ Some v) (role : v.pass.role ≡ Serving) where
@@ -64,20 +64,20 @@ module _ (l : Pool) (m0 : Map) (used : List ℕ) (m : Mem) (vs : List View) (id 
       unbound : (s1 : ℕ) (k1 : List ℕ) → st.keys s1 ≡ Some k1 → s1 ≢ s
       unbound s1 k1 q z = absurd (cc (ap st.keys z, q, is.bare))
 
-      pub storing_law : IsWhole l m0 used m1 (renewed vs id (served_view l a v))
+      pub storing_law : IsServed l m0 used m1 (renewed vs id (served_view l a v)) st h
       storing_law = (
         st1,
-        h,
         whole l m0 used m vs st h w id v at role a m1 st1
             (content_moves l m0 used m vs st h w (home t) (ap link is.now) (λ s1 q. absurd (cc (q, is.place))) (λ j q. absurd (cc (q, is.place))) B FB K FK (Storing s k t n') be fe (λ s1 k1 q. ke s1 (unbound s1 k1 q)) (λ s1 k1 q. ge s1 (unbound s1 k1 q))
             (storing_stage l m m1 st (Storing s k t n) s k t n' g (λ s1 q. absurd cc) refl (λ b q. let z : Some (home t) ≡ Some b = q in cc) is1))
             (subst (Serves l m1 st1 (Storing s k t n')) (sym after)
             (storing_serves l m m1 st (Storing s k t n) s k t n' v.server (serves_at (Storing s k t n) e) (λ s1. refl) refl (only_held n g) (λ b. refl) v.server.books (λ b q. refl)
             (let i = is.range in (serves_at (Storing s k t n) e).books (home t) i.0 ∙ ap (λ (p : Place). book_of (Storing s k t n) st p (gen (m.next (home t))) (home t)) is.place))),
+        no_stock st.place (home t) Taken (λ i z. absurd (let y : Taken ≡ Stocked i = z in cc)),
       )
 
 pub flush_meta_law : (l : Pool) (s : ℕ) (k : List ℕ) (t : ℕ) → ServerLaw l (FlushMeta s k t)
-flush_meta_law l s k t m0 used m vs id v (st, h, w) at role e =
+flush_meta_law l s k t m0 used m vs id v st h w at role e =
     let is : IsStoring l m st s k t 1 = (stage_at l m0 used m vs id v st h w at role (Storing s k t 1) e).here in
     storing_law l m0 used m vs id v st h w at role s k t 1 2 e m.body (upd m.fbody (home t) (upd (m.fbody (home t)) 0 tombstone)) m.key m.fkey
     (λ b n. refl) (λ b n. upd_else m.fbody (home t) b (upd (m.fbody (home t)) 0 tombstone) n) (λ s1 n. refl) (λ s1 n. refl)
@@ -85,7 +85,7 @@ flush_meta_law l s k t m0 used m vs id v (st, h, w) at role e =
     (λ j x q i. absurd (omega arith)) (λ j x q i. absurd (omega arith)) (FlushMeta s k t) refl
 
 pub store_key_law : (l : Pool) (s : ℕ) (k : List ℕ) (t j x : ℕ) → ServerLaw l (StoreKey s k t j x)
-store_key_law l s k t j x m0 used m vs id v (st, h, w) at role (e, f) =
+store_key_law l s k t j x m0 used m vs id v st h w at role (e, f) =
     let is : IsStoring l m st s k t (2 + j) = (stage_at l m0 used m vs id v st h w at role (Storing s k t (2 + j)) e).here in
     storing_law l m0 used m vs id v st h w at role s k t (2 + j) (3 + j) e m.body m.fbody (upd m.key s (upd (m.key s) j x)) m.fkey
     (λ b n. refl) (λ b n. refl) (λ s1 n. upd_else m.key s s1 (upd (m.key s) j x) n) (λ s1 n. refl)
@@ -96,7 +96,7 @@ store_key_law l s k t j x m0 used m vs id v (st, h, w) at role (e, f) =
     (λ i y q b. is.fkey i y q (let z = nth_within (spelling k) j x f in omega arith)) (StoreKey s k t j x) refl
 
 pub flush_key_law : (l : Pool) (s : ℕ) (k : List ℕ) (t j x : ℕ) → ServerLaw l (FlushKey s k t j x)
-flush_key_law l s k t j x m0 used m vs id v (st, h, w) at role (e, f) =
+flush_key_law l s k t j x m0 used m vs id v st h w at role (e, f) =
     let is : IsStoring l m st s k t (2 + j + length (spelling k)) = (stage_at l m0 used m vs id v st h w at role (Storing s k t (2 + j + length (spelling k))) e).here in
     storing_law l m0 used m vs id v st h w at role s k t (2 + j + length (spelling k)) (3 + j + length (spelling k)) e m.body m.fbody m.key (upd m.fkey s (upd (m.fkey s) j x))
     (λ b n. refl) (λ b n. refl) (λ s1 n. refl) (λ s1 n. upd_else m.fkey s s1 (upd (m.fkey s) j x) n)
@@ -112,7 +112,7 @@ not_bound l m st sv s p e g n None q = refl
 not_bound l m st sv s p e g n (Some k1) q = absurd (n s k1 (p.naming.listed s k1 q (⊎_elim (λ d. d) (λ d. absurd cc) (g.names s k1 q))))
 
 pub begin_law : (l : Pool) (s : ℕ) (k : List ℕ) (t : ℕ) → ServerLaw l (Begin s k t)
-begin_law l s k t m0 used m vs id v (st, h, w) at role (e, f, i, j, ik, ns, nk) =
+begin_law l s k t m0 used m vs id v st h w at role (e, f, i, j, ik, ns, nk) =
     let g : Stage l m st Idle = stage_at l m0 used m vs id v st h w at role Idle e in
     let sv : Serves l m st Idle v.server = serves_at l m0 used m vs id v st h w at role Idle e in
     let fr = free_place Idle st (st.place (home t)) (gen (m.next (home t))) (home t) (age t) (sym (sv.books (home t) i) ∙ f) in
@@ -140,11 +140,11 @@ begin_law l s k t m0 used m vs id v (st, h, w) at role (e, f, i, j, ik, ns, nk) 
       fkey = λ j1 x1 q b. absurd (omega arith);
     } in (
       st1,
-      h,
       whole l m0 used m vs st h w id v at role (Begin s k t) m1 st1
           (content_moves l m0 used m vs st h w (home t) lo.0 (λ s1 q. absurd (cc (q, fr.0))) (λ j1 q. absurd (cc (q, fr.0))) (upd m.body (home t) (upd (m.body (home t)) 0 tombstone)) m.fbody m.key m.fkey (Storing s k t 1)
           (λ b n. upd_else m.body (home t) b (upd (m.body (home t)) 0 tombstone) n) (λ b n. refl) (λ s1 k1 q. refl) (λ s1 k1 q. refl)
           (storing_stage l m m1 st Idle s k t 1 g (λ s1 q. absurd cc) refl (λ b q. absurd cc) is1))
           (storing_serves l m m1 st Idle s k t 1 v.server sv (λ s1. refl) refl (λ b q. absurd (cc (g.holds b q))) (λ b. refl) (line (home t) (age t) IsOut ∷ v.server.books) (λ b n. upd_else (book_at v.server) (home t) b (book (age t) IsOut) n)
           (upd_same (book_at v.server) (home t) (book (age t) IsOut) ∙ ap (λ (x : ℕ). book x IsOut) (sym fr.1))),
+      no_stock st.place (home t) Taken (λ i z. absurd (let y : Taken ≡ Stocked i = z in cc)),
     )

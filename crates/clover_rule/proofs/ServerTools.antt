@@ -53,6 +53,10 @@ pub record Moves (l : Pool) (m0 : Map) (used : List ℕ) (m : Mem) (st : Story) 
   pub help : Help l m' st'
   pub fgens : (b : ℕ) → gen (m.fnext b) ≤ gen (m'.fnext b)
 
+-- a place that becomes no stock leaves what is in stocks
+pub no_stock : (f : ℕ → Place) (a : ℕ) (q : Place) → ((i : ℕ) → q ≢ Stocked i) → (b i : ℕ) → upd f a q b ≡ Stocked i → f b ≡ Stocked i
+no_stock f a q n b i e = dite (ℕ_discrete b a) (λ d. absurd (n i (sym (upd_same f a q) ∙ ap (upd f a q) (sym d) ∙ e))) (λ d. sym (upd_else f a b q d) ∙ e)
+
 clients_same : (l : Pool) (a : ServerStep) (sv : Server) → (server_after l a sv).clients ≡ sv.clients
 clients_same l (LoadRoot s r t) sv = refl
 clients_same l (FlushLink s r t) sv = refl

@@ -157,6 +157,11 @@ module _ (l : Pool) (m0 : Map) (used : List ℕ) (m : Mem) (vs : List View) (st 
     );
   }
 
+  -- a tag of the image's chain stands in its buffer
+  pub chain_placed : (s i t : ℕ) → nth (cut_sound.chain s) i ≡ Some t → st.place (home t) ≡ Chained s
+  unfolding cut_sound
+  chain_placed s i t e = let a = on_chain s (im.root s) refl i t e in (c.standing s (from s + i) t (ap tag_in_version a.there ∙ ap Some a.tag) a.late).placed
+
   listed : (ws : List Version) (f : ℕ → Option Value) → ((i : ℕ) (y : Version) → nth ws i ≡ Some y → f i ≡ y.value) → versions_of (tags ws) f ≡ ws
   listed [] f e = refl
   listed (y ∷ ws) f e = let a = e zero y refl in cc (ap (λ (o : Option Value). version_of y.tag o) a, listed ws (λ (i : ℕ). f (suc i)) (λ i z q. e (suc i) z q))

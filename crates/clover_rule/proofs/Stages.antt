@@ -1,5 +1,5 @@
 -- The laws of a recycling's steps, of a binding's flushed root and of the count.
-use Rattle.std.proofs.Common.{◌≡◌, ℕ, suc, ◌<◌, ◌≤◌, ◌≢◌, ◌⊎◌, List, [], ◌∷◌, ◌++◌, length, length-append, append-nil, Bool, true, false, cond, ltb, refl, sym, ap, ◌∙◌, inl, inr, ⊎_elim, arith, true≢false}
+use Rattle.std.proofs.Common.{◌≡◌, ℕ, suc, ◌<◌, ◌≤◌, ◌≢◌, ◌⊎◌, List, [], ◌∷◌, ◌++◌, length, length-append, append-nil, Bool, true, false, cond, ltb, refl, sym, ap, ◌∙◌, inl, inr, ⊎_elim, arith, true≢false, eq-eqb, ne_eqb}
 use native.Mathlib.Decide.{ℕ_discrete}
 use mathlib.Core.Logic.{dite}
 use Rattle.std.specs.Prelude.{Option, Some, None}
@@ -11,10 +11,11 @@ use Rattle.clover_rule.specs.Content.{inside}
 use Rattle.clover_rule.specs.History.{Version, Map}
 use Rattle.clover_rule.specs.Lists.{nth, upd, Within, IsPrefix}
 use Rattle.clover_rule.specs.Memory.{Next, word, gen, Mem, greater, order}
-use Rattle.clover_rule.specs.Server.{holding, IsRecycling, Stage, root_in, is_home, book_of, Serves, Whole, IsWhole}
-use Rattle.clover_rule.specs.ServerSteps.{LoadRoot, FlushLink, StoreRoot, StoreFlushedRoot, BindFlushedRoot, StoreCount, served_view}
-use Rattle.clover_rule.specs.Story.{Taken, Story, tag_at, now_at, unsure}
-use Rattle.clover_rule.specs.Views.{Basis, renewed, root_at, book_at}
+use Rattle.clover_rule.specs.Server.{holding, IsRecycling, Stage, root_in, is_home, book_of, Serves, Whole}
+use Rattle.clover_rule.specs.ServerSteps.{LoadRoot, FlushLink, StoreRoot, StoreFlushedRoot, BindFlushedRoot, StoreCount, served_view, IsServed}
+use Rattle.clover_rule.specs.Story.{Taken, Story, tag_at, now_at, unsure, Place, Chained, Standing}
+use Rattle.clover_rule.specs.Views.{Basis, renewed, root_at, book_at, book}
+use Rattle.clover_rule.specs.declared.view.BufferState.TheVariants.{Bound as IsBound, Out as IsOut}
 use Rattle.clover_rule.specs.declared.view.Role.TheVariants.{Serving}
 use Rattle.clover_rule.specs.declared.view.Server.{Server}
 use Rattle.clover_rule.specs.declared.view.Task.{Task}
@@ -22,6 +23,7 @@ use Rattle.clover_rule.specs.declared.view.Task.TheVariants.{Idle, Rooted, Waiti
 use Rattle.clover_rule.specs.declared.view.View.{View}
 use Rattle.clover_words.specs.declared.pool.Pool.{Pool}
 use Rattle.clover_rule.proofs.Tools.{upd_same, upd_else}
+use Rattle.clover_rule.proofs.Standings.{tag_within}
 use Rattle.clover_rule.proofs.Steps.{prefix_self, within_prefix, within_last, Grows, durable_kept}
 use Rattle.clover_rule.proofs.ServerTools.{core_copy, whole, book_same, tale_copy}
 use Rattle.clover_rule.proofs.ServerLaws.{stage_at, serves_at}
@@ -77,10 +79,9 @@ module _ (l : Pool) (m0 : Map) (used : List ℕ) (m : Mem) (vs : List View) (id 
     recycling : IsRecycling st s r t
     recycling = record { root = at_root; next = let q = (ru.core.standing s (st.gone s) r at_root (omega arith)).now in let z : now_at st s (st.gone s) r ≡ word (age r) (Some t) = sym q ∙ found in cc }
 
-    pub load_root_whole : IsWhole l m0 used m (renewed vs id (served_view l (LoadRoot s r t) v))
+    pub load_root_whole : IsServed l m0 used m (renewed vs id (served_view l (LoadRoot s r t) v)) st h
     load_root_whole = let p = w.help in let g = stage_of Idle e in let sv = serves_of Idle e in (
       record st { task = Loaded s r t },
-      h,
       whole l m0 used m vs st h w id v at role (LoadRoot s r t) m (record st { task = Loaded s r t })
           record {
             core = core_copy m st ru.core m.body m.fbody m.key m.fkey m.short m.count st.keys st.first st.bindings (Loaded s r t) st.slot_named;
@@ -101,6 +102,7 @@ module _ (l : Pool) (m0 : Map) (used : List ℕ) (m : Mem) (vs : List View) (id 
             fgens = λ b. omega arith;
           }
           record { task_is = refl; directory = sv.directory; roots = sv.roots; books = λ b i. books_still l m st (record st { task = Loaded s r t }) Idle (Loaded s r t) v.server g refl sv (λ s1. refl) b i },
+      λ b i f. f,
     )
 
   -- the raise over its link
@@ -129,10 +131,9 @@ module _ (l : Pool) (m0 : Map) (used : List ℕ) (m : Mem) (vs : List View) (id 
     else_f : (b : ℕ) → b ≢ home r → ms.fnext b ≡ m.fnext b
     else_f b n = upd_else m.fnext (home r) b (greater (m.fnext (home r)) (word (age r) (Some t))) n
 
-    pub flush_link_whole : IsWhole l m0 used ms (renewed vs id (served_view l (FlushLink s r t) v))
+    pub flush_link_whole : IsServed l m0 used ms (renewed vs id (served_view l (FlushLink s r t) v)) st h
     flush_link_whole = let p = w.help in let sv = serves_of (Loaded s r t) e in (
       ss,
-      h,
       whole l m0 used m vs st h w id v at role (FlushLink s r t) ms ss
           record {
             core = core_copy ms (raised_story st s (st.gone s)) (raise_core m st s (st.gone s) r t ru.core record { from = gl.here.root; to = gl.here.next }) m.body m.fbody m.key m.fkey m.short m.count st.keys st.first st.bindings (Raised s r t) st.slot_named;
@@ -167,6 +168,7 @@ module _ (l : Pool) (m0 : Map) (used : List ℕ) (m : Mem) (vs : List View) (id 
             fgens = λ b. dite (ℕ_discrete b (home r)) (λ d. rw d (rw new_f (gen_least (m.fnext (home r)) (word (age r) (Some t))))) (λ n. let z = ap gen (else_f b n) in omega arith);
           }
           record { task_is = refl; directory = sv.directory; roots = sv.roots; books = λ b i. books_still l m st ss (Loaded s r t) (Raised s r t) v.server gl refl sv (λ s1. refl) b i },
+      λ b i f. f,
     )
 
   -- the store of the root
@@ -180,10 +182,9 @@ module _ (l : Pool) (m0 : Map) (used : List ℕ) (m : Mem) (vs : List View) (id 
     abbrev sr : Story
     sr = record st { lead = upd st.lead s (suc (st.gone s)); task = Led s r t }
 
-    pub store_root_whole : IsWhole l m0 used mr (renewed vs id (served_view l (StoreRoot s r t) v))
+    pub store_root_whole : IsServed l m0 used mr (renewed vs id (served_view l (StoreRoot s r t) v)) st h
     store_root_whole = let p = w.help in let sv = serves_of (Raised s r t) e in (
       sr,
-      h,
       whole l m0 used m vs st h w id v at role (StoreRoot s r t) mr sr
           record {
             core = core_copy mr (record st { lead = upd st.lead s (suc (st.gone s)) }) (root_core m st s r t ru.core gr.here.0.root gr.here.0.next gr.here.1) m.body m.fbody m.key m.fkey m.short m.count st.keys st.first st.bindings (Led s r t) st.slot_named;
@@ -209,6 +210,7 @@ module _ (l : Pool) (m0 : Map) (used : List ℕ) (m : Mem) (vs : List View) (id 
             fgens = λ b. omega arith;
           }
           record { task_is = refl; directory = sv.directory; roots = sv.roots; books = λ b i. books_still l m st sr (Raised s r t) (Led s r t) v.server gr refl sv (λ s1. refl) b i },
+      λ b i f. f,
     )
 
   -- the store of its flushed copy
@@ -222,10 +224,9 @@ module _ (l : Pool) (m0 : Map) (used : List ℕ) (m : Mem) (vs : List View) (id 
     abbrev sf : Story
     sf = record st { flead = upd st.flead s (st.lead s); task = Both s r t }
 
-    pub store_flushed_whole : IsWhole l m0 used mf (renewed vs id (served_view l (StoreFlushedRoot s r t) v))
+    pub store_flushed_whole : IsServed l m0 used mf (renewed vs id (served_view l (StoreFlushedRoot s r t) v)) st h
     store_flushed_whole = let p = w.help in let sv = serves_of (Led s r t) e in (
       sf,
-      h,
       whole l m0 used m vs st h w id v at role (StoreFlushedRoot s r t) mf sf
           record {
             core = core_copy mf (record st { flead = upd st.flead s (st.lead s) }) (flush_core m st s t ru.core (ap (tag_at st s) gd.here.2 ∙ gd.here.0.next)) m.body m.fbody m.key m.fkey m.short m.count st.keys st.first st.bindings (Both s r t) st.slot_named;
@@ -251,6 +252,7 @@ module _ (l : Pool) (m0 : Map) (used : List ℕ) (m : Mem) (vs : List View) (id 
             fgens = λ b. omega arith;
           }
           record { task_is = refl; directory = sv.directory; roots = sv.roots; books = λ b i. books_still l m st sf (Led s r t) (Both s r t) v.server gd refl sv (λ s1. refl) b i },
+      λ b i f. f,
     )
 
   -- a binding's store of the flushed root
@@ -264,10 +266,9 @@ module _ (l : Pool) (m0 : Map) (used : List ℕ) (m : Mem) (vs : List View) (id 
     abbrev sb : Story
     sb = record st { flead = upd st.flead s (st.lead s); task = Waiting s k t }
 
-    pub bind_flushed_whole : IsWhole l m0 used mb (renewed vs id (served_view l (BindFlushedRoot s k t) v))
+    pub bind_flushed_whole : IsServed l m0 used mb (renewed vs id (served_view l (BindFlushedRoot s k t) v)) st h
     bind_flushed_whole = let p = w.help in let sv = serves_of (Rooted s k t) e in let a0 = gb.here.0 in (
       sb,
-      h,
       whole l m0 used m vs st h w id v at role (BindFlushedRoot s k t) mb sb
           record {
             core = core_copy mb (record st { flead = upd st.flead s (st.lead s) }) (flush_core m st s t ru.core (ap (tag_at st s) ((gb.settled s (λ z. absurd cc)).0 ∙ a0.gone) ∙ a0.tag)) m.body m.fbody m.key m.fkey m.short m.count st.keys st.first st.bindings (Waiting s k t) st.slot_named;
@@ -293,6 +294,7 @@ module _ (l : Pool) (m0 : Map) (used : List ℕ) (m : Mem) (vs : List View) (id 
             fgens = λ b. omega arith;
           }
           record { task_is = refl; directory = sv.directory; roots = sv.roots; books = λ b i. books_still l m st sb (Rooted s k t) (Waiting s k t) v.server gb refl sv (λ s1. refl) b i },
+      λ b i f. f,
     )
 
   -- the store of the count
@@ -315,10 +317,33 @@ module _ (l : Pool) (m0 : Map) (used : List ℕ) (m : Mem) (vs : List View) (id 
     unnamed_else : (s1 : ℕ) → sc.named s1 ≡ false → s1 ≢ s
     unnamed_else s1 f z = true≢false (sym named_now ∙ ap sc.named (sym z) ∙ f)
 
-    pub store_count_whole : IsWhole l m0 used mc (renewed vs id (served_view l (StoreCount s k t) v))
+    -- the slot and its tombstone are entered
+    root_c : tag_at st s (st.gone s) ≡ Some t
+    root_c = ap (tag_at st s) gc.here.0.gone ∙ gc.here.0.tag
+
+    roots_c : (s1 : ℕ) → upd (root_at v.server) s (Some t) s1 ≡ tag_at st s1 (st.gone s1)
+    roots_c s1 = dite (ℕ_discrete s1 s) (λ d. ap (upd (root_at v.server) s (Some t)) d ∙ upd_same (root_at v.server) s (Some t) ∙ sym (ap (λ (a : ℕ). tag_at st a (st.gone a)) d ∙ root_c))
+        (λ d. upd_else (root_at v.server) s s1 (Some t) d ∙ (serves_of (Waiting s k t) e).roots s1 ∙ ap (λ (b : Bool). cond b None (tag_at st s1 (st.gone s1))) (ne_eqb s s1 (λ z. d (sym z))))
+
+    t_stands : Standing m st s (st.gone s) t
+    t_stands = ru.core.standing s (st.gone s) t root_c (omega arith)
+
+    books_c : (b : ℕ) → inside l b ≡ true → upd (book_at v.server) (home t) (book (age t) IsBound) b ≡ book_of Idle sc (st.place b) (gen (m.next b)) b
+    books_c b i = dite (ℕ_discrete b (home t))
+        (λ d. ap (upd (book_at v.server) (home t) (book (age t) IsBound)) d ∙ upd_same (book_at v.server) (home t) (book (age t) IsBound)
+        ∙ sym (ap (λ (q : Place). book_of Idle sc q (gen (m.next b)) b) (ap st.place d ∙ t_stands.placed) ∙ ap (λ (o : Option ℕ). book (gen (m.next b)) (cond (is_home o b) IsBound IsOut)) root_c ∙ ap (λ (c : Bool). book (gen (m.next b)) (cond c IsBound IsOut)) (eq-eqb (home t) b (sym d)) ∙ ap (λ (y : ℕ). book y IsBound) (ap (λ (y : ℕ). gen (m.next y)) d ∙ ap gen t_stands.now)))
+        (λ d. upd_else (book_at v.server) (home t) b (book (age t) IsBound) d ∙ (serves_of (Waiting s k t) e).books b i ∙ sym (book_same (Waiting s k t) Idle st sc (st.place b) (gen (m.next b)) b (λ s1 q. same_home b d s1 q) (λ q. absurd (none_held l m st (Waiting s k t) gc refl b q))))
+      where
+        -- no other buffer stands on the slot's chain
+        same_home : (b : ℕ) → b ≢ home t → (s1 : ℕ) → st.place b ≡ Chained s1 → is_home (root_in Idle sc s1) b ≡ is_home (root_in (Waiting s k t) st s1) b
+        same_home b d s1 q = dite (ℕ_discrete s1 s)
+            (λ z. absurd (let c = ru.core.chained b s1 q in let a1 = tag_within st s1 c.0 c.1 c.2 in let n1 = ap (λ (y : ℕ). length (st.log y)) z in let n2 = gc.here.0.alone in let z0 : c.0 ≡ 0 = omega arith in
+            d (sym c.4 ∙ ap home (let y : Some c.1 ≡ Some t = sym c.2 ∙ ap (tag_at st s1) z0 ∙ ap (λ (a : ℕ). tag_at st a 0) z ∙ gc.here.0.tag in cc))))
+            (λ z. sym (ap (λ (c : Bool). is_home (cond c None (tag_at st s1 (st.gone s1))) b) (ne_eqb s s1 (λ y. z (sym y)))))
+
+    pub store_count_whole : IsServed l m0 used mc (renewed vs id (served_view l (StoreCount s k t) v)) st h
     store_count_whole = let p = w.help in let sv = serves_of (Waiting s k t) e in let a0 = gc.here.0 in let c = ru.core in (
       sc,
-      h,
       whole l m0 used m vs st h w id v at role (StoreCount s k t) mc sc
           record {
             core = record {
@@ -370,5 +395,6 @@ module _ (l : Pool) (m0 : Map) (used : List ℕ) (m : Mem) (vs : List View) (id 
             };
             fgens = λ b. omega arith;
           }
-          record { task_is = refl; directory = sv.directory ∙ sym (append-nil (st.bindings ++ (s, k) ∷ [])); roots = sv.roots; books = λ b i. books_still l m st sc (Waiting s k t) Idle v.server gc refl sv (λ s1. refl) b i },
+          record { task_is = refl; directory = sv.directory ∙ sym (append-nil (st.bindings ++ (s, k) ∷ [])); roots = roots_c; books = books_c },
+      λ b i f. f,
     )

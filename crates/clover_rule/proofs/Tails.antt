@@ -19,7 +19,8 @@ use Rattle.clover_rule.specs.Lists.{nth, Within}
 use Rattle.clover_rule.specs.Meets.{Meets}
 use Rattle.clover_rule.specs.Memory.{Mem, word, gen}
 use Rattle.clover_rule.specs.Parts.{Walk}
-use Rattle.clover_rule.specs.Steps.{Step, Asks, LoadNext, DecideNext, RaiseNext, LinkNext, StoreContent, FlushContent, LoadContent, ReadRoot, ReadShort, StoreShort, ReadCount, AbsentCount, found}
+use Rattle.clover_rule.specs.Steps.{Step, Asks, LoadNext, DecideNext, RaiseNext, LinkNext, StoreContent, FlushContent, LoadContent, ReadRoot, ReadShort, StoreShort, ReadCount, AbsentCount, found, Served}
+use Rattle.clover_rule.proofs.ServerKeeps.{serve_says}
 use Rattle.clover_rule.specs.Story.{Story, tag_at, tag_in_version}
 use Rattle.clover_rule.specs.Told.{IsMetaWord, AreOneVersion, Says}
 use Rattle.clover_rule.specs.Views.{IsCopied}
@@ -114,3 +115,4 @@ module _ (p : Pool) (first : Tagged) (used : List ℕ) (ws : List ℕ) (vs : Lis
   says (StoreShort s t) asks = tt
   says ReadCount asks = tt
   says (AbsentCount c) asks = tt
+  says (Served a) (hw, (ro, may)) = serve_says p first used ws vs st h r id v at ro a (hw, ro, may)

@@ -9,6 +9,8 @@ pub mod Views
 pub mod Server
 pub mod ServerSteps
 pub mod Knowing
+pub mod Serving
+pub mod Due
 pub mod Steps
 pub mod Meets
 pub mod Parts

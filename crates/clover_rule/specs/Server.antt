@@ -123,6 +123,8 @@ pub record Help (l : Pool) (m : Mem) (st : Story) : Type 0 where
 -- the root of a slot in the server's directory
 abbrev pub root_in : Task → Story → ℕ → Option ℕ
 root_in (Exchanged s r t) st s1 = cond (eqb s s1) (Some r) (tag_at st s1 (st.gone s1))
+root_in (Rooted s k t) st s1 = cond (eqb s s1) None (tag_at st s1 (st.gone s1))
+root_in (Waiting s k t) st s1 = cond (eqb s s1) None (tag_at st s1 (st.gone s1))
 root_in _ st s1 = tag_at st s1 (st.gone s1)
 
 abbrev pub is_home : Option ℕ → ℕ → Bool

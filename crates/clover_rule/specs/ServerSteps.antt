@@ -6,7 +6,9 @@ use Rattle.clover_rule.specs.Content.{inside, spelling, IsKey}
 use Rattle.clover_rule.specs.History.{Map}
 use Rattle.clover_rule.specs.Lists.{nth, upd, Within}
 use Rattle.clover_rule.specs.Memory.{Mem, word, greater}
-use Rattle.clover_rule.specs.Server.{IsWhole}
+use Rattle.clover_rule.specs.Server.{Whole}
+use Rattle.clover_rule.specs.Story.{Stocked, Story}
+use Rattle.clover_map.specs.declared.call.Entry.{Entry}
 use Rattle.clover_rule.specs.Views.{book_at, root_at, line, book, renewed}
 use Rattle.clover_rule.specs.declared.view.BufferState.{BufferState}
 use Rattle.clover_rule.specs.declared.view.BufferState.TheVariants.{Free as IsFree, Worn as IsWorn, Bound as IsBound, Out as IsOut}
@@ -86,15 +88,19 @@ server_after l (Begin s k t) sv = record sv { task = Storing s k t 1; books = li
 server_after l (FlushMeta s k t) sv = record sv { task = Storing s k t 2 }
 server_after l (StoreKey s k t j x) sv = record sv { task = Storing s k t (3 + j) }
 server_after l (FlushKey s k t j x) sv = record sv { task = Storing s k t (3 + j + length (spelling k)) }
-server_after l (BindRoot s k t) sv = record sv { task = Rooted s k t; directory = sv.directory ++ (s, k) ∷ []; roots = (s, t) ∷ sv.roots; books = line (home t) (age t) IsBound ∷ sv.books }
+server_after l (BindRoot s k t) sv = record sv { task = Rooted s k t; directory = sv.directory ++ (s, k) ∷ [] }
 server_after l (BindFlushedRoot s k t) sv = record sv { task = Waiting s k t }
-server_after l (StoreCount s k t) sv = record sv { task = Idle }
+server_after l (StoreCount s k t) sv = record sv { task = Idle; roots = (s, t) ∷ sv.roots; books = line (home t) (age t) IsBound ∷ sv.books }
 
 abbrev pub served_view : Pool → ServerStep → View → View
 served_view l a v = record v { server = server_after l a v.server }
 
+-- the helping facts after a step of the server: the history is the same, and no buffer came into a stock
+abbrev pub IsServed : Pool → Map → List ℕ → Mem → List View → Story → List Entry → Type 0
+IsServed l m0 used m vs st h = (st' : Story) × Whole l m0 used m vs st' h × ((b i : ℕ) → st'.place b ≡ Stocked i → st.place b ≡ Stocked i)
+
 -- one law for the server's acts
 abbrev pub ServerLaw : Pool → ServerStep → Type 0
-ServerLaw l a = (m0 : Map) (used : List ℕ) (m : Mem) (vs : List View) (id : ℕ) (v : View)
-    → IsWhole l m0 used m vs → nth vs id ≡ Some v → v.pass.role ≡ Serving → MayServe l a v.server m
-    → IsWhole l m0 used (words_after a m) (renewed vs id (served_view l a v))
+ServerLaw l a = (m0 : Map) (used : List ℕ) (m : Mem) (vs : List View) (id : ℕ) (v : View) (st : Story) (h : List Entry)
+    → Whole l m0 used m vs st h → nth vs id ≡ Some v → v.pass.role ≡ Serving → MayServe l a v.server m
+    → IsServed l m0 used (words_after a m) (renewed vs id (served_view l a v)) st h

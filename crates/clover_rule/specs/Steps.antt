@@ -23,13 +23,14 @@ use Rattle.clover_rule.specs.History.{named}
 use Rattle.clover_rule.specs.Knowing.{CopiedValue, SawValue, SawTombstone, link_entry, link_view, stored_view, flushed_view}
 use Rattle.clover_rule.specs.Lists.{Within, nth}
 use Rattle.clover_rule.specs.Memory.{Next, word}
+use Rattle.clover_rule.specs.Serving.{Serve, serve_word, serve_side, serve_becomes, serve_act, MayServe', serve_learned}
 use Rattle.clover_rule.specs.Views.{raise_view, shown}
-use Rattle.clover_rule.specs.Words.{next_code, next_of, root_of}
+use Rattle.clover_rule.specs.Words.{next_of, root_of}
 use Rattle.clover_rule.specs.declared.access.Act.{Act}
 use Rattle.clover_rule.specs.declared.access.Act.TheVariants.{Load, Store, Exchange, Raise}
 use Rattle.clover_rule.specs.declared.view.Link.{Link}
 use Rattle.clover_rule.specs.declared.view.Role.{Role}
-use Rattle.clover_rule.specs.declared.view.Role.TheVariants.{Client}
+use Rattle.clover_rule.specs.declared.view.Role.TheVariants.{Client, Serving}
 use Rattle.clover_rule.specs.declared.view.View.{View}
 
 pub data Step : Type 0 where
@@ -52,6 +53,8 @@ pub data Step : Type 0 where
   -- a load of the count, and one that decides that the call's key is absent where it shows no binding that is not known
   ReadCount : Step
   AbsentCount : Call → Step
+  -- a step of the server
+  Served : Serve → Step
 
 -- the word that a step is on
 abbrev pub word_of : Step → Word
@@ -67,10 +70,12 @@ word_of (ReadShort s) = Short s
 word_of (StoreShort s t) = Short s
 word_of ReadCount = Count
 word_of (AbsentCount c) = Count
+word_of (Served a) = serve_word a
 
 abbrev pub side_of : Step → Side
 side_of (RaiseNext l) = Flushed
 side_of (FlushContent t j x) = Flushed
+side_of (Served a) = serve_side a
 side_of _ = Current
 
 -- what the number at the word becomes
@@ -80,6 +85,7 @@ becomes (LinkNext s u t c) x = either (x == unlinked u) (linked u t) x
 becomes (StoreContent t j y) x = y
 becomes (FlushContent t j y) x = y
 becomes (StoreShort s t) x = root_code (Some t)
+becomes (Served a) x = serve_becomes a x
 becomes _ x = x
 
 -- the access that the step is, where it found this number
@@ -89,6 +95,7 @@ act_of (LinkNext s u t c) x = Exchange (NextOf (buffer_at (home u))) (unlinked u
 act_of (StoreContent t j y) x = Store (content_at (home t) j) Current y
 act_of (FlushContent t j y) x = Store (content_at (home t) j) Flushed y
 act_of (StoreShort s t) x = Store (Short s) Current (root_code (Some t))
+act_of (Served a) x = serve_act a x
 act_of a x = Load (word_of a) x
 
 -- what a call commits, and the reply with the own tag
@@ -164,6 +171,7 @@ May p (ReadShort s) v = IsClient v
 May p (StoreShort s t) v = IsClient v × Within (s, t) v.pass.durable
 May p ReadCount v = IsClient v
 May p (AbsentCount c) v = IsClient v × MayMiss c × ((s : ℕ) → Within (s, named c) v.pass.names → ⊥)
+May p (Served a) v = (v.pass.role ≡ Serving) × MayServe' p a v.server
 
 abbrev pub Asks : Pool → Step → View → Type 0
 Asks p a v = IsWithin p (word_of a) × May p a v
@@ -204,6 +212,7 @@ learned (ReadRoot s) h v x = started s v (root_of x)
 learned (ReadShort s) h v x = started s v (root_of x)
 learned (StoreShort s t) h v x = v
 learned ReadCount h v x = counts v x
+learned (Served a) h v x = serve_learned v.pass.pool a v x
 learned (AbsentCount c) h v x = cond (x == length v.pass.names) (missed v h c x) (counts v x)
 
 -- the history after the step
