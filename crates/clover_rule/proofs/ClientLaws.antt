@@ -71,11 +71,11 @@ module _ (l : Pool) (m0 : Map) (used : List ℕ) (m : Mem) (vs : List View) (st 
 
       here : (T : Task) → AtStage l m st T → AtStage l (record m { short = upd m.short s (Some t) }) st T
       here Idle a = tt
-      here (Storing s1 k1 t1 n1) a = record { place = a.place; now = a.now; safe = a.safe; range = a.range; slot = a.slot; bare = a.bare; unnamed = a.unnamed; absent = a.absent; valid = a.valid; body = a.body; fbody = a.fbody; key = a.key; fkey = a.fkey }
-      here (Rooted s1 k1 t1) a = (record { key = a.0.key; unnamed = a.0.unnamed; alone = a.0.alone; tag = a.0.tag; gone = a.0.gone }, a.1)
-      here (Waiting s1 k1 t1) a = (record { key = a.0.key; unnamed = a.0.unnamed; alone = a.0.alone; tag = a.0.tag; gone = a.0.gone }, a.1)
-      here (Loaded s1 r1 t1) a = a
-      here (Raised s1 r1 t1) a = a
-      here (Led s1 r1 t1) a = a
-      here (Both s1 r1 t1) a = a
-      here (Exchanged s1 r1 t1) a = record { place = a.place; now = a.now; safe = a.safe; root = a.root; old = a.old; inside = a.inside; young = a.young }
+      here (Storing bind n1) a = record { place = a.place; now = a.now; safe = a.safe; range = a.range; slot = a.slot; bare = a.bare; unnamed = a.unnamed; absent = a.absent; valid = a.valid; body = a.body; fbody = a.fbody; key = a.key; fkey = a.fkey }
+      here (Rooted bind) a = (record { key = a.0.key; unnamed = a.0.unnamed; alone = a.0.alone; tag = a.0.tag; gone = a.0.gone }, a.1)
+      here (Waiting bind) a = (record { key = a.0.key; unnamed = a.0.unnamed; alone = a.0.alone; tag = a.0.tag; gone = a.0.gone }, a.1)
+      here (Loaded cycle) a = a
+      here (Raised cycle) a = a
+      here (Led cycle) a = a
+      here (Both cycle) a = a
+      here (Exchanged cycle) a = record { place = a.place; now = a.now; safe = a.safe; root = a.root; old = a.old; inside = a.inside; young = a.young }

@@ -121,6 +121,7 @@ module _ (p : Pool) (first : Tagged) (ws : List ℕ) (vs : List View) (sized : l
     sized = sized;
     decodes = λ w s hw hs. subst (IsCode w) (sym (zeros w s)) (zero_code w);
     same = v.same;
+    still = λ i w e. (v.starts i w e).plan;
     stocks = no_stock;
     whole = subst (λ (m : Mem). Whole p (shows first) [] m vs st []) (sym mem_is) (subst (λ (f : Map). Whole p f [] blank_mem vs st []) (fun_ext (λ k. sym (empty k))) whole);
   })

@@ -112,7 +112,7 @@ module _ (l : Pool) (m0 : Map) (used : List ℕ) (m : Mem) (vs : List View) (st 
 
   here : (T : Task) → AtStage l m st T → AtStage l m1 st T
   here Idle a = tt
-  here (Storing s1 k1 t1 n1) a = record {
+  here (Storing bind n1) a = record {
     place = a.place;
     now = a.now;
     safe = a.safe;
@@ -122,18 +122,18 @@ module _ (l : Pool) (m0 : Map) (used : List ℕ) (m : Mem) (vs : List View) (st 
     unnamed = a.unnamed;
     absent = a.absent;
     valid = a.valid;
-    fbody = λ q. ap (λ (f : ℕ → ℕ). f 0) (body_else (home t1) (λ d. absurd (cc (ap st.place d, a.place, owned.0)))) ∙ a.fbody q;
+    fbody = λ q. ap (λ (f : ℕ → ℕ). f 0) (body_else (home bind.tag) (λ d. absurd (cc (ap st.place d, a.place, owned.0)))) ∙ a.fbody q;
     body = a.body;
     key = a.key;
     fkey = a.fkey;
   }
-  here (Rooted s1 k1 t1) a = (record { key = a.0.key; unnamed = a.0.unnamed; alone = a.0.alone; tag = a.0.tag; gone = a.0.gone }, a.1)
-  here (Waiting s1 k1 t1) a = (record { key = a.0.key; unnamed = a.0.unnamed; alone = a.0.alone; tag = a.0.tag; gone = a.0.gone }, a.1)
-  here (Loaded s1 r1 t1) a = a
-  here (Raised s1 r1 t1) a = a
-  here (Led s1 r1 t1) a = a
-  here (Both s1 r1 t1) a = a
-  here (Exchanged s1 r1 t1) a = record { place = a.place; now = a.now; safe = a.safe; root = a.root; old = a.old; inside = a.inside; young = a.young }
+  here (Rooted bind) a = (record { key = a.0.key; unnamed = a.0.unnamed; alone = a.0.alone; tag = a.0.tag; gone = a.0.gone }, a.1)
+  here (Waiting bind) a = (record { key = a.0.key; unnamed = a.0.unnamed; alone = a.0.alone; tag = a.0.tag; gone = a.0.gone }, a.1)
+  here (Loaded cycle) a = a
+  here (Raised cycle) a = a
+  here (Led cycle) a = a
+  here (Both cycle) a = a
+  here (Exchanged cycle) a = record { place = a.place; now = a.now; safe = a.safe; root = a.root; old = a.old; inside = a.inside; young = a.young }
 
   pub flush_whole : Whole l m0 used m1 (renewed vs id v') st h
   flush_whole = let p = w.help in client_whole l m0 used m vs st h w id v v' at n role refl m1 st h rule'

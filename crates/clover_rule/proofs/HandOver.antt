@@ -2,7 +2,7 @@
 use Rattle.std.proofs.Common.{◌≡◌, ℕ, ◌≢◌, ◌⊎◌, List, [], ◌∷◌, ◌++◌, length, set, append-nil, true, refl, sym, ap, ◌∙◌, inl, inr, ⊎_elim, arith, subst}
 use native.Mathlib.Decide.{ℕ_discrete}
 use mathlib.Core.Logic.{dite}
-use Rattle.std.specs.Prelude.{Option, Some}
+use Rattle.std.specs.Prelude.{Some}
 use Rattle.std.proofs.lemmas.List.{length-append}
 use Rattle.clover_words.specs.Tag.{home, age}
 use Rattle.clover_map.specs.declared.call.Entry.{Entry}
@@ -12,7 +12,7 @@ use Rattle.clover_rule.specs.History.{Map, shows}
 use Rattle.clover_rule.specs.Lists.{Each, Within, nth, upd}
 use Rattle.clover_rule.specs.Meets.{Meets, IsMet, OfRun}
 use Rattle.clover_rule.specs.Memory.{gen, Mem}
-use Rattle.clover_rule.specs.Server.{Whole, Serves, is_home, book_of, waiting_name}
+use Rattle.clover_rule.specs.Server.{Whole, Serves, book_of, waiting_name}
 use Rattle.clover_rule.specs.Story.{Place, Stocked, Free, Story}
 use Rattle.clover_rule.specs.declared.view.BookLine.{BookLine}
 use Rattle.clover_rule.specs.Views.{line, Book, book, find_book, book_at, ViewOk, Apart, Owned, handed}
@@ -25,7 +25,7 @@ use Rattle.clover_words.specs.declared.pool.Pool.{Pool}
 use Rattle.clover_rule.proofs.Tools.{upd_same, upd_else}
 use Rattle.clover_rule.proofs.Steps.{nth_set, set_here, set_away, each_map}
 use Rattle.clover_rule.proofs.ServerTools.{book_same, free_place}
-use Rattle.clover_rule.proofs.Hands.{hand_whole, hand_view, hand_owned, hand_case, each_both, roots_placed, held_placed}
+use Rattle.clover_rule.proofs.Hands.{hand_whole, hand_view, hand_owned, hand_case, each_both}
 
 -- what the two views must be: the tags are free in the server's view and of different buffers, and the client then has all bindings but one that waits
 pub record MayHand (p : Pool) (sv : View) (cv : View) (batch : List ℕ) (names : List (ℕ × List ℕ)) : Type 0 where
@@ -91,7 +91,7 @@ module _ (l : Pool) (m0 : Map) (used : List ℕ) (m : Mem) (vs : List View) (st 
   books_then b i = out_found batch v.server.books b ∙ go batch ages (book_at v.server) st.place (sv.books b i)
     where
       go : (ts : List ℕ) → Each (λ (t : ℕ). gen (m.next (home t)) ≡ age t) ts → (f : ℕ → Book) (g : ℕ → Place) → f b ≡ book_of st.task st (g b) (gen (m.next b)) b → out f ts b ≡ book_of st.task st1 (handed g ts (Stocked cid) b) (gen (m.next b)) b
-      go [] a f g e = e ∙ sym (book_same st.task st.task st st1 (g b) (gen (m.next b)) b (λ s q. ap (λ (o : Option ℕ). is_home o b) (roots_placed st (handed st.place batch (Stocked cid)) st.task s)) (λ q. held_placed st (handed st.place batch (Stocked cid)) st.task (gen (m.next b)) b))
+      go [] a f g e = e ∙ sym (book_same st.task st.task st st1 (g b) (gen (m.next b)) b (λ s q. refl) (λ q. refl))
       go (t ∷ ts) a f g e = go ts a.1 (upd f (home t) (book (age t) IsOut)) (upd g (home t) (Stocked cid))
           (dite (ℕ_discrete b (home t)) (λ d. ap (upd f (home t) (book (age t) IsOut)) d ∙ upd_same f (home t) (book (age t) IsOut) ∙ ap (λ (x : ℕ). book x IsOut) (sym (ap (λ (x : ℕ). gen (m.next x)) d ∙ a.0)) ∙ sym (ap (λ (q : Place). book_of st.task st q (gen (m.next b)) b) (ap (upd g (home t) (Stocked cid)) d ∙ upd_same g (home t) (Stocked cid))))
           (λ d. upd_else f (home t) b (book (age t) IsOut) d ∙ e ∙ sym (ap (λ (q : Place). book_of st.task st q (gen (m.next b)) b) (upd_else g (home t) b (Stocked cid) d))))
@@ -129,7 +129,7 @@ module _ (l : Pool) (m0 : Map) (used : List ℕ) (m : Mem) (vs : List View) (st 
       (λ i y e. ⊎_elim (λ a. rw (a.0, ← a.1) ok_granted) (λ a. ⊎_elim (λ b. rw (b.0, ← b.1) ok_granting) (λ b. kept_view i y (p.views i y b.2)) a) (from i y e))
       (λ i j k y z e f s t. let a = was_view i y e in let b = was_view j z f in p.numbered i j k a.0 b.0 a.1 b.1 (a.2 ∙ s) (b.2 ∙ t))
       (let o = p.longest in longest_of o.0 o.1 o.2 o.3 (ℕ_discrete o.0 cid) (ℕ_discrete o.0 sid))
-      (λ i y e s. rw (← (server_at i y e s).1) (record { task_is = sv.task_is; directory = sv.directory; roots = λ s1. sv.roots s1 ∙ sym (roots_placed st (handed st.place batch (Stocked cid)) st.task s1); books = books_then }))
+      (λ i y e s. rw (← (server_at i y e s).1) (record { task_is = sv.task_is; directory = sv.directory; roots = sv.roots; books = books_then }))
       (λ i j y z e f s t. (server_at i y e s).0 ∙ sym (server_at j z f t).0)
       (λ i j k y z e f s t. let a = was_view i y e in let b = was_view j z f in subst (Within k) a.3 (w.made i j k a.0 b.0 a.1 b.1 (a.2 ∙ s) (b.2 ∙ t)))
       (λ i y e s. let a = was_view i y e in subst (λ (cs : List ℕ). Each (λ (q : Entry). Within q.client cs) h) a.3 (w.entered i a.0 a.1 (a.2 ∙ s)))
@@ -182,11 +182,15 @@ module _ (p : Pool) (first : Tagged) (used : List ℕ) (ws : List ℕ) (vs : Lis
       mine d (inr f) = (_, ap (nth after) d ∙ at_client, f.0, within_right f.0 c.pass.stock batch f.1, f.2)
 
   pub hand_over : IsMet p first used ws after h
-  hand_over = (_, record {
-    sized = r.sized;
-    decodes = r.decodes;
-    same = λ i z q. ⊎_elim (λ d. subst (OfRun p first used) d.1 (let o = r.same cid c there_at in record { of_pool = o.of_pool; from_map = o.from_map; from_used = o.from_used }))
-        (λ d. ⊎_elim (λ e. subst (OfRun p first used) e.1 (let o = r.same sid v at in record { of_pool = o.of_pool; from_map = o.from_map; from_used = o.from_used })) (λ e. r.same i z e.1) (nth_set vs sid i _ z d.1)) (nth_set _ cid i _ z q);
-    stocks = in_stock;
-    whole = hand_over_whole p (shows first) used (mem_of p ws) vs st h w sid cid v c at there_at role n client batch names may;
-  })
+  hand_over = (
+    _,
+    record {
+      sized = r.sized;
+      decodes = r.decodes;
+      same = λ i z q. ⊎_elim (λ d. subst (OfRun p first used) d.1 (let o = r.same cid c there_at in record { of_pool = o.of_pool; from_map = o.from_map; from_used = o.from_used }))
+          (λ d. ⊎_elim (λ e. subst (OfRun p first used) e.1 (let o = r.same sid v at in record { of_pool = o.of_pool; from_map = o.from_map; from_used = o.from_used })) (λ e. r.same i z e.1) (nth_set vs sid i _ z d.1)) (nth_set _ cid i _ z q);
+      still = λ i z q. ⊎_elim (λ d. ap (λ (u : View). u.plan) (sym d.1) ∙ r.still cid c there_at) (λ d. ⊎_elim (λ e. ap (λ (u : View). u.plan) (sym e.1) ∙ r.still sid v at) (λ e. r.still i z e.1) (nth_set vs sid i _ z d.1)) (nth_set _ cid i _ z q);
+      stocks = in_stock;
+      whole = hand_over_whole p (shows first) used (mem_of p ws) vs st h w sid cid v c at there_at role n client batch names may;
+    },
+  )

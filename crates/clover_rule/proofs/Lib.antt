@@ -3,6 +3,7 @@ pub mod Longest
 pub mod Reading
 pub mod Codecs
 pub mod Presets
+pub mod Acting
 pub mod Accessing
 pub mod AfterCuts
 pub mod TwelveParts
@@ -12,7 +13,6 @@ pub mod Keeps
 pub mod AllKeeps
 pub mod ServerKeeps
 pub mod FirstRun
-pub mod DueLaws
 pub mod HandOver
 pub mod Keeping
 pub mod Learning
@@ -24,7 +24,7 @@ pub mod Tools
 pub mod Standings
 pub mod Linking
 pub mod Raising
-pub mod Recycling
+pub mod Exchanging
 pub mod Cuts
 pub mod Steps
 pub mod Snocs

@@ -18,7 +18,7 @@ use Rattle.clover_rule.specs.Story.{Durable, Stocked, Place, Chained, Free, Worn
 use Rattle.clover_rule.specs.Views.{Owned, OwnCalls, ViewOk, IsLink, Past, IsCopied, Numbered}
 use Rattle.clover_rule.specs.declared.view.Content.{Content}
 use Rattle.clover_rule.specs.declared.view.Role.{Role}
-use Rattle.clover_rule.specs.declared.view.Role.TheVariants.{Client, Serving, Granting, Noting, Joined}
+use Rattle.clover_rule.specs.declared.view.Role.TheVariants.{Client, Serving, Granting, Noting, Joined, Restarting}
 use Rattle.clover_rule.specs.declared.view.Shown.{Shown}
 use Rattle.clover_rule.specs.declared.view.Task.TheVariants.{Idle}
 use Rattle.clover_rule.specs.declared.view.View.{View}
@@ -263,6 +263,7 @@ module _ (l : Pool) (im : Image) (sound : Sound l im) (m0 : Map) (used : List �
     none_own Granting cs e = tt
     none_own Noting cs e = tt
     none_own Joined cs e = tt
+    none_own Restarting cs e = tt
 
     view_starts : (i : ℕ) (v : View) → Starts m o.bindings owner i v → ViewOk m opened [] i v
     view_starts i v s = record {

@@ -213,6 +213,7 @@ preset_law p first ws vs keys tomb owner sized decodes same empty words ks views
       sized = sized;
       decodes = decodes;
       same = same;
+      still = λ i v e. (views.starts i v e).plan;
       stocks = preset_stocks p keys tomb (mem_of p ws) words ks owner vs views;
       whole = subst (λ (f : Map). Whole p f [] (mem_of p ws) vs (opened p (im p keys tomb (mem_of p ws) words ks) (sound p keys tomb (mem_of p ws) words ks) (λ (j : List ℕ). None) [] (mem_of p ws) (opens p keys tomb (mem_of p ws) words ks) owner (owners p keys tomb (mem_of p ws) words ks owner vs views)) []) shown
           (preset_whole p keys tomb (mem_of p ws) words ks owner vs views);

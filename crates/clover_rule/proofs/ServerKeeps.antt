@@ -1,56 +1,53 @@
--- The law of the server's steps over the list of words.
-use Rattle.std.proofs.Common.{◌≡◌, ℕ, suc, ◌+◌, ◌<◌, ◌⊎◌, List, [], ◌∷◌, ◌++◌, length, length-set, Bool, true, false, cond, max, refl, sym, ap, ◌∙◌, inl, inr, ⊎_elim, arith, subst, eq-eqb, eqb, ltb}
-use native.Mathlib.Decide.{ℕ_discrete}
+-- The law: each step of the server keeps the helping facts over the words, and what it tells.
+use Rattle.std.proofs.Common.{◌≡◌, ℕ, suc, ◌+◌, ◌<◌, List, [], ◌∷◌, ◌++◌, length, Bool, true, false, cond, max, refl, sym, ap, ◌∙◌, arith, subst, eq-eqb, eqb}
 use prog.Atomic.{either}
-use Rattle.std.specs.Prelude.{Option, Some, None, slice_set, slice_index}
-use Rattle.std.proofs.lemmas.List.{set-get_or, set-set, length-append}
+use Rattle.std.specs.Prelude.{Option, Some, None, slice_set}
+use Rattle.std.proofs.lemmas.List.{set-get_or, length-append}
+use Rattle.std.proofs.lemmas.Bool.{lt-ltb}
 use Rattle.clover_words.specs.declared.pool.Pool.{Pool}
-use Rattle.clover_words.specs.declared.word.Word.{Word}
-use Rattle.clover_words.specs.declared.word.Word.TheVariants.{Next as NextOf, Root, Key, Count}
-use Rattle.clover_words.specs.declared.word.Side.{Side}
+use Rattle.clover_words.specs.declared.word.Word.TheVariants.{Root, Key}
 use Rattle.clover_words.specs.declared.word.Side.TheVariants.{Current, Flushed}
-use Rattle.clover_words.specs.Place.{IsWithin, HasSide, address_of, copy_in}
-use Rattle.clover_words.proofs.Places.{address_below}
 use Rattle.clover_words.specs.Meta.{tombstone}
-use Rattle.clover_words.specs.Tag.{home, age}
 use Rattle.clover_words.specs.Next.{root_code}
-use Rattle.clover_words.specs.Version.{buffer_at, content_at}
+use Rattle.clover_words.specs.Place.{IsWithin, HasSide, address_of, copy_in}
+use Rattle.clover_words.specs.Tag.{home, age}
+use Rattle.clover_words.specs.Version.{linked, content_at}
+use Rattle.clover_map.specs.declared.bytes.Value.{Value}
 use Rattle.clover_map.specs.declared.call.Entry.{Entry}
 use Rattle.clover_map.specs.Tagged.{Tagged}
+use Rattle.clover_rule.specs.Asks.{IsAt, MayBegin}
 use Rattle.clover_rule.specs.Changes.{raised_mem, recycled_mem}
-use Rattle.clover_rule.specs.Content.{inside, InRange, content}
-use Rattle.clover_map.specs.declared.bytes.Value.{Value}
-use Rattle.clover_rule.specs.History.{shows, Map, Version}
-use Rattle.clover_rule.specs.Lists.{Within, upd, nth, Each}
-use Rattle.clover_rule.specs.Meets.{IsCode, Meets, IsMet, OfRun}
-use Rattle.clover_rule.specs.Memory.{Next, word, gen, link, greater, Mem}
-use Rattle.clover_rule.specs.Server.{Whole, Serves, Stage, IsWaiting, is_home, root_in, book_of}
-use Rattle.clover_rule.specs.ServerSteps.{ServerStep, LoadRoot, FlushLink, StoreRoot, StoreFlushedRoot, ExchangeRoot, FreeOld, Begin, FlushMeta, StoreKey, FlushKey, BindRoot, BindFlushedRoot, StoreCount, server_after, served_view, words_after, MayServe, freed}
-use Rattle.clover_rule.specs.Serving.{Serve, Look, FlushOf, RootOf, FlushRootOf, PassOf, FreeOf, Hold, HoldFlushed, Spell, SpellFlushed, Bind, BindFlushed, Name, serve_word, serve_side, serve_becomes, passed, MayServe', looked, freed_by, serve_learned, serve_act, link_code}
-use Rattle.clover_rule.specs.Steps.{counted}
-use Rattle.clover_rule.specs.Told.{ServerSays}
-use Rattle.clover_rule.specs.Story.{Place, Stocked, Durable, Story, tag_at, tag_in_version, now_at, only}
-use Rattle.clover_rule.specs.Views.{renewed, ViewOk, Past, IsLink, root_at, book_at, book}
-use Rattle.clover_rule.specs.declared.view.BufferState.TheVariants.{Free as IsFree, Worn as IsWorn, Bound as IsBound, Out as IsOut}
-use Rattle.clover_rule.specs.Words.{next_code, next_of, mem_of}
-use Rattle.clover_rule.specs.declared.access.Act.{Act}
-use Rattle.clover_rule.specs.declared.view.Role.TheVariants.{Serving}
-use Rattle.clover_rule.specs.declared.view.Server.{Server}
+use Rattle.clover_rule.specs.Content.{inside, content, spelling}
+use Rattle.clover_rule.specs.History.{Map, Version, shows}
+use Rattle.clover_rule.specs.Learned.{learned, at_task, looked, link_flushed, root_passed, root_freed, free_or_worn, begun, root_bound, entered, next_view, turn_of, counted, found, words_after_step}
+use Rattle.clover_rule.specs.Lists.{nth, upd, Within}
+use Rattle.clover_rule.specs.Meets.{IsCode, IsMet, Meets}
+use Rattle.clover_rule.specs.Memory.{Mem, Next, word, gen, greater}
+use Rattle.clover_rule.specs.Server.{IsWaiting, Serves, Stage, Whole, book_of, is_home, root_in}
+use Rattle.clover_rule.specs.Steps.{Step, ReadVersion, FlushLink, StoreRoot, FlushRoot, PassRoot, FreeRoot, StoreTombstone, FlushTombstone, StoreKey, FlushKey, BindRoot, FlushBoundRoot, StoreCount, word_of, side_of, becomes, act_of, moved_on, next_word_of}
+use Rattle.clover_rule.specs.Story.{Place, Story, tag_at, tag_in_version, now_at}
+use Rattle.clover_rule.specs.Told.{IsGivenBack, IsDurableBinding}
+use Rattle.clover_rule.specs.Views.{book, book_at, renewed, root_at}
+use Rattle.clover_rule.specs.Words.{mem_of, next_code, next_of}
+use Rattle.clover_rule.specs.declared.view.BufferState.TheVariants.{Bound as IsBound, Free as IsFree, Out as IsOut, Worn as IsWorn}
+use Rattle.clover_rule.specs.declared.view.Link.{Link}
+use Rattle.clover_rule.specs.declared.view.NewBinding.{NewBinding}
+use Rattle.clover_rule.specs.declared.view.Recycling.{Recycling}
 use Rattle.clover_rule.specs.declared.view.Task.{Task}
-use Rattle.clover_rule.specs.declared.view.Task.TheVariants.{Idle, Waiting, Loaded, Raised, Exchanged}
+use Rattle.clover_rule.specs.declared.view.Task.TheVariants.{Idle, Storing, Rooted, Waiting, Loaded, Raised, Led, Both, Exchanged}
 use Rattle.clover_rule.specs.declared.view.View.{View}
-use Rattle.clover_rule.proofs.Tools.{upd_same}
-use Rattle.clover_rule.proofs.Ties.{write_next, write_fnext, write_body, write_fbody, write_root, write_froot, write_key, write_fkey, write_count, next_again, root_again}
-use Rattle.clover_rule.proofs.Codes.{raise_on_codes, OneLink, Small}
-use Rattle.clover_rule.proofs.Keeping.{decodes_set, SameRun, tag_small, inside_of, read_next, read_fnext}
-use Rattle.clover_rule.proofs.Keeps.{one_link, greater_case, again, small_of}
-use Rattle.clover_rule.proofs.Steps.{nth_set, set_here, set_away}
-use Rattle.clover_rule.proofs.Derived.{current_past}
-use Rattle.clover_rule.proofs.Quiet.{quiet}
 use Rattle.clover_rule.proofs.AfterCuts.{nowhere}
-use Rattle.std.proofs.lemmas.Bool.{lt-ltb}
-use Rattle.clover_rule.proofs.ServerLaws.{stage_at, serves_at}
-use Rattle.clover_rule.proofs.Freeing.{server_law, exchange_finds}
+use Rattle.clover_rule.proofs.BindLaws.{bind_root_whole}
+use Rattle.clover_rule.proofs.Codes.{raise_on_codes, OneLink, Small}
+use Rattle.clover_rule.proofs.Freeing.{exchange_finds, exchange_whole, free_old_whole}
+use Rattle.clover_rule.proofs.Keeping.{stepped, SameRun, inside_of, read_next, read_fnext}
+use Rattle.clover_rule.proofs.Keeps.{again, greater_case, raised_words, room, small_of}
+use Rattle.clover_rule.proofs.ServerLaws.{serves_at, stage_at, begin_whole, flush_tombstone_whole, store_key_whole, flush_key_whole}
+use Rattle.clover_rule.proofs.ServerTools.{IsServed}
+use Rattle.clover_rule.proofs.Stages.{root_shows, read_unlinked, read_linked, flush_link_whole, store_root_whole, store_flushed_whole, bind_flushed_whole, store_count_whole}
+use Rattle.clover_rule.proofs.Steps.{set_here}
+use Rattle.clover_rule.proofs.Ties.{write_next, write_fnext, write_body, write_fbody, write_root, write_froot, write_key, write_fkey, write_count, next_again, root_again}
+use Rattle.clover_rule.proofs.Tools.{upd_same}
 
 first_word : nth (content None) 0 ≡ Some tombstone
 unfolding content
@@ -60,290 +57,219 @@ one_none : (a : ℕ) (o : Next) → OneLink (word a None) o
 one_none a (word b None) = tt
 one_none a (word b (Some t)) = tt
 
-abbrev serve_found : Pool → Serve → List ℕ → ℕ
-serve_found p a ws = slice_index ws (address_of p (serve_word a) (serve_side a))
-
-abbrev serve_words : Pool → Serve → List ℕ → List ℕ
-serve_words p a ws = slice_set ws (address_of p (serve_word a) (serve_side a)) (serve_becomes a (serve_found p a ws))
-
-abbrev serve_view : Pool → Bool → Serve → View → ℕ → View
-serve_view p b a v x = counted b (serve_act a x) 0 (serve_learned p a v x)
-
-abbrev AsksServe : Pool → Serve → View → Type 0
-AsksServe p a v = IsWithin p (serve_word a) × (v.pass.role ≡ Serving) × MayServe' p a v.server
-
--- the server's view is renewed by another that says the same of books, directory and task, and knows true facts
-module _ (l : Pool) (m0 : Map) (used : List ℕ) (m : Mem) (vs : List View) (st : Story) (h : List Entry) (w : Whole l m0 used m vs st h) (id : ℕ) (v v' : View) (at : nth vs id ≡ Some v) (role : v.pass.role ≡ Serving) (same : v'.pass.role ≡ v.pass.role) (past : v'.pass.history ≡ v.pass.history) (ok : ViewOk m st h id v')
-    (serves : Serves l m st st.task v.server → Serves l m st st.task v'.server) (clients : v'.server.clients ≡ v.server.clients) where
-  was : (i : ℕ) (x : View) → nth (renewed vs id v') i ≡ Some x → (y : View) × (nth vs i ≡ Some y) × (y.pass.role ≡ x.pass.role) × (y.server.clients ≡ x.server.clients)
-  was i x q = ⊎_elim {C = (y : View) × (nth vs i ≡ Some y) × (y.pass.role ≡ x.pass.role) × (y.server.clients ≡ x.server.clients)}
-      (λ d. (v, ap (nth vs) d.0 ∙ at, sym same ∙ ap (λ (z : View). z.pass.role) d.1, sym clients ∙ ap (λ (z : View). z.server.clients) d.1)) (λ d. (x, d.1, refl, refl)) (nth_set vs id i v' x q)
-
-  pub own_whole : Whole l m0 used m (renewed vs id v') st h
-  own_whole = record {
-    basis = quiet m0 used m vs st h w.basis id v v' at same past ok;
-    help = w.help;
-    serves = λ i x q e. ⊎_elim (λ d. subst (λ (z : View). Serves l m st st.task z.server) d.1 (serves (w.serves id v at role))) (λ d. w.serves i x d.1 e) (nth_set vs id i v' x q);
-    one = λ i j x y qx qy rx ry. let a = was i x qx in let b = was j y qy in w.one i j a.0 b.0 a.1 b.1 (a.2 ∙ rx) (b.2 ∙ ry);
-    safe = w.safe;
-    made = λ i j n x y qx qy rx ry. let a = was i x qx in let b = was j y qy in subst (Within n) a.3 (w.made i j n a.0 b.0 a.1 b.1 (a.2 ∙ rx) (b.2 ∙ ry));
-    entered = λ i x q e. let a = was i x q in subst (λ (cs : List ℕ). Each (λ (y : Entry). Within y.client cs) h) a.3 (w.entered i a.0 a.1 (a.2 ∙ e));
-  }
-
-module _ (p : Pool) (first : Tagged) (used : List ℕ) (ws : List ℕ) (vs : List View) (st : Story) (h : List Entry) (r : Meets p first used ws vs st h) (id : ℕ) (v : View) (at : nth vs id ≡ Some v) (role : v.pass.role ≡ Serving) where
+module _ (p : Pool) (first : Tagged) (used : List ℕ) (ws : List ℕ) (vs : List View) (st : Story) (h : List Entry) (r : Meets p first used ws vs st h) (id : ℕ) (v : View) (at : nth vs id ≡ Some v) where
   abbrev m : Mem
   m = mem_of p ws
 
   abbrev m0 : Map
   m0 = shows first
 
-  room : (w0 : Word) (s0 : Side) → IsWithin p w0 → HasSide w0 s0 → address_of p w0 s0 < length ws
-  room w0 s0 hw hs = let q = address_below p w0 s0 hw hs in let e = r.sized in omega arith
+  -- the law of one step
+  abbrev pub After : Step → Bool → Type 0
+  After a b = IsMet p first used (words_after_step p a ws) (renewed vs id (next_view b a h v (found p a ws))) h
 
-  -- a buffer whose place is a stock stands in that stock still: the server's own stock stays
-  still_stocked : (y : View) → y.pass.stock ≡ v.pass.stock → (st' : Story) → ((b i : ℕ) → st'.place b ≡ Stocked i → st.place b ≡ Stocked i) → (b i : ℕ) → st'.place b ≡ Stocked i → (z : View) × (nth (renewed vs id y) i ≡ Some z) × (t : ℕ) × Within t z.pass.stock × (home t ≡ b)
-  still_stocked y same st' places b i e = let x = r.stocks b i (places b i e) in go x.0 x.1 x.2 x.3 x.4 (ℕ_discrete i id)
-    where
-      go : (x : View) → nth vs i ≡ Some x → (t : ℕ) → Within t x.pass.stock → home t ≡ b → Dec (i ≡ id) → (z : View) × (nth (renewed vs id y) i ≡ Some z) × (t : ℕ) × Within t z.pass.stock × (home t ≡ b)
-      go x q t f g (yes d) = let is : x ≡ v = (let z : Some x ≡ Some v = sym q ∙ ap (nth vs) d ∙ at in cc) in
-          (y, ap (nth (renewed vs id y)) d ∙ set_here vs id y v at, t, subst (Within t) (sym same) (subst (λ (z : View). Within t z.pass.stock) is f), g)
-      go x q t f g (no d) = (x, set_away vs id i y d ∙ q, t, f, g)
+  -- the words with another number at the step's word
+  abbrev words_with : Step → ℕ → List ℕ
+  words_with a n = slice_set ws (address_of p (word_of a) (side_of a)) n
 
-  -- a step whose number is a code of its word, and behind which the server knows what is so
-  served : (w0 : Word) (s0 : Side) (n : ℕ) → IsWithin p w0 → HasSide w0 s0 → IsCode w0 n → (y : View) → SameRun v y → y.pass.stock ≡ v.pass.stock → (st' : Story) → ((b i : ℕ) → st'.place b ≡ Stocked i → st.place b ≡ Stocked i)
-      → Whole p m0 used (mem_of p (slice_set ws (address_of p w0 s0) n)) (renewed vs id y) st' h
-      → (b : Bool) (a : Act) → IsMet p first used (slice_set ws (address_of p w0 s0) n) (renewed vs id (counted b a 0 y)) h
-  served w0 s0 n hw hs code y run same st' places w b a = (st', record {
-        sized = length-set ws (address_of p w0 s0) n ∙ r.sized;
-        decodes = decodes_set p ws w0 s0 n r.decodes hw hs (room w0 s0 hw hs) code;
-        same = λ i z q. ⊎_elim (λ d. let o = r.same id v at in subst (OfRun p first used) d.1 (record { of_pool = run.pool ∙ o.of_pool; from_map = run.map ∙ o.from_map; from_used = run.used ∙ o.from_used })) (λ d. r.same i z d.1) (nth_set vs id i (counted b a 0 y) z q);
-        stocks = still_stocked (counted b a 0 y) same st' places;
-        whole =
-            let m1 : Mem = mem_of p (slice_set ws (address_of p w0 s0) n) in
-            let here : nth (renewed vs id y) id ≡ Some y = set_here vs id y v at in
-            let ok : ViewOk m1 st' h id y = w.basis.views id y here in
-            subst (λ (l : List View). Whole p m0 used m1 l st' h) (set-set vs id y (counted b a 0 y))
-            (own_whole p m0 used m1 (renewed vs id y) st' h w id y (counted b a 0 y) here (run.role ∙ role) refl refl
-            (record { stocked = ok.stocked; apart = ok.apart; durable = ok.durable; links = ok.links; words = ok.words; written = ok.written; flushed = ok.flushed; copied = ok.copied; names = ok.names; added = ok.added; most = ok.most; history = ok.history; calls = ok.calls })
-            (λ e. e) refl);
-      })
+  -- a step follows from the helping facts over the words after it, decoded
+  lifted : (a : Step) → HasSide (word_of a) (side_of a) → IsWithin p (word_of a) → (n : ℕ) → becomes a (found p a ws) ≡ n → IsCode (word_of a) n → (y : View) → learned a h v (found p a ws) ≡ y → SameRun v y → y.pass.stock ≡ v.pass.stock
+      → (m' : Mem) → mem_of p (words_with a n) ≡ m' → IsServed p m0 used m' (renewed vs id y) st h → (b : Bool) → After a b
+  lifted a hs hw n en code y ey run stock m' em (st', w, places) b =
+      let x : ℕ = found p a ws in
+      subst (λ (z : ℕ). IsMet p first used (words_with a z) (renewed vs id (next_view b a h v x)) h) (sym en)
+      (subst (λ (z : View). IsMet p first used (words_with a n) (renewed vs id (counted b (act_of a x) (turn_of a x) z)) h) (sym ey) (
+        st',
+        stepped p first used ws vs st h r id v at (word_of a) (side_of a) n hw hs code y run st' h places (λ t e q. subst (Within t) (sym stock) q)
+            (subst (λ (z : Mem). Whole p m0 used z (renewed vs id y) st' h) (sym em) w) b (act_of a x) (turn_of a x),
+      ))
 
-  abbrev After : Serve → Bool → Type 0
-  After a b = IsMet p first used (serve_words p a ws) (renewed vs id (serve_view p b a v (serve_found p a ws))) h
+  room_for : (a : Step) → IsWithin p (word_of a) → HasSide (word_of a) (side_of a) → address_of p (word_of a) (side_of a) < length ws
+  room_for a hw hs = room p first used ws vs st h r id v at (word_of a) (side_of a) hw hs
 
-  run_of : (y : Server) → SameRun v (record v { server = y })
-  run_of y = record { role = refl; pool = refl; map = refl; used = refl }
+  same_run : (y : View) → y.pass.role ≡ v.pass.role → y.pass.pool ≡ v.pass.pool → y.pass.map ≡ v.pass.map → y.pass.used ≡ v.pass.used → y.plan ≡ v.plan → SameRun v y
+  same_run y a b c d e = record { role = a; pool = b; map = c; used = d; plan = e }
 
-  -- a store, where the words after decode so
-  stored : (a : Serve) (c : ServerStep) → IsWithin p (serve_word a) → HasSide (serve_word a) (serve_side a) → (n : ℕ) → serve_becomes a (serve_found p a ws) ≡ n → IsCode (serve_word a) n
-      → mem_of p (slice_set ws (address_of p (serve_word a) (serve_side a)) n) ≡ words_after c m → MayServe p c v.server m → serve_learned p a v (serve_found p a ws) ≡ served_view p c v → (b : Bool) → After a b
-  stored a c hw hs n is code mem may view b =
-      let x = server_law p c m0 used m vs id v st h r.whole at role may in
-      subst (λ (z : ℕ). IsMet p first used (slice_set ws (address_of p (serve_word a) (serve_side a)) z) (renewed vs id (serve_view p b a v (serve_found p a ws))) h) (sym is)
-      (subst (λ (y : View). IsMet p first used (slice_set ws (address_of p (serve_word a) (serve_side a)) n) (renewed vs id (counted b (serve_act a (serve_found p a ws)) 0 y)) h) (sym view)
-      (served (serve_word a) (serve_side a) n hw hs code (served_view p c v) (run_of (server_after p c v.server)) refl x.0 x.2
-      (subst (λ (z : Mem). Whole p m0 used z (renewed vs id (served_view p c v)) x.0 h) (sym mem) x.1) b (serve_act a (serve_found p a ws))))
+  stage_of : (T : Task) → IsAt v T → Stage p m st T
+  stage_of T i = stage_at p m0 used m vs id v st h r.whole at i.server T i.task_is
 
-  root_store : (b : Bool) (s t : ℕ) → s < p.slots → (a : Serve) (c : ServerStep) → serve_word a ≡ Root s → serve_side a ≡ Current → serve_becomes a (serve_found p a ws) ≡ root_code (Some t) → words_after c m ≡ record m { root = upd m.root s (Some t) }
-      → MayServe p c v.server m → serve_learned p a v (serve_found p a ws) ≡ served_view p c v → After a b
-  root_store b s t hs a c ew es en em may view =
-      stored a c (subst (IsWithin p) (sym ew) hs) (subst (λ (w : Word). HasSide w (serve_side a)) (sym ew) tt) (root_code (Some t)) en (subst (λ (w : Word). IsCode w (root_code (Some t))) (sym ew) (ap root_code (root_again (Some t))))
-      ((λ i. mem_of p (slice_set ws (address_of p (ew i) (es i)) (root_code (Some t)))) ∙ write_root p ws (root_code (Some t)) s hs (room (Root s) Current hs tt) ∙ ap (λ (q : Option ℕ). record m { root = upd m.root s q }) (root_again (Some t)) ∙ sym em) may view b
+  serves_of : (T : Task) → IsAt v T → Serves p m st T v.server
+  serves_of T i = serves_at p m0 used m vs id v st h r.whole at i.server T i.task_is
 
-  froot_store : (b : Bool) (s t : ℕ) → s < p.slots → (a : Serve) (c : ServerStep) → serve_word a ≡ Root s → serve_side a ≡ Flushed → serve_becomes a (serve_found p a ws) ≡ root_code (Some t) → words_after c m ≡ record m { froot = upd m.froot s (Some t) }
-      → MayServe p c v.server m → serve_learned p a v (serve_found p a ws) ≡ served_view p c v → After a b
-  froot_store b s t hs a c ew es en em may view =
-      stored a c (subst (IsWithin p) (sym ew) hs) (subst (λ (w : Word). HasSide w (serve_side a)) (sym ew) tt) (root_code (Some t)) en (subst (λ (w : Word). IsCode w (root_code (Some t))) (sym ew) (ap root_code (root_again (Some t))))
-      ((λ i. mem_of p (slice_set ws (address_of p (ew i) (es i)) (root_code (Some t)))) ∙ write_froot p ws (root_code (Some t)) s hs (room (Root s) Flushed hs tt) ∙ ap (λ (q : Option ℕ). record m { froot = upd m.froot s q }) (root_again (Some t)) ∙ sym em) may view b
+  -- the root version's next word
+  module _ (s q : ℕ) (hw : IsWithin p (next_word_of q)) (i : IsAt v Idle) (root : root_at v.server s ≡ Some q) where
+    shown_at : m.next (home q) ≡ next_of (found p (ReadVersion s q) ws)
+    shown_at = read_next p ws (home q) (inside_of p (home q) hw)
 
-  -- the count that a binding's last store leaves
-  counted_now : (s : ℕ) (k : List ℕ) (t n : ℕ) → v.server.task ≡ Waiting s k t → n ≡ length v.server.directory → n ≡ suc m.count
-  counted_now s k t n e f =
-      let sv : Serves p m st (Waiting s k t) v.server = serves_at p m0 used m vs id v st h r.whole at role (Waiting s k t) e in
-      f ∙ ap (λ (xs : List (ℕ × List ℕ)). length xs) sv.directory ∙ (let z : length (st.bindings ++ (s, k) ∷ []) ≡ suc (length st.bindings) = omega (arith, length-append st.bindings ((s, k) ∷ [])) in z) ∙ ap suc (sym r.whole.help.naming.counted)
+    shows_own : m.next (home q) ≡ now_at st s (st.gone s) q
+    shows_own = root_shows p m0 used m vs id v st h r.whole at i.server s q i.task_is root
 
-  -- what the server knows of one recycling
-  stage_of : (T : Task) → v.server.task ≡ T → Stage p m st T
-  stage_of T e = stage_at p m0 used m vs id v st h r.whole at role T e
+    unchanged : mem_of p (words_with (ReadVersion s q) (found p (ReadVersion s q) ws)) ≡ m
+    unchanged = ap (mem_of p) (set-get_or ws (address_of p (next_word_of q) Current) 0)
 
-  -- the server knows more, of words and story that stay
-  knows : (m1 : Mem) (st1 : Story) (y z : View) → Whole p m0 used m1 (renewed vs id y) st1 h → y.pass.role ≡ Serving → z.pass.role ≡ y.pass.role → z.pass.history ≡ y.pass.history
-      → (Serves p m1 st1 st1.task y.server → Serves p m1 st1 st1.task z.server) → z.server.clients ≡ y.server.clients → (ViewOk m1 st1 h id y → ViewOk m1 st1 h id z) → Whole p m0 used m1 (renewed vs id z) st1 h
-  knows m1 st1 y z w ro same past serves clients ok =
-      let here : nth (renewed vs id y) id ≡ Some y = set_here vs id y v at in
-      subst (λ (l : List View). Whole p m0 used m1 l st1 h) (set-set vs id y z) (own_whole p m0 used m1 (renewed vs id y) st1 h w id y z here ro same past (ok (w.basis.views id y here)) serves clients)
+    version_with : (b : Bool) (y : View) → SameRun v y → y.pass.stock ≡ v.pass.stock → (n : Next) → m.next (home q) ≡ n → looked s q v n ≡ y → IsServed p m0 used m (renewed vs id y) st h → After (ReadVersion s q) b
+    version_with b y run stock n e ey served = lifted (ReadVersion s q) tt hw (found p (ReadVersion s q) ws) refl (r.decodes (next_word_of q) Current hw tt) y (ap (λ (z : Next). looked s q v z) (sym shown_at ∙ e) ∙ ey) run stock m unchanged served b
 
-  -- a load of the root version's next word that showed n
-  look_at : (b : Bool) (s q : ℕ) → IsWithin p (NextOf (buffer_at (home q))) → v.server.task ≡ Idle → (root_at v.server) s ≡ Some q → (act : Act) (n : Next) → m.next (home q) ≡ n → (x : ℕ) → slice_set ws (address_of p (NextOf (buffer_at (home q))) Current) x ≡ ws → IsCode (NextOf (buffer_at (home q))) x
-      → IsMet p first used (slice_set ws (address_of p (NextOf (buffer_at (home q))) Current) x) (renewed vs id (counted b act 0 (looked p s q n v))) h
-  look_at b s q hw e f act (word a None) em x same code =
-      let y : View = looked p s q (word a None) v in
-      let ok : ViewOk m st h id v = r.whole.basis.views id v at in
-      let w : Whole p m0 used m (renewed vs id y) st h = own_whole p m0 used m vs st h r.whole id v y at role refl refl
-          (record { stocked = ok.stocked; apart = ok.apart; durable = ok.durable; links = ok.links; words = (subst (Past m st (home q)) em (current_past m st r.whole.basis.core (home q)), ok.words); written = ok.written; flushed = ok.flushed; copied = ok.copied; names = ok.names; added = ok.added; most = ok.most; history = ok.history; calls = ok.calls })
-          (λ z. record { task_is = z.task_is; directory = z.directory; roots = z.roots; books = z.books }) refl in
-      served (NextOf (buffer_at (home q))) Current x hw tt code y (record { role = refl; pool = refl; map = refl; used = refl }) refl st (λ c i z. z)
-      (subst (λ (u : List ℕ). Whole p m0 used (mem_of p u) (renewed vs id y) st h) (sym same) w) b act
-  look_at b s q hw e f act (word a (Some t)) em x same code =
-      let sv : Serves p m st Idle v.server = serves_at p m0 used m vs id v st h r.whole at role Idle e in
-      let here : tag_at st s (st.gone s) ≡ Some q = sym (sv.roots s) ∙ f in
-      let now : word a (Some t) ≡ now_at st s (st.gone s) q = sym em ∙ (r.whole.basis.core.standing s (st.gone s) q here (omega arith)).now in
-      let age_is : a ≡ age q = ap gen now in
-      let next_is : tag_at st s (suc (st.gone s)) ≡ Some t = sym (ap link now) in
-      let x1 = server_law p (LoadRoot s q t) m0 used m vs id v st h r.whole at role (e, f, em ∙ ap (λ (z : ℕ). word z (Some t)) age_is) in
-      let y : View = served_view p (LoadRoot s q t) v in
-      let z : View = looked p s q (word a (Some t)) v in
-      let w : Whole p m0 used m (renewed vs id z) x1.0 h = knows m x1.0 y z x1.1 role refl refl (λ c. c) refl
-          (λ ok. record { stocked = ok.stocked; apart = ok.apart; durable = ok.durable; links = (link_of x1.0 x1.1, ok.links); words = (subst (Past m x1.0 (home q)) em (current_past m x1.0 x1.1.basis.core (home q)), ok.words); written = ok.written; flushed = ok.flushed; copied = ok.copied; names = ok.names; added = ok.added; most = ok.most; history = ok.history; calls = ok.calls }) in
-      served (NextOf (buffer_at (home q))) Current x hw tt code z (record { role = refl; pool = refl; map = refl; used = refl }) refl x1.0 x1.2
-      (subst (λ (u : List ℕ). Whole p m0 used (mem_of p u) (renewed vs id z) x1.0 h) (sym same) w) b act
-    where
-      -- the link, in the story of that stage
-      link_of : (st1 : Story) → Whole p m0 used m (renewed vs id (served_view p (LoadRoot s q t) v)) st1 h → IsLink st1 (record { slot = s; from = q; to = t })
-      link_of st1 w = let g : Stage p m st1 (Loaded s q t) = stage_at p m0 used m (renewed vs id (served_view p (LoadRoot s q t) v)) id (served_view p (LoadRoot s q t) v) st1 h w (set_here vs id (served_view p (LoadRoot s q t) v) v at) role (Loaded s q t) refl in (st1.gone s, g.here.root, g.here.next)
+    pub keeps_version : (b : Bool) → After (ReadVersion s q) b
+    keeps_version b = go (tag_at st s (suc (st.gone s))) refl
+      where
+        go : (o : Option ℕ) → tag_at st s (suc (st.gone s)) ≡ o → After (ReadVersion s q) b
+        go None e = let z : m.next (home q) ≡ word (age q) None = shows_own ∙ ap (word (age q)) e in
+            version_with b (looked s q v (word (age q) None)) (same_run (looked s q v (word (age q) None)) refl refl refl refl refl) refl (word (age q) None) z refl (st, read_unlinked p m0 used m vs id v st h r.whole at i.server s q i.task_is root z, λ c j f. f)
+        go (Some t) e = let z : m.next (home q) ≡ word (age q) (Some t) = shows_own ∙ ap (word (age q)) e in
+            version_with b (looked s q v (word (age q) (Some t))) (same_run (looked s q v (word (age q) (Some t))) refl refl refl refl refl) refl (word (age q) (Some t)) z refl (read_linked p m0 used m vs id v st h r.whole at i.server s q i.task_is root t z)
 
-  -- the flushed copy of the root version's next word, of its own generation, is unlinked or the link
-  flushed_so : (s q t : ℕ) → tag_at st s (st.gone s) ≡ Some q → tag_at st s (suc (st.gone s)) ≡ Some t → (m.fnext (home q) ≡ word (age q) None) ⊎ (m.fnext (home q) ≡ word (age q) (Some t))
-  flushed_so s q t e f = either_way (ltb (suc (st.gone s)) (st.sure s)) (r.whole.basis.core.standing s (st.gone s) q e (omega arith)).safe
-    where
-      either_way : (b : Bool) → m.fnext (home q) ≡ word (age q) (only b (tag_at st s (suc (st.gone s)))) → (m.fnext (home q) ≡ word (age q) None) ⊎ (m.fnext (home q) ≡ word (age q) (Some t))
-      either_way true x = inr (x ∙ ap (word (age q)) f)
-      either_way false x = inl x
+    pub version_says : gen (next_of (found p (ReadVersion s q) ws)) ≡ age q
+    version_says = ap gen (sym shown_at ∙ shows_own)
 
-  keeps_flush : (b : Bool) (s q t : ℕ) → AsksServe p (FlushOf s q t) v → After (FlushOf s q t) b
-  keeps_flush b s q t (hw, ro, e) =
-      let x : ℕ = serve_found p (FlushOf s q t) ws in
-      let i : inside p (home q) ≡ true = inside_of p (home q) hw in
-      let g : Stage p m st (Loaded s q t) = stage_of (Loaded s q t) e in
-      let target : InRange p t = r.whole.help.ranged.tags s (suc (st.gone s)) t g.here.next in
-      let n : Next = word (age q) (Some t) in
-      let o : Next = next_of x in
-      let was_o : m.fnext (home q) ≡ o = read_fnext p ws (home q) i in
-      let xc : next_code o ≡ x = r.decodes (NextOf (buffer_at (home q))) Flushed hw tt in
-      let one : OneLink n o = one_link (age q) t o (λ _. subst (λ (z : Next). (z ≡ word (age q) None) ⊎ (z ≡ word (age q) (Some t))) was_o (flushed_so s q t g.here.root g.here.next)) in
-      let sn : Small n = tag_small p t target in
-      let top : max x (link_code q t) ≡ next_code (greater o n) = ap (λ (z : ℕ). max z (link_code q t)) (sym xc) ∙ raise_on_codes n o sn (small_of x) one in
-      let value : next_of (max x (link_code q t)) ≡ greater o n = ap next_of top ∙ again (greater o n) (greater_case o n Small (small_of x) sn) in
-      let code : next_code (next_of (max x (link_code q t))) ≡ max x (link_code q t) = ap next_code value ∙ sym top in
-      let mem : mem_of p (slice_set ws (address_of p (NextOf (buffer_at (home q))) Flushed) (max x (link_code q t))) ≡ raised_mem m q t =
-          write_fnext p ws (max x (link_code q t)) (home q) i (room (NextOf (buffer_at (home q))) Flushed hw tt)
-          ∙ ap (λ (z : Next). record m { fnext = upd m.fnext (home q) z }) (value ∙ ap (λ (z : Next). greater z n) (sym was_o)) in
-      let x1 = server_law p (FlushLink s q t) m0 used m vs id v st h r.whole at role e in
-      let y : View = served_view p (FlushLink s q t) v in
-      let z : View = serve_learned p (FlushOf s q t) v x in
-      let w : Whole p m0 used (raised_mem m q t) (renewed vs id z) x1.0 h = knows (raised_mem m q t) x1.0 y z x1.1 role refl refl (λ c. c) refl
-          (λ ok. record { stocked = ok.stocked; apart = ok.apart; durable = (durable_of x1.0 x1.1, ok.durable); links = ok.links; words = ok.words; written = ok.written; flushed = ok.flushed; copied = ok.copied; names = ok.names; added = ok.added; most = ok.most; history = ok.history; calls = ok.calls }) in
-      served (NextOf (buffer_at (home q))) Flushed (max x (link_code q t)) hw tt code z (record { role = refl; pool = refl; map = refl; used = refl }) refl x1.0 x1.2
-      (subst (λ (u : Mem). Whole p m0 used u (renewed vs id z) x1.0 h) (sym mem) w) b (serve_act (FlushOf s q t) x)
-    where
-      durable_of : (st1 : Story) → Whole p m0 used (raised_mem m q t) (renewed vs id (served_view p (FlushLink s q t) v)) st1 h → Durable st1 s t
-      durable_of st1 w = let g : Stage p (raised_mem m q t) st1 (Raised s q t) = stage_at p m0 used (raised_mem m q t) (renewed vs id (served_view p (FlushLink s q t) v)) id (served_view p (FlushLink s q t) v) st1 h w (set_here vs id (served_view p (FlushLink s q t) v) v at) role (Raised s q t) refl in (suc (st1.gone s), g.here.0.next, g.here.1)
+  -- a recycling's steps
+  module _ (c : Recycling) where
+    pub keeps_flush_link : IsWithin p (next_word_of c.root) → IsAt v (Loaded c) → (b : Bool) → After (FlushLink c) b
+    keeps_flush_link hw i b =
+        let g : Stage p m st (Loaded c) = stage_of (Loaded c) i in
+        let l : Link = record { slot = c.slot; from = c.root; to = c.next } in
+        let z = raised_words p first used ws vs st h r id v at l (st.gone c.slot, g.here.root, g.here.next) hw (found p (FlushLink c) ws) refl in
+        lifted (FlushLink c) tt hw (max (found p (FlushLink c) ws) (linked c.root c.next)) refl z.1 (link_flushed v c) refl (same_run (link_flushed v c) refl refl refl refl refl) refl (raised_mem m c.root c.next) z.0
+        (flush_link_whole p m0 used m vs id v st h r.whole at i.server c i.task_is) b
 
-  keeps_pass : (b : Bool) (s q t : ℕ) → AsksServe p (PassOf s q t) v → After (PassOf s q t) b
-  keeps_pass b s q t (hw, ro, e) =
-      let a : Serve = PassOf s q t in
-      let x : ℕ = serve_found p a ws in
-      let i : inside p (home q) ≡ true = inside_of p (home q) hw in
-      let finds : m.next (home q) ≡ word (age q) (Some t) = exchange_finds p m0 used m vs id v st h r.whole at role s q t e in
-      let xc : next_code (next_of x) ≡ x = r.decodes (NextOf (buffer_at (home q))) Current hw tt in
-      let is : x ≡ link_code q t = sym xc ∙ ap next_code (sym (read_next p ws (home q) i) ∙ finds) in
-      let wrote : serve_becomes a x ≡ passed q = ap (λ (z : Bool). either z (passed q) x) (eq-eqb x (link_code q t) is) in
-      let value : next_of (passed q) ≡ word (suc (age q)) None = next_again (suc (age q)) None (omega arith) in
-      let mem : mem_of p (slice_set ws (address_of p (NextOf (buffer_at (home q))) Current) (passed q)) ≡ recycled_mem m q =
-          write_next p ws (passed q) (home q) i (room (NextOf (buffer_at (home q))) Current hw tt) ∙ ap (λ (z : Next). record m { next = upd m.next (home q) z }) value in
-      let x1 = server_law p (ExchangeRoot s q t) m0 used m vs id v st h r.whole at role e in
-      let y : View = served_view p (ExchangeRoot s q t) v in
-      let z : View = serve_learned p a v x in
-      let w : Whole p m0 used (recycled_mem m q) (renewed vs id z) x1.0 h = knows (recycled_mem m q) x1.0 y z x1.1 role refl refl (λ c. c) refl
-          (λ ok. record { stocked = ok.stocked; apart = ok.apart; durable = ok.durable; links = ok.links; words = (subst (Past (recycled_mem m q) x1.0 (home q)) (upd_same m.next (home q) (word (suc (age q)) None)) (current_past (recycled_mem m q) x1.0 x1.1.basis.core (home q)), ok.words); written = ok.written; flushed = ok.flushed; copied = ok.copied; names = ok.names; added = ok.added; most = ok.most; history = ok.history; calls = ok.calls }) in
-      subst (λ (u : ℕ). IsMet p first used (slice_set ws (address_of p (NextOf (buffer_at (home q))) Current) u) (renewed vs id (serve_view p b a v x)) h) (sym wrote)
-      (served (NextOf (buffer_at (home q))) Current (passed q) hw tt (ap next_code value) z (record { role = refl; pool = refl; map = refl; used = refl }) refl x1.0 x1.2
-      (subst (λ (u : Mem). Whole p m0 used u (renewed vs id z) x1.0 h) (sym mem) w) b (serve_act a x))
+    pub keeps_store_root : IsWithin p (Root c.slot) → IsAt v (Raised c) → (b : Bool) → After (StoreRoot c) b
+    keeps_store_root hw i b =
+        lifted (StoreRoot c) tt hw (root_code (Some c.next)) refl (ap root_code (root_again (Some c.next))) (at_task v (Led c)) refl (same_run (at_task v (Led c)) refl refl refl refl refl) refl (record m { root = upd m.root c.slot (Some c.next) })
+        (write_root p ws (root_code (Some c.next)) c.slot hw (room_for (StoreRoot c) hw tt) ∙ ap (λ (q : Option ℕ). record m { root = upd m.root c.slot q }) (root_again (Some c.next)))
+        (store_root_whole p m0 used m vs id v st h r.whole at i.server c i.task_is) b
 
-  -- the words after the last raise of a recycling, decoded, and that the raised number is a code
-  freed_words : (s q t : ℕ) → IsWithin p (NextOf (buffer_at (home q))) → (x : ℕ) → x ≡ copy_in p ws (NextOf (buffer_at (home q))) Flushed
-      → (mem_of p (slice_set ws (address_of p (NextOf (buffer_at (home q))) Flushed) (max x (passed q))) ≡ words_after (FreeOld s q t) m) × (next_code (next_of (max x (passed q))) ≡ max x (passed q))
-  freed_words s q t hw x is =
-      let i : inside p (home q) ≡ true = inside_of p (home q) hw in
-      let n : Next = word (suc (age q)) None in
-      let o : Next = next_of x in
-      let was_o : m.fnext (home q) ≡ o = read_fnext p ws (home q) i ∙ ap next_of (sym is) in
-      let xc : next_code o ≡ x = ap (λ (z : ℕ). next_code (next_of z)) is ∙ r.decodes (NextOf (buffer_at (home q))) Flushed hw tt ∙ sym is in
-      let top : max x (passed q) ≡ next_code (greater o n) = ap (λ (z : ℕ). max z (passed q)) (sym xc) ∙ raise_on_codes n o tt (small_of x) (one_none (suc (age q)) o) in
-      let value : next_of (max x (passed q)) ≡ greater o n = ap next_of top ∙ again (greater o n) (greater_case o n Small (small_of x) tt) in
-      (write_fnext p ws (max x (passed q)) (home q) i (room (NextOf (buffer_at (home q))) Flushed hw tt)
-          ∙ ap (λ (z : Next). record m { fnext = upd m.fnext (home q) z }) (value ∙ ap (λ (z : Next). greater z n) (sym was_o)), ap next_code value ∙ sym top)
+    pub keeps_flush_root : IsWithin p (Root c.slot) → IsAt v (Led c) → (b : Bool) → After (FlushRoot c) b
+    keeps_flush_root hw i b =
+        lifted (FlushRoot c) tt hw (root_code (Some c.next)) refl (ap root_code (root_again (Some c.next))) (at_task v (Both c)) refl (same_run (at_task v (Both c)) refl refl refl refl refl) refl (record m { froot = upd m.froot c.slot (Some c.next) })
+        (write_froot p ws (root_code (Some c.next)) c.slot hw (room_for (FlushRoot c) hw tt) ∙ ap (λ (q : Option ℕ). record m { froot = upd m.froot c.slot q }) (root_again (Some c.next)))
+        (store_flushed_whole p m0 used m vs id v st h r.whole at i.server c i.task_is) b
 
-  keeps_free : (b : Bool) (s q : ℕ) → AsksServe p (FreeOf s q) v → After (FreeOf s q) b
-  keeps_free b s q (hw, ro, (t, e)) =
-      let x : ℕ = serve_found p (FreeOf s q) ws in
-      let z = freed_words s q t hw x refl in
-      stored (FreeOf s q) (FreeOld s q t) hw tt (max x (passed q)) refl z.1 z.0 e (ap (λ (T : Task). record v { server = freed_by p s q v.server T }) e) b
+    -- the exchange finds the link
+    pub pass_says : IsWithin p (next_word_of c.root) → IsAt v (Both c) → found p (PassRoot c) ws ≡ linked c.root c.next
+    pass_says hw i = sym (r.decodes (next_word_of c.root) Current hw tt) ∙ ap next_code (sym (read_next p ws (home c.root) (inside_of p (home c.root) hw)) ∙ exchange_finds p m0 used m vs id v st h r.whole at i.server c i.task_is)
 
-  -- a buffer that is free or worn stands on no chain
-  unchained : (x y : Bool) (a g : ℕ) → book a (cond x IsWorn IsFree) ≡ book g (cond y IsBound IsOut) → ⊥
-  unchained true true a g e = absurd cc
-  unchained true false a g e = absurd cc
-  unchained false true a g e = absurd cc
-  unchained false false a g e = absurd cc
+    pub keeps_pass_root : IsWithin p (next_word_of c.root) → IsAt v (Both c) → (b : Bool) → After (PassRoot c) b
+    keeps_pass_root hw i b =
+        let x : ℕ = found p (PassRoot c) ws in
+        let value : next_of (moved_on c.root) ≡ word (suc (age c.root)) None = next_again (suc (age c.root)) None (omega arith) in
+        lifted (PassRoot c) tt hw (moved_on c.root) (ap (λ (z : Bool). either z (moved_on c.root) x) (eq-eqb x (linked c.root c.next) (pass_says hw i))) (ap next_code value) (root_passed v c) refl (same_run (root_passed v c) refl refl refl refl refl) refl (recycled_mem m c.root)
+        (write_next p ws (moved_on c.root) (home c.root) (inside_of p (home c.root) hw) (room_for (PassRoot c) hw tt) ∙ ap (λ (z : Next). record m { next = upd m.next (home c.root) z }) value)
+        (exchange_whole p m0 used m vs id v st h r.whole at i.server c i.task_is) b
 
-  freed_says : (s q : ℕ) → AsksServe p (FreeOf s q) v → ServerSays p ws (FreeOf s q) (serve_found p (FreeOf s q) ws)
-  freed_says s q (hw, ro, (t, e)) =
-      let a : Serve = FreeOf s q in
-      let x : ℕ = serve_found p a ws in
-      let i : inside p (home q) ≡ true = inside_of p (home q) hw in
-      let y : View = serve_view p true a v x in
-      let met = keeps_free true s q (hw, ro, (t, e)) in
-      let sv1 : Serves p (mem_of p (serve_words p a ws)) met.0 met.0.task y.server = met.1.whole.serves id y (set_here vs id y v at) role in
-      let books1 : (book_at y.server) (home q) ≡ book (suc (age q)) (freed (suc (age q)) p.wear) = ap (λ (T : Task). (book_at (freed_by p s q v.server T)) (home q)) e ∙ upd_same (upd (book_at v.server) (home t) (book (age t) IsBound)) (home q) (book (suc (age q)) (freed (suc (age q)) p.wear)) in
-      let g : Stage p m st (Exchanged s q t) = stage_of (Exchanged s q t) e in
-      let raised : greater (m.fnext (home q)) (word (suc (age q)) None) ≡ word (suc (age q)) None = ap (λ (z : Next). greater z (word (suc (age q)) None)) g.here.safe ∙ ap (λ (c : Bool). cond c (word (suc (age q)) None) (word (age q) (Some t))) (lt-ltb (suc (age q + age q)) (suc (age q) + suc (age q)) (omega arith)) in
-      (ap (λ (z : Mem). z.fnext (home q)) (freed_words s q t hw x refl).0 ∙ upd_same m.fnext (home q) (greater (m.fnext (home q)) (word (suc (age q)) None)) ∙ raised,
-       nowhere p first used (serve_words p a ws) (renewed vs id y) met.0 h met.1 (home q) (λ s1 z. unchained (eqb (suc (age q)) p.wear) (is_home (root_in met.0.task met.0 s1) (home q)) (suc (age q)) (gen ((mem_of p (serve_words p a ws)).next (home q)))
-           (sym books1 ∙ sv1.books (home q) i ∙ ap (λ (k : Place). book_of met.0.task met.0 k (gen ((mem_of p (serve_words p a ws)).next (home q))) (home q)) z)))
+    abbrev freed_mem : Mem
+    freed_mem = record m { fnext = upd m.fnext (home c.root) (greater (m.fnext (home c.root)) (word (suc (age c.root)) None)) }
 
-  -- what its number says
-  pub serve_says : (a : Serve) → AsksServe p a v → ServerSays p ws a (serve_found p a ws)
-  serve_says (Look s q) (hw, ro, (e, f)) =
-      let sv : Serves p m st Idle v.server = serves_at p m0 used m vs id v st h r.whole at role Idle e in
-      let here : tag_at st s (st.gone s) ≡ Some q = sym (sv.roots s) ∙ f in
-      ap gen (sym (read_next p ws (home q) (inside_of p (home q) hw)) ∙ (r.whole.basis.core.standing s (st.gone s) q here (omega arith)).now)
-  serve_says (PassOf s q t) (hw, ro, e) =
-      sym (r.decodes (NextOf (buffer_at (home q))) Current hw tt) ∙ ap next_code (sym (read_next p ws (home q) (inside_of p (home q) hw)) ∙ exchange_finds p m0 used m vs id v st h r.whole at role s q t e)
-  serve_says (FlushOf s q t) asks = tt
-  serve_says (RootOf s q t) asks = tt
-  serve_says (FlushRootOf s q t) asks = tt
-  serve_says (FreeOf s q) asks = freed_says s q asks
-  serve_says (Hold s k t) asks = tt
-  serve_says (HoldFlushed s k t) asks = tt
-  serve_says (Spell s k t j x) asks = tt
-  serve_says (SpellFlushed s k t j x) asks = tt
-  serve_says (Bind s k t) asks = tt
-  serve_says (BindFlushed s k t) asks = tt
-  serve_says (Name s k t n) (hw, ro, (e, f)) = let g = stage_of (Waiting s k t) e in (r.whole.help.keyed.flushed s k g.here.0.key, g.here.1, tomb s k t g.here.0)
-    where
-      tomb : (s : ℕ) (k : List ℕ) (t : ℕ) → IsWaiting m st s k t → m.fbody (home t) 0 ≡ tombstone
-      tomb s k t a = go (nth (st.log s) 0) refl a.tag
-        where
-          go : (o : Option Version) → nth (st.log s) 0 ≡ o → tag_in_version o ≡ Some t → m.fbody (home t) 0 ≡ tombstone
-          go None x y = absurd (let z : ◌≡◌ {A = Option ℕ} None (Some t) = y in cc)
-          go (Some w) x y =
-              let is : w.tag ≡ t = (let z : Some w.tag ≡ Some t = y in cc) in
-              let dead : w.value ≡ None = r.whole.help.naming.waiting s k a.key a.unnamed 0 w x in
-              ap (λ (z : ℕ). m.fbody (home z) 0) (sym is) ∙ (r.whole.basis.bodies s 0 w x (omega (arith, a.gone)) 0 tombstone (ap (λ (z : Option Value). nth (content z) 0) dead ∙ first_word)).1
+    -- the decoded words after the last raise, and that the raised number is a code
+    freed_words : IsWithin p (next_word_of c.root) → (x : ℕ) → x ≡ copy_in p ws (next_word_of c.root) Flushed
+        → (mem_of p (words_with (FreeRoot c) (max x (moved_on c.root))) ≡ freed_mem) × (next_code (next_of (max x (moved_on c.root))) ≡ max x (moved_on c.root))
+    freed_words hw x is =
+        let i : inside p (home c.root) ≡ true = inside_of p (home c.root) hw in
+        let n : Next = word (suc (age c.root)) None in
+        let o : Next = next_of x in
+        let was : m.fnext (home c.root) ≡ o = read_fnext p ws (home c.root) i ∙ ap next_of (sym is) in
+        let xc : next_code o ≡ x = ap (λ (z : ℕ). next_code (next_of z)) is ∙ r.decodes (next_word_of c.root) Flushed hw tt ∙ sym is in
+        let top : max x (moved_on c.root) ≡ next_code (greater o n) = ap (λ (z : ℕ). max z (moved_on c.root)) (sym xc) ∙ raise_on_codes n o tt (small_of x) (one_none (suc (age c.root)) o) in
+        let value : next_of (max x (moved_on c.root)) ≡ greater o n = ap next_of top ∙ again (greater o n) (greater_case o n Small (small_of x) tt) in (
+          write_fnext p ws (max x (moved_on c.root)) (home c.root) i (room_for (FreeRoot c) hw tt)
+              ∙ ap (λ (z : Next). record m { fnext = upd m.fnext (home c.root) z }) (value ∙ ap (λ (z : Next). greater z n) (sym was)),
+          ap next_code value ∙ sym top,
+        )
 
-  -- the law: whatever the words, the views and the history are, a step that the server may make keeps the helping facts
-  pub serve_keeps : (a : Serve) (b : Bool) → AsksServe p a v → After a b
-  serve_keeps (Look s q) b (hw, ro, (e, f)) = look_at b s q hw e f (serve_act (Look s q) (serve_found p (Look s q) ws)) (next_of (serve_found p (Look s q) ws)) (read_next p ws (home q) (inside_of p (home q) hw)) (serve_found p (Look s q) ws) (set-get_or ws (address_of p (NextOf (buffer_at (home q))) Current) 0) (r.decodes (NextOf (buffer_at (home q))) Current hw tt)
-  serve_keeps (FlushOf s q t) b asks = keeps_flush b s q t asks
-  serve_keeps (RootOf s q t) b (hw, ro, e) = root_store b s t hw (RootOf s q t) (StoreRoot s q t) refl refl refl refl e refl
-  serve_keeps (FlushRootOf s q t) b (hw, ro, e) = froot_store b s t hw (FlushRootOf s q t) (StoreFlushedRoot s q t) refl refl refl refl e refl
-  serve_keeps (PassOf s q t) b asks = keeps_pass b s q t asks
-  serve_keeps (FreeOf s q) b asks = keeps_free b s q asks
-  serve_keeps (Hold s k t) b (hw, ro, e) = stored (Hold s k t) (Begin s k t) hw tt tombstone refl tt (write_body p ws tombstone (home t) 0 e.2 (omega arith) (room (content_at (home t) 0) Current hw tt)) e refl b
-  serve_keeps (HoldFlushed s k t) b (hw, ro, e) = stored (HoldFlushed s k t) (FlushMeta s k t) hw tt tombstone refl tt (write_fbody p ws tombstone (home t) 0 (inside_of p (home t) hw) (omega arith) (room (content_at (home t) 0) Flushed hw tt)) e refl b
-  serve_keeps (Spell s k t j x) b (hw, ro, e) = stored (Spell s k t j x) (StoreKey s k t j x) hw tt x refl tt (write_key p ws x s j hw.0 hw.1 (room (Key s j) Current hw tt)) e refl b
-  serve_keeps (SpellFlushed s k t j x) b (hw, ro, e) = stored (SpellFlushed s k t j x) (FlushKey s k t j x) hw tt x refl tt (write_fkey p ws x s j hw.0 hw.1 (room (Key s j) Flushed hw tt)) e refl b
-  serve_keeps (Bind s k t) b (hw, ro, e) = root_store b s t hw (Bind s k t) (BindRoot s k t) refl refl refl refl e refl
-  serve_keeps (BindFlushed s k t) b (hw, ro, e) = froot_store b s t hw (BindFlushed s k t) (BindFlushedRoot s k t) refl refl refl refl e refl
-  serve_keeps (Name s k t n) b (hw, ro, (e, f)) = let c = counted_now s k t n e f in stored (Name s k t n) (StoreCount s k t) hw tt n refl tt (write_count p ws n (room Count Current tt tt) ∙ ap (λ (z : ℕ). record m { count = z }) c) e refl b
+    pub keeps_free_root : IsWithin p (next_word_of c.root) → IsAt v (Exchanged c) → (b : Bool) → After (FreeRoot c) b
+    keeps_free_root hw i b =
+        let z = freed_words hw (found p (FreeRoot c) ws) refl in
+        lifted (FreeRoot c) tt hw (max (found p (FreeRoot c) ws) (moved_on c.root)) refl z.1 (root_freed p.wear v c) (ap (λ (q : Pool). root_freed q.wear v c) (r.same id v at).of_pool) (same_run (root_freed p.wear v c) refl refl refl refl refl) refl freed_mem z.0
+        (free_old_whole p m0 used m vs id v st h r.whole at i.server c i.task_is) b
+
+    -- a buffer that is free or worn stands on no chain
+    unchained : (x y : Bool) (a g : ℕ) → book a (cond x IsWorn IsFree) ≡ book g (cond y IsBound IsOut) → ⊥
+    unchained true true a g e = absurd cc
+    unchained true false a g e = absurd cc
+    unchained false true a g e = absurd cc
+    unchained false false a g e = absurd cc
+
+    pub free_says : IsWithin p (next_word_of c.root) → IsAt v (Exchanged c) → IsGivenBack p (words_after_step p (FreeRoot c) ws) c.root
+    free_says hw i =
+        let a : Step = FreeRoot c in
+        let x : ℕ = found p a ws in
+        let b : ℕ = home c.root in
+        let y : View = next_view true a h v x in
+        let met = keeps_free_root hw i true in
+        let m1 : Mem = mem_of p (words_after_step p a ws) in
+        let sv : Serves p m1 met.0 met.0.task y.server = met.1.whole.serves id y (set_here vs id y v at) i.server in
+        let line : book_at y.server b ≡ book (suc (age c.root)) (free_or_worn v.pass.pool.wear (suc (age c.root))) = upd_same (upd (book_at v.server) (home c.next) (book (age c.next) IsBound)) b (book (suc (age c.root)) (free_or_worn v.pass.pool.wear (suc (age c.root)))) in
+        let g : Stage p m st (Exchanged c) = stage_of (Exchanged c) i in
+        let raised : greater (m.fnext b) (word (suc (age c.root)) None) ≡ word (suc (age c.root)) None = ap (λ (z : Next). greater z (word (suc (age c.root)) None)) g.here.safe ∙ ap (λ (z : Bool). cond z (word (suc (age c.root)) None) (word (age c.root) (Some c.next))) (lt-ltb (suc (age c.root + age c.root)) (suc (age c.root) + suc (age c.root)) (omega arith)) in
+        record {
+          flushed = ap (λ (z : Mem). z.fnext b) (freed_words hw x refl).0 ∙ upd_same m.fnext b (greater (m.fnext b) (word (suc (age c.root)) None)) ∙ raised;
+          gone = nowhere p first used (words_after_step p a ws) (renewed vs id y) met.0 h met.1 b (λ s z. unchained (eqb (suc (age c.root)) v.pass.pool.wear) (is_home (root_in met.0.task met.0 s) b) (suc (age c.root)) (gen (m1.next b))
+              (sym line ∙ sv.books b (inside_of p b hw) ∙ ap (λ (k : Place). book_of met.0.task met.0 k (gen (m1.next b)) b) z));
+        }
+
+  -- a binding's steps
+  module _ (n : NewBinding) where
+    pub keeps_store_tombstone : IsWithin p (content_at (home n.tag) 0) → MayBegin p v n → (b : Bool) → After (StoreTombstone n) b
+    keeps_store_tombstone hw may b =
+        lifted (StoreTombstone n) tt hw tombstone refl tt (begun v n) refl (same_run (begun v n) refl refl refl refl refl) refl (record m { body = upd m.body (home n.tag) (upd (m.body (home n.tag)) 0 tombstone) })
+        (write_body p ws tombstone (home n.tag) 0 may.buffer (omega arith) (room_for (StoreTombstone n) hw tt))
+        (begin_whole p m0 used m vs id v st h r.whole at may.idle.server n may) b
+
+    pub keeps_flush_tombstone : IsWithin p (content_at (home n.tag) 0) → IsAt v (Storing n 1) → (b : Bool) → After (FlushTombstone n) b
+    keeps_flush_tombstone hw i b =
+        lifted (FlushTombstone n) tt hw tombstone refl tt (at_task v (Storing n 2)) refl (same_run (at_task v (Storing n 2)) refl refl refl refl refl) refl (record m { fbody = upd m.fbody (home n.tag) (upd (m.fbody (home n.tag)) 0 tombstone) })
+        (write_fbody p ws tombstone (home n.tag) 0 (inside_of p (home n.tag) hw) (omega arith) (room_for (FlushTombstone n) hw tt))
+        (flush_tombstone_whole p m0 used m vs id v st h r.whole at i.server n i.task_is) b
+
+    pub keeps_store_key : (j x : ℕ) → IsWithin p (Key n.slot j) → IsAt v (Storing n (2 + j)) → nth (spelling n.key) j ≡ Some x → (b : Bool) → After (StoreKey n j x) b
+    keeps_store_key j x hw i e b =
+        lifted (StoreKey n j x) tt hw x refl tt (at_task v (Storing n (3 + j))) refl (same_run (at_task v (Storing n (3 + j))) refl refl refl refl refl) refl (record m { key = upd m.key n.slot (upd (m.key n.slot) j x) })
+        (write_key p ws x n.slot j hw.0 hw.1 (room_for (StoreKey n j x) hw tt))
+        (store_key_whole p m0 used m vs id v st h r.whole at i.server n j x i.task_is e) b
+
+    pub keeps_flush_key : (j x : ℕ) → IsWithin p (Key n.slot j) → IsAt v (Storing n (2 + j + length (spelling n.key))) → nth (spelling n.key) j ≡ Some x → (b : Bool) → After (FlushKey n j x) b
+    keeps_flush_key j x hw i e b =
+        lifted (FlushKey n j x) tt hw x refl tt (at_task v (Storing n (3 + j + length (spelling n.key)))) refl (same_run (at_task v (Storing n (3 + j + length (spelling n.key)))) refl refl refl refl refl) refl (record m { fkey = upd m.fkey n.slot (upd (m.fkey n.slot) j x) })
+        (write_fkey p ws x n.slot j hw.0 hw.1 (room_for (FlushKey n j x) hw tt))
+        (flush_key_whole p m0 used m vs id v st h r.whole at i.server n j x i.task_is e) b
+
+    pub keeps_bind_root : IsWithin p (Root n.slot) → IsAt v (Storing n (2 + length (spelling n.key) + length (spelling n.key))) → (b : Bool) → After (BindRoot n) b
+    keeps_bind_root hw i b =
+        lifted (BindRoot n) tt hw (root_code (Some n.tag)) refl (ap root_code (root_again (Some n.tag))) (root_bound v n) refl (same_run (root_bound v n) refl refl refl refl refl) refl (record m { root = upd m.root n.slot (Some n.tag) })
+        (write_root p ws (root_code (Some n.tag)) n.slot hw (room_for (BindRoot n) hw tt) ∙ ap (λ (q : Option ℕ). record m { root = upd m.root n.slot q }) (root_again (Some n.tag)))
+        (bind_root_whole p m0 used m vs id v st h r.whole at i.server n i.task_is) b
+
+    pub keeps_flush_bound : IsWithin p (Root n.slot) → IsAt v (Rooted n) → (b : Bool) → After (FlushBoundRoot n) b
+    keeps_flush_bound hw i b =
+        lifted (FlushBoundRoot n) tt hw (root_code (Some n.tag)) refl (ap root_code (root_again (Some n.tag))) (at_task v (Waiting n)) refl (same_run (at_task v (Waiting n)) refl refl refl refl refl) refl (record m { froot = upd m.froot n.slot (Some n.tag) })
+        (write_froot p ws (root_code (Some n.tag)) n.slot hw (room_for (FlushBoundRoot n) hw tt) ∙ ap (λ (q : Option ℕ). record m { froot = upd m.froot n.slot q }) (root_again (Some n.tag)))
+        (bind_flushed_whole p m0 used m vs id v st h r.whole at i.server n i.task_is) b
+
+    -- the count that a binding's last store leaves
+    counted_now : (x : ℕ) → IsAt v (Waiting n) → x ≡ length v.server.directory → x ≡ suc m.count
+    counted_now x i e =
+        let sv : Serves p m st (Waiting n) v.server = serves_of (Waiting n) i in
+        e ∙ ap (λ (xs : List (ℕ × List ℕ)). length xs) sv.directory ∙ (let z : length (st.bindings ++ (n.slot, n.key) ∷ []) ≡ suc (length st.bindings) = omega (arith, length-append st.bindings ((n.slot, n.key) ∷ [])) in z) ∙ ap suc (sym r.whole.help.naming.counted)
+
+    count_words : (x : ℕ) → mem_of p (words_with (StoreCount n x) x) ≡ record m { count = x }
+    count_words x = write_count p ws x (room_for (StoreCount n x) tt tt)
+
+    pub keeps_store_count : (x : ℕ) → IsAt v (Waiting n) → x ≡ length v.server.directory → (b : Bool) → After (StoreCount n x) b
+    keeps_store_count x i e b =
+        lifted (StoreCount n x) tt tt x refl tt (entered v n) refl (same_run (entered v n) refl refl refl refl refl) refl (record m { count = suc m.count })
+        (count_words x ∙ ap (λ (z : ℕ). record m { count = z }) (counted_now x i e))
+        (store_count_whole p m0 used m vs id v st h r.whole at i.server n i.task_is) b
+
+    pub count_says : (x : ℕ) → IsAt v (Waiting n) → IsDurableBinding (mem_of p (words_after_step p (StoreCount n x) ws)) n
+    count_says x i =
+        let g = stage_of (Waiting n) i in
+        subst (λ (z : Mem). IsDurableBinding z n) (sym (count_words x)) (record { key = r.whole.help.keyed.flushed n.slot n.key g.here.0.key; root = g.here.1; tombstone = tomb g.here.0 })
+      where
+        tomb : IsWaiting m st n → m.fbody (home n.tag) 0 ≡ tombstone
+        tomb a = go (nth (st.log n.slot) 0) refl a.tag
+          where
+            go : (o : Option Version) → nth (st.log n.slot) 0 ≡ o → tag_in_version o ≡ Some n.tag → m.fbody (home n.tag) 0 ≡ tombstone
+            go None x y = absurd (let z : ◌≡◌ {A = Option ℕ} None (Some n.tag) = y in cc)
+            go (Some w) x y =
+                let is : w.tag ≡ n.tag = (let z : Some w.tag ≡ Some n.tag = y in cc) in
+                let dead : w.value ≡ None = r.whole.help.naming.waiting n.slot n.key a.key a.unnamed 0 w x in
+                ap (λ (z : ℕ). m.fbody (home z) 0) (sym is) ∙ (r.whole.basis.bodies n.slot 0 w x (omega (arith, a.gone)) 0 tombstone (ap (λ (z : Option Value). nth (content z) 0) dead ∙ first_word)).1

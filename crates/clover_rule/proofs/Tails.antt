@@ -19,8 +19,9 @@ use Rattle.clover_rule.specs.Lists.{nth, Within}
 use Rattle.clover_rule.specs.Meets.{Meets}
 use Rattle.clover_rule.specs.Memory.{Mem, word, gen}
 use Rattle.clover_rule.specs.Parts.{Walk}
-use Rattle.clover_rule.specs.Steps.{Step, Asks, LoadNext, DecideNext, RaiseNext, LinkNext, StoreContent, FlushContent, LoadContent, ReadRoot, ReadShort, StoreShort, ReadCount, AbsentCount, found, Served}
-use Rattle.clover_rule.proofs.ServerKeeps.{serve_says}
+use Rattle.clover_rule.specs.Asks.{Asks}
+use Rattle.clover_rule.specs.Learned.{found}
+use Rattle.clover_rule.specs.Steps.{Step, LoadNext, DecideNext, RaiseNext, LinkNext, StoreContent, FlushContent, LoadContent, ReadRoot, ReadShort, StoreShort, ReadCount, AbsentCount, ReadVersion, FlushLink, StoreRoot, FlushRoot, PassRoot, FreeRoot, StoreTombstone, FlushTombstone, StoreKey, FlushKey, BindRoot, FlushBoundRoot, StoreCount, Restart}
 use Rattle.clover_rule.specs.Story.{Story, tag_at, tag_in_version}
 use Rattle.clover_rule.specs.Told.{IsMetaWord, AreOneVersion, Says}
 use Rattle.clover_rule.specs.Views.{IsCopied}
@@ -29,6 +30,7 @@ use Rattle.clover_rule.specs.declared.view.View.{View}
 use Rattle.clover_rule.proofs.Decide.{tail_durable, slot_bound, last, version, copied_word}
 use Rattle.clover_rule.proofs.Derived.{chains}
 use Rattle.clover_rule.proofs.Keeping.{inside_of, read_next, read_root}
+use Rattle.clover_rule.proofs.ServerKeeps.{version_says, pass_says, free_says, count_says}
 use Rattle.clover_rule.proofs.Standings.{tag_past}
 use Rattle.clover_rule.proofs.Steps.{each_within, within_prefix}
 use Rattle.clover_rule.proofs.Ties.{next_again}
@@ -115,4 +117,17 @@ module _ (p : Pool) (first : Tagged) (used : List ℕ) (ws : List ℕ) (vs : Lis
   says (StoreShort s t) asks = tt
   says ReadCount asks = tt
   says (AbsentCount c) asks = tt
-  says (Served a) (hw, (ro, may)) = serve_says p first used ws vs st h r id v at ro a (hw, ro, may)
+  says (ReadVersion s q) (hw, (i, e)) = version_says p first used ws vs st h r id v at s q hw i e
+  says (FlushLink c) asks = tt
+  says (StoreRoot c) asks = tt
+  says (FlushRoot c) asks = tt
+  says (PassRoot c) (hw, i) = pass_says p first used ws vs st h r id v at c hw i
+  says (FreeRoot c) (hw, i) = free_says p first used ws vs st h r id v at c hw i
+  says (StoreTombstone b) asks = tt
+  says (FlushTombstone b) asks = tt
+  says (StoreKey b j x) asks = tt
+  says (FlushKey b j x) asks = tt
+  says (BindRoot b) asks = tt
+  says (FlushBoundRoot b) asks = tt
+  says (StoreCount b n) (hw, (i, e)) = count_says p first used ws vs st h r id v at b n i
+  says (Restart x) asks = tt

@@ -20,13 +20,15 @@ use Rattle.clover_rule.specs.Meets.{Meets}
 use Rattle.clover_rule.specs.Memory.{Next, word, gen, link, order, Mem}
 use Rattle.clover_rule.specs.Parts.{Falls}
 use Rattle.clover_rule.specs.Rule.{held_by, BuffersInOnePlace, ChainsAndContents, Rule, LinksAndRootsFlushed, NextWordsRise, StocksAtRest, AtRest, DurableTagsKnown, TargetsStand, CopiesAreWhole, ShortcutsKnown, NamesAndCount, tail_pair, HistoryAndMap, ViewsAndHistory}
-use Rattle.clover_rule.specs.Server.{IsWaiting, waiting_name, moving, holding, AtStage, root_in, is_home, book_of}
+use Rattle.clover_rule.specs.Server.{IsWaiting, IsExchanged, waiting_name, moving, holding, AtStage, root_in, is_home, book_of}
 use Rattle.clover_rule.specs.Story.{Waits, Loose, tag_in_version, only, Place, Chained, Stocked, Free, Worn, Taken, Story, tag_at, Core}
 use Rattle.clover_rule.specs.Views.{Owned, book, Spent, Past, IsLink, Holds}
 use Rattle.clover_rule.specs.Words.{mem_of}
 use Rattle.clover_rule.specs.declared.view.BufferState.TheVariants.{Free as IsFree, Worn as IsWorn, Bound as IsBound, Out as IsOut}
 use Rattle.clover_rule.specs.declared.view.Link.{Link}
 use Rattle.clover_rule.specs.declared.view.Shown.{Shown}
+use Rattle.clover_rule.specs.declared.view.NewBinding.{NewBinding}
+use Rattle.clover_rule.specs.declared.view.Recycling.{Recycling}
 use Rattle.clover_rule.specs.declared.view.Task.{Task}
 use Rattle.clover_rule.specs.declared.view.Task.TheVariants.{Idle, Storing, Rooted, Waiting, Loaded, Raised, Led, Both, Exchanged}
 use Rattle.clover_rule.specs.declared.view.View.{View}
@@ -37,7 +39,7 @@ use Rattle.clover_rule.proofs.Histories.{leads_commits, ends_more}
 use Rattle.clover_rule.proofs.Snocs.{within_nth, within_commits, within_back}
 use Rattle.clover_rule.proofs.TaggedMaps.{legal_history}
 use Rattle.clover_rule.proofs.Keys.{key_discrete}
-use Rattle.clover_rule.proofs.ServerTools.{free_place}
+use Rattle.clover_rule.proofs.ServerTools.{held_out, free_place}
 use Rattle.clover_rule.proofs.Derived.{chain_of, recycled_of, drop_within, on_chain, is_held, known, target, flushed_links, chains, current_past, past_there, values, values_fall, tag_of, linked_to, chosen_of}
 
 abbrev pub value_in : Option Version → Option Value
@@ -156,15 +158,7 @@ module _ (p : Pool) (first : Tagged) (used : List ℕ) (ws : List ℕ) (vs : Lis
   worn_place T (Stocked i) g b a e = absurd cc
   worn_place T Free g b a e = absurd cc
   worn_place T Worn g b a e = refl
-  worn_place (Exchanged s y t) Taken g b a e = absurd cc
-  worn_place Idle Taken g b a e = absurd cc
-  worn_place (Storing s k t n) Taken g b a e = absurd cc
-  worn_place (Rooted s k t) Taken g b a e = absurd cc
-  worn_place (Waiting s k t) Taken g b a e = absurd cc
-  worn_place (Loaded s k t) Taken g b a e = absurd cc
-  worn_place (Raised s k t) Taken g b a e = absurd cc
-  worn_place (Led s k t) Taken g b a e = absurd cc
-  worn_place (Both s k t) Taken g b a e = absurd cc
+  worn_place T Taken g b a e = absurd (held_out T g a IsWorn e (λ z. absurd cc) (λ z. absurd cc))
 
   led_place : (s y t b : ℕ) → tag_at st s (st.gone s) ≡ Some y → st.lead s ≡ suc (st.gone s) → home y ≡ b → place_at b ≡ Taken
   unfolding moved
@@ -174,15 +168,15 @@ module _ (p : Pool) (first : Tagged) (used : List ℕ) (ws : List ℕ) (vs : Lis
 
   taken_here : (T : Task) → AtStage p m st T → (b : ℕ) → held_by T ≡ Some b → place_at b ≡ Taken
   unfolding moved
-  taken_here (Storing s k t n) a b e = let q = same_Some (home t) b e in ap (λ (z : Place). moved z b) (ap st.place (sym q) ∙ a.place)
-  taken_here (Led s y t) a b e = led_place s y t b a.0.root a.2 (same_Some (home y) b e)
-  taken_here (Both s y t) a b e = led_place s y t b a.0.root a.2 (same_Some (home y) b e)
-  taken_here (Exchanged s y t) a b e = let q = same_Some (home y) b e in ap (λ (z : Place). moved z b) (ap st.place (sym q) ∙ a.place)
+  taken_here (Storing bind n) a b e = let q = same_Some (home bind.tag) b e in ap (λ (z : Place). moved z b) (ap st.place (sym q) ∙ a.place)
+  taken_here (Led cycle) a b e = led_place cycle.slot cycle.root cycle.next b a.0.root a.2 (same_Some (home cycle.root) b e)
+  taken_here (Both cycle) a b e = led_place cycle.slot cycle.root cycle.next b a.0.root a.2 (same_Some (home cycle.root) b e)
+  taken_here (Exchanged cycle) a b e = let q = same_Some (home cycle.root) b e in ap (λ (z : Place). moved z b) (ap st.place (sym q) ∙ a.place)
   taken_here Idle a b e = absurd cc
-  taken_here (Rooted s k t) a b e = absurd cc
-  taken_here (Waiting s k t) a b e = absurd cc
-  taken_here (Loaded s k t) a b e = absurd cc
-  taken_here (Raised s k t) a b e = absurd cc
+  taken_here (Rooted bind) a b e = absurd cc
+  taken_here (Waiting bind) a b e = absurd cc
+  taken_here (Loaded cycle) a b e = absurd cc
+  taken_here (Raised cycle) a b e = absurd cc
 
   -- and back: what a place says is so
   unmoved : (q : Place) (b : ℕ) (x : Place) → moved q b ≡ x → ((s : ℕ) → x ≢ Chained s) → x ≢ Taken → q ≡ x
@@ -204,15 +198,15 @@ module _ (p : Pool) (first : Tagged) (used : List ℕ) (ws : List ℕ) (vs : Lis
   worn_now T g b = refl
 
   held_same : (T : Task) (b : ℕ) → holding T ≡ Some b → held_by T ≡ Some b
-  held_same (Storing s k t n) b e = e
-  held_same (Exchanged s y t) b e = e
+  held_same (Storing bind n) b e = e
+  held_same (Exchanged cycle) b e = e
   held_same Idle b e = absurd cc
-  held_same (Rooted s k t) b e = absurd cc
-  held_same (Waiting s k t) b e = absurd cc
-  held_same (Loaded s y t) b e = absurd cc
-  held_same (Raised s y t) b e = absurd cc
-  held_same (Led s y t) b e = absurd cc
-  held_same (Both s y t) b e = absurd cc
+  held_same (Rooted bind) b e = absurd cc
+  held_same (Waiting bind) b e = absurd cc
+  held_same (Loaded cycle) b e = absurd cc
+  held_same (Raised cycle) b e = absurd cc
+  held_same (Led cycle) b e = absurd cc
+  held_same (Both cycle) b e = absurd cc
 
   -- the slot whose root is on its way is the task's
   not_settled : (s : ℕ) → st.lead s ≡ suc (st.gone s) → (moving st.task ≢ Some s) → ⊥
@@ -226,15 +220,15 @@ module _ (p : Pool) (first : Tagged) (used : List ℕ) (ws : List ℕ) (vs : Lis
       go (no n) = absurd (not_settled s (recycled_at s y f).0 (λ z. n (let x : Some s1 ≡ Some s = sym q ∙ z in cc)))
 
   leaving_task : (T : Task) → st.task ≡ T → AtStage p m st T → (s y : ℕ) → recycled_of st s ≡ Some y → held_by T ≡ Some (home y)
-  leaving_task (Led s1 y1 t) e a s y f = moved_same s1 y1 s y a.0.root f (ap moving e)
-  leaving_task (Both s1 y1 t) e a s y f = moved_same s1 y1 s y a.0.root f (ap moving e)
+  leaving_task (Led cycle) e a s y f = moved_same cycle.slot cycle.root s y a.0.root f (ap moving e)
+  leaving_task (Both cycle) e a s y f = moved_same cycle.slot cycle.root s y a.0.root f (ap moving e)
   leaving_task Idle e a s y f = absurd (not_settled s (recycled_at s y f).0 (λ q. let z : ◌≡◌ {A = Option ℕ} None (Some s) = sym (ap moving e) ∙ q in cc))
-  leaving_task (Storing s1 k t n) e a s y f = absurd (not_settled s (recycled_at s y f).0 (λ q. let z : ◌≡◌ {A = Option ℕ} None (Some s) = sym (ap moving e) ∙ q in cc))
-  leaving_task (Rooted s1 k t) e a s y f = absurd (not_settled s (recycled_at s y f).0 (λ q. let z : ◌≡◌ {A = Option ℕ} None (Some s) = sym (ap moving e) ∙ q in cc))
-  leaving_task (Waiting s1 k t) e a s y f = absurd (not_settled s (recycled_at s y f).0 (λ q. let z : ◌≡◌ {A = Option ℕ} None (Some s) = sym (ap moving e) ∙ q in cc))
-  leaving_task (Loaded s1 y1 t) e a s y f = absurd (not_settled s (recycled_at s y f).0 (λ q. let z : ◌≡◌ {A = Option ℕ} None (Some s) = sym (ap moving e) ∙ q in cc))
-  leaving_task (Raised s1 y1 t) e a s y f = absurd (not_settled s (recycled_at s y f).0 (λ q. let z : ◌≡◌ {A = Option ℕ} None (Some s) = sym (ap moving e) ∙ q in cc))
-  leaving_task (Exchanged s1 y1 t) e a s y f = absurd (not_settled s (recycled_at s y f).0 (λ q. let z : ◌≡◌ {A = Option ℕ} None (Some s) = sym (ap moving e) ∙ q in cc))
+  leaving_task (Storing bind n) e a s y f = absurd (not_settled s (recycled_at s y f).0 (λ q. let z : ◌≡◌ {A = Option ℕ} None (Some s) = sym (ap moving e) ∙ q in cc))
+  leaving_task (Rooted bind) e a s y f = absurd (not_settled s (recycled_at s y f).0 (λ q. let z : ◌≡◌ {A = Option ℕ} None (Some s) = sym (ap moving e) ∙ q in cc))
+  leaving_task (Waiting bind) e a s y f = absurd (not_settled s (recycled_at s y f).0 (λ q. let z : ◌≡◌ {A = Option ℕ} None (Some s) = sym (ap moving e) ∙ q in cc))
+  leaving_task (Loaded cycle) e a s y f = absurd (not_settled s (recycled_at s y f).0 (λ q. let z : ◌≡◌ {A = Option ℕ} None (Some s) = sym (ap moving e) ∙ q in cc))
+  leaving_task (Raised cycle) e a s y f = absurd (not_settled s (recycled_at s y f).0 (λ q. let z : ◌≡◌ {A = Option ℕ} None (Some s) = sym (ap moving e) ∙ q in cc))
+  leaving_task (Exchanged cycle) e a s y f = absurd (not_settled s (recycled_at s y f).0 (λ q. let z : ◌≡◌ {A = Option ℕ} None (Some s) = sym (ap moving e) ∙ q in cc))
 
   taken_back : (b : ℕ) → place_at b ≡ Taken → held_by st.task ≡ Some b
   unfolding moved
@@ -350,18 +344,18 @@ module _ (p : Pool) (first : Tagged) (used : List ℕ) (ws : List ℕ) (vs : Lis
       bare e f = ap link e ∙ f
 
       held_here : (T : Task) → AtStage p m st T → holding T ≡ Some b → (link (m.fnext b) ≡ None) ⊎ ((l : Link) × IsLink st l × (home l.from ≡ b) × (age l.from ≡ gen (m.fnext b)) × (link (m.fnext b) ≡ Some l.to))
-      held_here (Storing s k t n) a e = let q = same_Some (home t) b e in inl (ap (λ (z : ℕ). link (m.fnext z)) (sym q) ∙ ap link a.safe)
-      held_here (Exchanged s y t) a e = exchanged_link s y t a (same_Some (home y) b e)
+      held_here (Storing bind n) a e = let q = same_Some (home bind.tag) b e in inl (ap (λ (z : ℕ). link (m.fnext z)) (sym q) ∙ ap link a.safe)
+      held_here (Exchanged cycle) a e = exchanged_link cycle a (same_Some (home cycle.root) b e)
         where
-          exchanged_link : (s y t : ℕ) → AtStage p m st (Exchanged s y t) → home y ≡ b → (link (m.fnext b) ≡ None) ⊎ ((l : Link) × IsLink st l × (home l.from ≡ b) × (age l.from ≡ gen (m.fnext b)) × (link (m.fnext b) ≡ Some l.to))
-          exchanged_link s y t a q = inr (record { slot = s; from = y; to = t }, (a.old.0, a.old.2, ap (tag_at st s) a.old.1 ∙ a.root), q, sym (ap (λ (z : ℕ). gen (m.fnext z)) (sym q) ∙ ap gen a.safe), ap (λ (z : ℕ). link (m.fnext z)) (sym q) ∙ ap link a.safe)
+          exchanged_link : (c1 : Recycling) → IsExchanged p m st c1 → home c1.root ≡ b → (link (m.fnext b) ≡ None) ⊎ ((l : Link) × IsLink st l × (home l.from ≡ b) × (age l.from ≡ gen (m.fnext b)) × (link (m.fnext b) ≡ Some l.to))
+          exchanged_link c1 a q = inr (record { slot = c1.slot; from = c1.root; to = c1.next }, (a.old.0, a.old.2, ap (tag_at st c1.slot) a.old.1 ∙ a.root), q, sym (ap (λ (z : ℕ). gen (m.fnext z)) (sym q) ∙ ap gen a.safe), ap (λ (z : ℕ). link (m.fnext z)) (sym q) ∙ ap link a.safe)
       held_here Idle a e = absurd cc
-      held_here (Rooted s k t) a e = absurd cc
-      held_here (Waiting s k t) a e = absurd cc
-      held_here (Loaded s k t) a e = absurd cc
-      held_here (Raised s k t) a e = absurd cc
-      held_here (Led s k t) a e = absurd cc
-      held_here (Both s k t) a e = absurd cc
+      held_here (Rooted bind) a e = absurd cc
+      held_here (Waiting bind) a e = absurd cc
+      held_here (Loaded cycle) a e = absurd cc
+      held_here (Raised cycle) a e = absurd cc
+      held_here (Led cycle) a e = absurd cc
+      held_here (Both cycle) a e = absurd cc
 
       by_place : (q : Place) → st.place b ≡ q → (link (m.fnext b) ≡ None) ⊎ ((l : Link) × IsLink st l × (home l.from ≡ b) × (age l.from ≡ gen (m.fnext b)) × (link (m.fnext b) ≡ Some l.to))
       by_place (Chained s) e = let x = c.chained b s e in at s x.0 x.1 x.2 x.3 x.4 (ltb (suc x.0) (st.sure s)) (ap m.fnext (sym x.4) ∙ (c.standing s x.0 x.1 x.2 x.3).safe) (tag_at st s (suc x.0)) refl
@@ -437,8 +431,11 @@ module _ (p : Pool) (first : Tagged) (used : List ℕ) (ws : List ℕ) (vs : Lis
   part_9 : ShortcutsKnown m (chain_of st) (recycled_of st)
   part_9 s t e = known m st c s t (r.whole.help.short s t e)
 
-  binding_waits : (s : ℕ) (k : List ℕ) (t : ℕ) → IsWaiting m st s k t → (moving st.task ≢ Some s) → Each (λ (q : ℕ × List ℕ). (Within q st.bindings → ⊥) × ((u : ℕ) × (chain_of st q.0 ≡ u ∷ []) × (value_by st u ≡ None))) ((s, k) ∷ [])
-  binding_waits s k t a n =
+  binding_waits : (bind : NewBinding) → IsWaiting m st bind → (moving st.task ≢ Some bind.slot) → Each (λ (q : ℕ × List ℕ). (Within q st.bindings → ⊥) × ((u : ℕ) × (chain_of st q.0 ≡ u ∷ []) × (value_by st u ≡ None))) ((bind.slot, bind.key) ∷ [])
+  binding_waits bind a n =
+      let s : ℕ = bind.slot in
+      let k : List ℕ = bind.key in
+      let t : ℕ = bind.tag in
       let z = r.whole.help.stage.settled s n in
       let lead : st.lead s ≡ 0 = z.0 ∙ a.gone in
       let w = tag_there st s 0 t a.tag in (
@@ -454,15 +451,15 @@ module _ (p : Pool) (first : Tagged) (used : List ℕ) (ws : List ℕ) (vs : Lis
       )
 
   waiting_here : (T : Task) → st.task ≡ T → AtStage p m st T → Each (λ (q : ℕ × List ℕ). (Within q st.bindings → ⊥) × ((u : ℕ) × (chain_of st q.0 ≡ u ∷ []) × (value_by st u ≡ None))) (waiting_name T)
-  waiting_here (Rooted s k t) e a = binding_waits s k t a.0 (λ q. absurd (let z : ◌≡◌ {A = Option ℕ} None (Some s) = ap moving (sym e) ∙ q in cc))
-  waiting_here (Waiting s k t) e a = binding_waits s k t a.0 (λ q. absurd (let z : ◌≡◌ {A = Option ℕ} None (Some s) = ap moving (sym e) ∙ q in cc))
+  waiting_here (Rooted bind) e a = binding_waits bind a.0 (λ q. absurd (let z : ◌≡◌ {A = Option ℕ} None (Some bind.slot) = ap moving (sym e) ∙ q in cc))
+  waiting_here (Waiting bind) e a = binding_waits bind a.0 (λ q. absurd (let z : ◌≡◌ {A = Option ℕ} None (Some bind.slot) = ap moving (sym e) ∙ q in cc))
   waiting_here Idle e a = tt
-  waiting_here (Storing s k t n) e a = tt
-  waiting_here (Loaded s y t) e a = tt
-  waiting_here (Raised s y t) e a = tt
-  waiting_here (Led s y t) e a = tt
-  waiting_here (Both s y t) e a = tt
-  waiting_here (Exchanged s y t) e a = tt
+  waiting_here (Storing bind n) e a = tt
+  waiting_here (Loaded cycle) e a = tt
+  waiting_here (Raised cycle) e a = tt
+  waiting_here (Led cycle) e a = tt
+  waiting_here (Both cycle) e a = tt
+  waiting_here (Exchanged cycle) e a = tt
 
   part_10 : NamesAndCount m vs (chain_of st) (value_by st) st.bindings
   part_10 = record {

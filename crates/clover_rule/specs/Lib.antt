@@ -7,11 +7,10 @@ pub mod Story
 pub mod Changes
 pub mod Views
 pub mod Server
-pub mod ServerSteps
 pub mod Knowing
-pub mod Serving
-pub mod Due
 pub mod Steps
+pub mod Asks
+pub mod Learned
 pub mod Meets
 pub mod Parts
 pub mod Rule

@@ -61,3 +61,4 @@ pub record Starts (m : Mem) (bindings : List (ℕ × List ℕ)) (owner : ℕ →
   pub added : v.pass.added ≡ []
   pub calls : v.pass.calls ≡ []
   pub history : v.pass.history ≡ []
+  pub plan : v.plan ≡ []

@@ -32,10 +32,10 @@ IsServer vs v = (i : ℕ) × (nth vs i ≡ Some v) × (v.pass.role ≡ Serving)
 
 -- the buffer that the unfinished task holds: a binding's until its root is stored, a recycled version's from the store of the root on
 abbrev pub held_by : Task → Option ℕ
-held_by (Storing s k t n) = Some (home t)
-held_by (Led s r t) = Some (home r)
-held_by (Both s r t) = Some (home r)
-held_by (Exchanged s r t) = Some (home r)
+held_by (Storing b n) = Some (home b.tag)
+held_by (Led c) = Some (home c.root)
+held_by (Both c) = Some (home c.root)
+held_by (Exchanged c) = Some (home c.root)
 held_by _ = None
 
 -- Part 1. Each buffer is in one place: on the chain of one slot, in one stock, free, worn, or held by the unfinished task.

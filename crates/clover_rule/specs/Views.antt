@@ -181,7 +181,7 @@ abbrev pub empty_pass : Pass → Role → Pass
 empty_pass v ro = start_pass v.pool v.map v.used ro
 
 abbrev pub alone : Pass → View
-alone v = record { pass = v; server = no_server }
+alone v = record { pass = v; server = no_server; plan = [] }
 
 abbrev pub split_views : List View → ℕ → View → View → List View
 split_views vs id left right = set vs id left ++ right ∷ []

@@ -1,7 +1,7 @@
-// The laws, each a contract of a function without a body.
+// The laws, each a contract of a function with an empty body.
 ghost use Rattle.clover_rule.specs.Cut.{CutLaw};
 ghost use Rattle.clover_rule.specs.Preset.{PresetLaw};
-ghost use Rattle.clover_rule.specs.Laws.{PartsLaw, LongestLaw, StepLaw, ToldLaw, TableStepLaw, ServerStepLaw, AccessLaw};
+ghost use Rattle.clover_rule.specs.Laws.{PartsLaw, LongestLaw, StepLaw, ToldLaw, TableStepLaw, AccessLaw};
 
 /// The twelve parts of the rule follow from the helping facts.
 pub fn parts_law()
@@ -18,7 +18,7 @@ pub fn longest_law()
     ensures { LongestLaw }
 {}
 
-/// Each step that a client may make keeps the rule.
+/// Each step that its actor may make keeps the rule.
 pub fn step_law()
     ensures { StepLaw }
 {}
@@ -31,11 +31,6 @@ pub fn told_law()
 /// Each step is one that a table whose rule is this one allows.
 pub fn table_step_law()
     ensures { TableStepLaw }
-{}
-
-/// Each step of the server keeps the helping facts over the decoded words.
-pub fn server_step_law()
-    ensures { ServerStepLaw }
 {}
 
 /// The access of a step comes back with what the words give.
