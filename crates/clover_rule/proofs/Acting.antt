@@ -14,10 +14,10 @@ use Rattle.clover_map.specs.declared.call.Reply.TheVariants.{Absent}
 use Rattle.clover_rule.specs.Accesses.{CameBack, words_after_act}
 use Rattle.clover_rule.specs.Knowing.{link_entry, link_view}
 use Rattle.clover_rule.specs.Laws.{AccessLaw}
-use Rattle.clover_rule.specs.Learned.{seen, started, decided, missed, counts, rest_of, looked, found, words_after_step, next_view, next_history}
+use Rattle.clover_rule.specs.Learned.{seen, started, decided, missed, counts, rest_of, looked, learned, found, words_after_step, next_view, next_history}
 use Rattle.clover_rule.specs.Lists.{IsPrefix}
 use Rattle.clover_rule.specs.Memory.{Next, word}
-use Rattle.clover_rule.specs.Steps.{Operation, loads, stores, exchanges, raises, side_in, result, act_on, Step, LoadNext, DecideNext, RaiseNext, LinkNext, StoreContent, FlushContent, LoadContent, ReadRoot, ReadShort, StoreShort, ReadCount, AbsentCount, ReadVersion, FlushLink, StoreRoot, FlushRoot, PassRoot, FreeRoot, StoreTombstone, FlushTombstone, StoreKey, FlushKey, BindRoot, FlushBoundRoot, StoreCount, Restart, operation_of, word_of, side_of, act_of, client, reply_of, restart_word, restart_operation}
+use Rattle.clover_rule.specs.Steps.{Operation, loads, stores, exchanges, raises, side_in, result, act_on, Step, LoadNext, DecideNext, LinkNext, StoreContent, FlushContent, LoadContent, ReadRoot, ReadShort, AbsentCount, ReadVersion, Restart, operation_of, word_of, side_of, act_of, client, reply_of, restart_word, restart_operation}
 use Rattle.clover_rule.specs.Words.{next_of, root_of}
 use Rattle.clover_rule.specs.declared.access.Act.{Act}
 use Rattle.clover_rule.specs.declared.access.Act.TheVariants.{Load, Store, Exchange, Raise}
@@ -68,77 +68,51 @@ restart_side (SetCount n) = tt
 
 -- the word of a step has the copy that the step is on
 pub step_side : (a : Step) → HasSide (word_of a) (side_of a)
-step_side (LoadNext s t) = tt
-step_side (DecideNext s t c r) = tt
-step_side (RaiseNext l) = tt
-step_side (LinkNext s u t c) = tt
 step_side (StoreContent t j x) = content_side (home t) j Current
 step_side (FlushContent t j x) = content_side (home t) j Flushed
 step_side (LoadContent s t j) = content_side (home t) j Current
-step_side (ReadRoot s) = tt
-step_side (ReadShort s) = tt
-step_side (StoreShort s t) = tt
-step_side ReadCount = tt
-step_side (AbsentCount c) = tt
-step_side (ReadVersion s r) = tt
-step_side (FlushLink c) = tt
-step_side (StoreRoot c) = tt
-step_side (FlushRoot c) = tt
-step_side (PassRoot c) = tt
-step_side (FreeRoot c) = tt
-step_side (StoreTombstone b) = tt
-step_side (FlushTombstone b) = tt
-step_side (StoreKey b j x) = tt
-step_side (FlushKey b j x) = tt
-step_side (BindRoot b) = tt
-step_side (FlushBoundRoot b) = tt
-step_side (StoreCount b n) = tt
 step_side (Restart x) = restart_side x
+step_side a = tt
 
-cond_role : (b : Bool) (u w v : View) → u.pass.role ≡ v.pass.role → w.pass.role ≡ v.pass.role → (cond b u w).pass.role ≡ v.pass.role
-cond_role true u w v e f = e
-cond_role false u w v e f = f
+-- what no step changes of its actor's view, the accesses and the turns before they are counted
+pub record Stays (v w : View) : Type 0 where
+  pub pool : w.pass.pool ≡ v.pass.pool
+  pub map : w.pass.map ≡ v.pass.map
+  pub used : w.pass.used ≡ v.pass.used
+  pub role : w.pass.role ≡ v.pass.role
+  pub names : w.pass.names ≡ v.pass.names
+  pub since : w.pass.since ≡ v.pass.since
+  pub turns : w.pass.turns ≡ v.pass.turns
 
-seen_role : (s t : ℕ) (n : Next) (v : View) → (seen s t v n).pass.role ≡ v.pass.role
-seen_role s t (word a None) v = refl
-seen_role s t (word a (Some u)) v = refl
+stays_either : (b : Bool) (v w w1 : View) → Stays v w → Stays v w1 → Stays v (cond b w w1)
+stays_either true v w w1 h h1 = h
+stays_either false v w w1 h h1 = h1
 
-started_role : (s : ℕ) (o : Option ℕ) (v : View) → (started s v o).pass.role ≡ v.pass.role
-started_role s None v = refl
-started_role s (Some t) v = refl
+seen_stays : (s t : ℕ) (v : View) (n : Next) → Stays v (seen s t v n)
+seen_stays s t v (word a None) = record { pool = refl; map = refl; used = refl; role = refl; names = refl; since = refl; turns = refl }
+seen_stays s t v (word a (Some u)) = record { pool = refl; map = refl; used = refl; role = refl; names = refl; since = refl; turns = refl }
 
-looked_role : (s r : ℕ) (n : Next) (v : View) → (looked s r v n).pass.role ≡ v.pass.role
-looked_role s r (word a None) v = refl
-looked_role s r (word a (Some t)) v = refl
+looked_stays : (s r : ℕ) (v : View) (n : Next) → Stays v (looked s r v n)
+looked_stays s r v (word a None) = record { pool = refl; map = refl; used = refl; role = refl; names = refl; since = refl; turns = refl }
+looked_stays s r v (word a (Some t)) = record { pool = refl; map = refl; used = refl; role = refl; names = refl; since = refl; turns = refl }
+
+started_stays : (s : ℕ) (v : View) (o : Option ℕ) → Stays v (started s v o)
+started_stays s v None = record { pool = refl; map = refl; used = refl; role = refl; names = refl; since = refl; turns = refl }
+started_stays s v (Some t) = record { pool = refl; map = refl; used = refl; role = refl; names = refl; since = refl; turns = refl }
+
+pub learned_stays : (a : Step) (h : List Entry) (v : View) (x : ℕ) → Stays v (learned a h v x)
+learned_stays (LoadNext s t) h v x = seen_stays s t v (next_of x)
+learned_stays (DecideNext s t c r) h v x = stays_either (x == unlinked t) v (decided v h t c r) (seen s t v (next_of x)) (record { pool = refl; map = refl; used = refl; role = refl; names = refl; since = refl; turns = refl }) (seen_stays s t v (next_of x))
+learned_stays (LinkNext s u t c) h v x = stays_either (x == unlinked u) v (link_view v h (client v) s u t c (reply_of t c) (rest_of v.pass.stock)) (seen s u v (next_of x)) (record { pool = refl; map = refl; used = refl; role = refl; names = refl; since = refl; turns = refl }) (seen_stays s u v (next_of x))
+learned_stays (ReadRoot s) h v x = started_stays s v (root_of x)
+learned_stays (ReadShort s) h v x = started_stays s v (root_of x)
+learned_stays (AbsentCount c) h v x = stays_either (x == length v.pass.names) v (missed v h c x) (counts v x) (record { pool = refl; map = refl; used = refl; role = refl; names = refl; since = refl; turns = refl }) (record { pool = refl; map = refl; used = refl; role = refl; names = refl; since = refl; turns = refl })
+learned_stays (ReadVersion s r) h v x = looked_stays s r v (next_of x)
+learned_stays a h v x = record { pool = refl; map = refl; used = refl; role = refl; names = refl; since = refl; turns = refl }
 
 -- an actor stays what it is
 pub role_kept : (a : Step) (b : Bool) (h : List Entry) (v : View) (x : ℕ) → (next_view b a h v x).pass.role ≡ v.pass.role
-role_kept (LoadNext s t) b h v x = seen_role s t (next_of x) v
-role_kept (DecideNext s t c r) b h v x = cond_role (x == unlinked t) (decided v h t c r) (seen s t v (next_of x)) v refl (seen_role s t (next_of x) v)
-role_kept (RaiseNext l) b h v x = refl
-role_kept (LinkNext s u t c) b h v x = cond_role (x == unlinked u) (link_view v h (client v) s u t c (reply_of t c) (rest_of v.pass.stock)) (seen s u v (next_of x)) v refl (seen_role s u (next_of x) v)
-role_kept (StoreContent t j y) b h v x = refl
-role_kept (FlushContent t j y) b h v x = refl
-role_kept (LoadContent s t j) b h v x = refl
-role_kept (ReadRoot s) b h v x = started_role s (root_of x) v
-role_kept (ReadShort s) b h v x = started_role s (root_of x) v
-role_kept (StoreShort s t) b h v x = refl
-role_kept ReadCount b h v x = refl
-role_kept (AbsentCount c) b h v x = cond_role (x == length v.pass.names) (missed v h c x) (counts v x) v refl refl
-role_kept (ReadVersion s r) b h v x = looked_role s r (next_of x) v
-role_kept (FlushLink c) b h v x = refl
-role_kept (StoreRoot c) b h v x = refl
-role_kept (FlushRoot c) b h v x = refl
-role_kept (PassRoot c) b h v x = refl
-role_kept (FreeRoot c) b h v x = refl
-role_kept (StoreTombstone n) b h v x = refl
-role_kept (FlushTombstone n) b h v x = refl
-role_kept (StoreKey n j y) b h v x = refl
-role_kept (FlushKey n j y) b h v x = refl
-role_kept (BindRoot n) b h v x = refl
-role_kept (FlushBoundRoot n) b h v x = refl
-role_kept (StoreCount n y) b h v x = refl
-role_kept (Restart y) b h v x = refl
+role_kept a b h v x = (learned_stays a h v x).role
 
 cond_grows : (b : Bool) (h : List Entry) (e : Entry) → IsPrefix h (cond b (h ++ e ∷ []) h)
 cond_grows true h e = (e ∷ [], refl)
@@ -146,32 +120,10 @@ cond_grows false h e = prefix_self h
 
 -- the history only grows
 pub history_grows : (a : Step) (h : List Entry) (v : View) (x : ℕ) → IsPrefix h (next_history a h v x)
-history_grows (LoadNext s t) h v x = prefix_self h
 history_grows (DecideNext s t c r) h v x = cond_grows (x == unlinked t) h (link_entry v (client v) c r)
-history_grows (RaiseNext l) h v x = prefix_self h
 history_grows (LinkNext s u t c) h v x = cond_grows (x == unlinked u) h (link_entry v (client v) c (reply_of t c))
-history_grows (StoreContent t j y) h v x = prefix_self h
-history_grows (FlushContent t j y) h v x = prefix_self h
-history_grows (LoadContent s t j) h v x = prefix_self h
-history_grows (ReadRoot s) h v x = prefix_self h
-history_grows (ReadShort s) h v x = prefix_self h
-history_grows (StoreShort s t) h v x = prefix_self h
-history_grows ReadCount h v x = prefix_self h
 history_grows (AbsentCount c) h v x = cond_grows (x == length v.pass.names) h (link_entry v (client v) c Absent)
-history_grows (ReadVersion s r) h v x = prefix_self h
-history_grows (FlushLink c) h v x = prefix_self h
-history_grows (StoreRoot c) h v x = prefix_self h
-history_grows (FlushRoot c) h v x = prefix_self h
-history_grows (PassRoot c) h v x = prefix_self h
-history_grows (FreeRoot c) h v x = prefix_self h
-history_grows (StoreTombstone n) h v x = prefix_self h
-history_grows (FlushTombstone n) h v x = prefix_self h
-history_grows (StoreKey n j y) h v x = prefix_self h
-history_grows (FlushKey n j y) h v x = prefix_self h
-history_grows (BindRoot n) h v x = prefix_self h
-history_grows (FlushBoundRoot n) h v x = prefix_self h
-history_grows (StoreCount n y) h v x = prefix_self h
-history_grows (Restart y) h v x = prefix_self h
+history_grows a h v x = prefix_self h
 
 -- an access that is meant as a step: its word, what it finds, and the words after it
 module _ (p : Pool) (ws : List ℕ) (a : Step) (act : ℕ → Act) (is : (n : ℕ) → act_of a n ≡ act n) where

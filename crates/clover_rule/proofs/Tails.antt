@@ -21,7 +21,7 @@ use Rattle.clover_rule.specs.Memory.{Mem, word, gen}
 use Rattle.clover_rule.specs.Parts.{Walk}
 use Rattle.clover_rule.specs.Asks.{Asks}
 use Rattle.clover_rule.specs.Learned.{found}
-use Rattle.clover_rule.specs.Steps.{Step, LoadNext, DecideNext, RaiseNext, LinkNext, StoreContent, FlushContent, LoadContent, ReadRoot, ReadShort, StoreShort, ReadCount, AbsentCount, ReadVersion, FlushLink, StoreRoot, FlushRoot, PassRoot, FreeRoot, StoreTombstone, FlushTombstone, StoreKey, FlushKey, BindRoot, FlushBoundRoot, StoreCount, Restart}
+use Rattle.clover_rule.specs.Steps.{Step, LoadNext, DecideNext, LinkNext, ReadRoot, ReadVersion, PassRoot, FreeRoot, StoreCount}
 use Rattle.clover_rule.specs.Story.{Story, tag_at, tag_in_version}
 use Rattle.clover_rule.specs.Told.{IsMetaWord, AreOneVersion, Says}
 use Rattle.clover_rule.specs.Views.{IsCopied}
@@ -107,27 +107,10 @@ module _ (p : Pool) (first : Tagged) (used : List ℕ) (ws : List ℕ) (vs : Lis
   pub says : (a : Step) → Asks p a v → Says p ws a v (found p a ws)
   says (LoadNext s t) asks = λ e y q. meta_is s t y asks.0 e q
   says (DecideNext s t c y) asks = λ e. (tail_is s t (named c) asks.0 asks.1.tail asks.1.name e, one_version s t (named c) asks.0 asks.1.tail asks.1.name e)
-  says (RaiseNext l) asks = tt
   says (LinkNext s u t c) asks = λ e. tail_is s u (named c) asks.0 asks.1.tail asks.1.name e
-  says (StoreContent t j x) asks = tt
-  says (FlushContent t j x) asks = tt
-  says (LoadContent s t j) asks = tt
   says (ReadRoot s) asks = λ k name. let t = root_is s k name in (t.0, sym (read_root p ws s asks.0) ∙ t.1)
-  says (ReadShort s) asks = tt
-  says (StoreShort s t) asks = tt
-  says ReadCount asks = tt
-  says (AbsentCount c) asks = tt
   says (ReadVersion s q) (hw, (i, e)) = version_says p first used ws vs st h r id v at s q hw i e
-  says (FlushLink c) asks = tt
-  says (StoreRoot c) asks = tt
-  says (FlushRoot c) asks = tt
   says (PassRoot c) (hw, i) = pass_says p first used ws vs st h r id v at c hw i
   says (FreeRoot c) (hw, i) = free_says p first used ws vs st h r id v at c hw i
-  says (StoreTombstone b) asks = tt
-  says (FlushTombstone b) asks = tt
-  says (StoreKey b j x) asks = tt
-  says (FlushKey b j x) asks = tt
-  says (BindRoot b) asks = tt
-  says (FlushBoundRoot b) asks = tt
   says (StoreCount b n) (hw, (i, e)) = count_says p first used ws vs st h r id v at b n i
-  says (Restart x) asks = tt
+  says a asks = tt

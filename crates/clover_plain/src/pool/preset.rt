@@ -18,9 +18,7 @@ use crate::seats::{Knowing, begin, deal_view};
 use atomic_table::Seat;
 use clover_map::Key;
 use clover_rule::View;
-use clover_words::{
-    Meta, Setup, Tag, Word, pack, root_encode, tombstone as tombstone_buffer,
-};
+use clover_words::{Meta, Setup, Tag, Word, pack, root_encode, tombstone as tombstone_buffer};
 use std::marker::Brand;
 
 impl PlainPool {
