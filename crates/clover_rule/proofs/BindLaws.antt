@@ -184,6 +184,7 @@ module _ (l : Pool) (m0 : Map) (used : List ℕ) (m : Mem) (vs : List View) (id 
       found = λ s1 k1 q. ⊎_elim (λ d. rw (d.0, d.1) (at_key_same st.slot_named k s)) (λ d. at_key_else st.slot_named k k1 s (λ z. is.absent s1 (d.1 ∙ ap Some z)) ∙ a.found s1 k1 d.1) (bound_case s1 k1 q);
       listed = λ s1 k1 q f. ⊎_elim (λ d. absurd (true≢false (sym f ∙ ap st.named d.0 ∙ is.unnamed))) (λ d. a.listed s1 k1 d.1 f) (bound_case s1 k1 q);
       waiting = λ s1 k1 q f i y z. ⊎_elim (λ d. ap (λ (a1 : Version). a1.value) (sym d.2)) (λ d. ⊎_elim (λ c. absurd (d.0 c.0)) (λ c. a.waiting s1 k1 c.1 f i y d.1) (bound_case s1 k1 q)) (stands_case s1 i y z);
+      once = a.once;
     };
     stage = record {
       settled = λ s1 q. dite (ℕ_discrete s1 s) (λ d. (ap st1.lead d ∙ upd_same st.lead s 0 ∙ sym (ap st1.gone d ∙ upd_same st.gone s 0), ap st1.flead d ∙ upd_same st.flead s 0 ∙ sym (ap st1.gone d ∙ upd_same st.gone s 0)))

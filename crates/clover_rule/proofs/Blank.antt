@@ -135,6 +135,7 @@ blank_opens l = record {
   bindings = [];
   listed = λ s k e. absurd cc;
   bound = λ s k e. absurd e;
+  once = λ i j s k k1 e f. absurd cc;
   count = refl;
   slot_named = λ k. 0;
   found = λ s k e. absurd cc;

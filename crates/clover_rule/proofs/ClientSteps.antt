@@ -114,6 +114,7 @@ module _ (l : Pool) (m : Mem) (st : Story) (c : Core m st) (p : Help l m st) (s 
     safe = a.safe;
     root = tag_else st s x cycle.slot (st.gone cycle.slot) (λ d q. let a1 = tag_within st cycle.slot (st.gone cycle.slot) cycle.next a.root in let a2 = ap (λ (z : ℕ). length (st.log z)) d in absurd (omega arith)) ∙ a.root;
     old = (a.old.0, a.old.1, tag_else st s x cycle.slot a.old.0 (λ d q. let a1 = tag_within st cycle.slot a.old.0 cycle.root a.old.2 in let a2 = ap (λ (z : ℕ). length (st.log z)) d in absurd (omega arith)) ∙ a.old.2);
+    body = (a.body.0, g.versions cycle.slot a.old.0 a.body.0 a.body.1, a.body.2);
     inside = a.inside;
     young = a.young;
   }
@@ -144,6 +145,7 @@ module _ (l : Pool) (m : Mem) (st : Story) (c : Core m st) (p : Help l m st) (s 
       found = a.found;
       listed = a.listed;
       waiting = λ s1 k1 q f i1 y e. a.waiting s1 k1 q f i1 y (sym (ap (λ (ws : List Version). nth ws i1) (log_else s1 (unnamed_else s1 f))) ∙ e);
+      once = a.once;
     };
     stage = record {
       settled = p.stage.settled;
@@ -245,7 +247,7 @@ module _ (l : Pool) (m : Mem) (st : Story) (c : Core m st) (p : Help l m st) (s 
   raised_here (Raised cycle) a = (record { root = a.0.root; next = a.0.next }, more_sure cycle.slot (suc (st.gone cycle.slot)) a.1)
   raised_here (Led cycle) a = (record { root = a.0.root; next = a.0.next }, more_sure cycle.slot (suc (st.gone cycle.slot)) a.1, a.2, a.3)
   raised_here (Both cycle) a = (record { root = a.0.root; next = a.0.next }, more_sure cycle.slot (suc (st.gone cycle.slot)) a.1, a.2, a.3)
-  raised_here (Exchanged cycle) a = record { place = a.place; now = a.now; safe = held_off (home cycle.root) a.place ∙ a.safe; root = a.root; old = a.old; inside = a.inside; young = a.young }
+  raised_here (Exchanged cycle) a = record { place = a.place; now = a.now; safe = held_off (home cycle.root) a.place ∙ a.safe; root = a.root; old = a.old; body = a.body; inside = a.inside; young = a.young }
 
   pub raise_help : Help l mr sr
   raise_help = record {
@@ -259,7 +261,7 @@ module _ (l : Pool) (m : Mem) (st : Story) (c : Core m st) (p : Help l m st) (s 
           (λ d. let z = ap gen (upd_else m.fnext (home u) b (greater (m.fnext (home u)) (word (age u) (Some t))) d) in let z1 = a.below b in omega arith);
     };
     keyed = let a = p.keyed in record { valid = a.valid; current = a.current; flushed = a.flushed; bare = a.bare; nameless = a.nameless; filled = a.filled; slots = a.slots };
-    naming = let a = p.naming in record { counted = a.counted; found = a.found; listed = a.listed; waiting = a.waiting };
+    naming = let a = p.naming in record { counted = a.counted; found = a.found; listed = a.listed; waiting = a.waiting; once = a.once };
     stage = record { settled = p.stage.settled; holds = p.stage.holds; names = p.stage.names; here = raised_here st.task p.stage.here };
     short = λ s1 y q. durable_kept m st h mr sr h g s1 y (p.short s1 y q);
   }

@@ -78,7 +78,7 @@ module _ (l : Pool) (m0 : Map) (used : List ℕ) (m : Mem) (vs : List View) (st 
           current = λ s k e j x q. ap (λ (f : ℕ → ℕ). f j) (key_else s k e) ∙ a.current s k e j x q;
           flushed = λ s k e j x q. ap (λ (f : ℕ → ℕ). f j) (fkey_else s k e) ∙ a.flushed s k e j x q;
         };
-        naming = let a = p.naming in record { counted = a.counted; found = a.found; listed = a.listed; waiting = a.waiting };
+        naming = let a = p.naming in record { counted = a.counted; found = a.found; listed = a.listed; waiting = a.waiting; once = a.once };
         stage = stage;
         short = p.short;
       };

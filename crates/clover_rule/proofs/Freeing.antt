@@ -23,6 +23,7 @@ use Rattle.clover_rule.specs.declared.view.Task.TheVariants.{Idle, Both, Exchang
 use Rattle.clover_rule.specs.declared.view.View.{View}
 use Rattle.clover_words.specs.declared.pool.Pool.{Pool}
 use Rattle.clover_rule.proofs.Tools.{upd_same, upd_else}
+use Rattle.clover_rule.proofs.Standings.{tag_there}
 use Rattle.clover_rule.proofs.Steps.{prefix_self}
 use Rattle.clover_rule.proofs.ServerTools.{IsServed, same_known, core_copy, whole, book_same, tale_copy, no_stock}
 use Rattle.clover_rule.proofs.ServerLaws.{stage_at, serves_at}
@@ -93,7 +94,7 @@ module _ (l : Pool) (m0 : Map) (used : List ℕ) (m : Mem) (vs : List View) (id 
         worn = λ b i f. dite (ℕ_discrete b (home cycle.root)) (λ d. absurd (cc (ap st1.place d, place_now, f))) (λ d. ap gen (next_else b d) ∙ a.worn b i (sym (place_else b d) ∙ f));
       };
       keyed = let a = p.keyed in record { valid = a.valid; current = a.current; flushed = a.flushed; bare = a.bare; nameless = a.nameless; filled = a.filled; slots = a.slots };
-      naming = let a = p.naming in record { counted = a.counted; found = a.found; listed = a.listed; waiting = a.waiting };
+      naming = let a = p.naming in record { counted = a.counted; found = a.found; listed = a.listed; waiting = a.waiting; once = a.once };
       stage = record {
         settled = λ s1 q. dite (ℕ_discrete s1 cycle.slot) (λ d. (ap st.lead d ∙ g.here.2 ∙ sym (ap st1.gone d ∙ gone_now), ap st.flead d ∙ g.here.3 ∙ sym (ap st1.gone d ∙ gone_now))) (λ d. let a = g.settled s1 (λ z. d (let y : Some cycle.slot ≡ Some s1 = z in cc)) in (a.0 ∙ sym (gone_else s1 d), a.1 ∙ sym (gone_else s1 d)));
         holds = λ b f. dite (ℕ_discrete b (home cycle.root)) (λ d. ap Some (sym d)) (λ d. absurd (let z : ◌≡◌ {A = Option ℕ} None (Some b) = g.holds b (sym (place_else b d) ∙ f) in cc));
@@ -104,6 +105,7 @@ module _ (l : Pool) (m0 : Map) (used : List ℕ) (m : Mem) (vs : List View) (id 
           safe = stand.safe ∙ ap (λ (b : Bool). word (age cycle.root) (only b (tag_at st cycle.slot (suc (st.gone cycle.slot))))) (lt-ltb (suc (st.gone cycle.slot)) (st.sure cycle.slot) g.here.1) ∙ ap (word (age cycle.root)) g.here.0.next;
           root = ap (tag_at st cycle.slot) gone_now ∙ g.here.0.next;
           old = (st.gone cycle.slot, sym gone_now, g.here.0.root);
+          body = let x = tag_there st cycle.slot (st.gone cycle.slot) cycle.root g.here.0.root in (x.0, x.1, ru.bodies cycle.slot (st.gone cycle.slot) x.0 x.1 (omega arith));
           inside = range.0;
           young = range.1;
         };
@@ -232,7 +234,7 @@ module _ (l : Pool) (m0 : Map) (used : List ℕ) (m : Mem) (vs : List View) (id 
         worn = λ b i f. dite (ℕ_discrete b b0) (λ d. ap gen (ap m.next d ∙ ge.here.now) ∙ worn_q (eqb (suc (age cycle.root)) l.wear) refl (sym place2 ∙ ap st2.place (sym d) ∙ f)) (λ d. a.worn b i (sym (place2_else b d) ∙ f));
       };
       keyed = let a = p.keyed in record { valid = a.valid; current = a.current; flushed = a.flushed; bare = a.bare; nameless = a.nameless; filled = a.filled; slots = a.slots };
-      naming = let a = p.naming in record { counted = a.counted; found = a.found; listed = a.listed; waiting = a.waiting };
+      naming = let a = p.naming in record { counted = a.counted; found = a.found; listed = a.listed; waiting = a.waiting; once = a.once };
       stage = record {
         settled = λ s1 q. ge.settled s1 (λ z. absurd cc);
         holds = λ b f. dite (ℕ_discrete b b0) (λ d. absurd (unheld (sym place2 ∙ ap st2.place (sym d) ∙ f))) (λ d. absurd (d (let z : Some b0 ≡ Some b = ge.holds b (sym (place2_else b d) ∙ f) in cc)));

@@ -73,7 +73,7 @@ module _ (l : Pool) (m0 : Map) (used : List ℕ) (m : Mem) (vs : List View) (st 
       worn = λ b i f. ⊎_elim (λ d. absurd (cc (d.0, f))) (λ d. a.worn b i (sym d ∙ f)) (hand_case b);
     };
     keyed = let a = p.keyed in record { valid = a.valid; current = a.current; flushed = a.flushed; bare = a.bare; nameless = a.nameless; filled = a.filled; slots = a.slots };
-    naming = let a = p.naming in record { counted = a.counted; found = a.found; listed = a.listed; waiting = a.waiting };
+    naming = let a = p.naming in record { counted = a.counted; found = a.found; listed = a.listed; waiting = a.waiting; once = a.once };
     stage = record { settled = p.stage.settled; holds = λ b f. ⊎_elim (λ d. absurd (cc (d.0, f))) (λ d. p.stage.holds b (sym d ∙ f)) (hand_case b); names = p.stage.names; here = here st.task p.stage.here };
     short = p.short;
   }
@@ -87,7 +87,7 @@ module _ (l : Pool) (m0 : Map) (used : List ℕ) (m : Mem) (vs : List View) (st 
       here (Raised cycle) a = (record { root = a.0.root; next = a.0.next }, a.1)
       here (Led cycle) a = (record { root = a.0.root; next = a.0.next }, a.1, a.2, a.3)
       here (Both cycle) a = (record { root = a.0.root; next = a.0.next }, a.1, a.2, a.3)
-      here (Exchanged cycle) a = record { place = held_kept (home cycle.root) a.place; now = a.now; safe = a.safe; root = a.root; old = a.old; inside = a.inside; young = a.young }
+      here (Exchanged cycle) a = record { place = held_kept (home cycle.root) a.place; now = a.now; safe = a.safe; root = a.root; old = a.old; body = a.body; inside = a.inside; young = a.young }
 
   pub hand_spent : (y : ℕ) → Spent m st y → Spent m st' y
   hand_spent y (inl a) = inl a

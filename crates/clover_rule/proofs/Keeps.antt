@@ -52,7 +52,7 @@ use Rattle.clover_rule.proofs.FlushLaw.{flush_whole}
 use Rattle.clover_rule.proofs.RaiseLaw.{known}
 
 -- a test of two numbers
-by_test : (x c : ℕ) (P : Bool → Type 0) → (x ≡ c → P true) → (x ≢ c → P false) → P (x == c)
+pub by_test : (x c : ℕ) (P : Bool → Type 0) → (x ≡ c → P true) → (x ≢ c → P false) → P (x == c)
 by_test x c P f g = dite (ℕ_discrete x c) (λ e. subst P (sym (eq-eqb x c e)) (f e)) (λ n. subst P (sym (ne_eqb x c n)) (g n))
 
 same_self : (v : View) → SameRun v v
@@ -140,7 +140,7 @@ module _ (p : Pool) (first : Tagged) (used : List ℕ) (ws : List ℕ) (vs : Lis
       quiet_step a hs hw b (seen s t v (next_of x)) (seen_run s t v (next_of x)) (seen_stock s t v (next_of x)) k h
       (seen_whole p m0 used m vs st h r.whole id v at cl s t d (next_of x) (read_next p ws (home t) i ∙ ap next_of (sym is)))
 
-  at_tail : (t x : ℕ) → inside p (home t) ≡ true → x ≡ copy_in p ws (NextOf (buffer_at (home t))) Current → x ≡ unlinked t → m.next (home t) ≡ word (age t) None
+  pub at_tail : (t x : ℕ) → inside p (home t) ≡ true → x ≡ copy_in p ws (NextOf (buffer_at (home t))) Current → x ≡ unlinked t → m.next (home t) ≡ word (age t) None
   at_tail t x i is e = read_next p ws (home t) i ∙ ap next_of (sym is ∙ e) ∙ next_again (age t) None (omega arith)
 
   -- the reply that the client read is one that the map gives
@@ -174,7 +174,7 @@ module _ (p : Pool) (first : Tagged) (used : List ℕ) (ws : List ℕ) (vs : Lis
       (load_whole p m0 used m vs st h r.whole id v at s (named c) t may.tail may.name f (client v) may.client c y refl d.0 d.1))
       (λ n. load_next b a s t refl refl hw tt may.client may.tail 1)
 
-  own_range : (t : ℕ) (rest : List ℕ) → v.pass.stock ≡ t ∷ rest → InRange p t
+  pub own_range : (t : ℕ) (rest : List ℕ) → v.pass.stock ≡ t ∷ rest → InRange p t
   own_range t rest e = let o = (subst (Each (Owned m st id)) e (r.whole.basis.views id v at).stocked).0 in let g = r.whole.help.ranged.ready (home t) (subst Ready (sym o.0) tt) in (g.0, let q = o.1 in let z = g.1 in omega arith)
 
   -- the exchange that wrote

@@ -7,10 +7,12 @@ pub mod Acting
 pub mod Accessing
 pub mod AfterCuts
 pub mod TwelveParts
+pub mod Bindings
 pub mod Tails
 pub mod Telling
 pub mod Keeps
 pub mod AllKeeps
+pub mod Falling
 pub mod ServerKeeps
 pub mod FirstRun
 pub mod HandOver

@@ -113,13 +113,13 @@ module _ (l : Pool) (m0 : Map) (used : List ℕ) (m : Mem) (vs vs' : List View) 
   here (Raised cycle) a = (record { root = a.0.root; next = a.0.next }, a.1)
   here (Led cycle) a = (record { root = a.0.root; next = a.0.next }, a.1, a.2, a.3)
   here (Both cycle) a = (record { root = a.0.root; next = a.0.next }, a.1, a.2, a.3)
-  here (Exchanged cycle) a = record { place = ap (moved f) a.place; now = a.now; safe = a.safe; root = a.root; old = a.old; inside = a.inside; young = a.young }
+  here (Exchanged cycle) a = record { place = ap (moved f) a.place; now = a.now; safe = a.safe; root = a.root; old = a.old; body = a.body; inside = a.inside; young = a.young }
 
   help' : Help l m st'
   help' = let p = w.help in record {
     ranged = let a = p.ranged in record { tags = a.tags; own = a.own; below = a.below; fits = a.fits; ready = λ b e. a.ready b (back_ready f (st.place b) e); worn = λ b i e. a.worn b i (back_worn f (st.place b) e) };
     keyed = let a = p.keyed in record { valid = a.valid; current = a.current; flushed = a.flushed; bare = a.bare; nameless = a.nameless; filled = a.filled; slots = a.slots };
-    naming = let a = p.naming in record { counted = a.counted; found = a.found; listed = a.listed; waiting = a.waiting };
+    naming = let a = p.naming in record { counted = a.counted; found = a.found; listed = a.listed; waiting = a.waiting; once = a.once };
     stage = record { settled = p.stage.settled; holds = λ b e. p.stage.holds b (back_held f (st.place b) e); names = p.stage.names; here = here st.task p.stage.here };
     short = p.short;
   }

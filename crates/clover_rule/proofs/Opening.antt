@@ -203,7 +203,7 @@ module _ (l : Pool) (im : Image) (sound : Sound l im) (m0 : Map) (used : List �
       filled = λ s k e. let a = bound_root s k e in let b : tag_at opened s 0 ≡ Some a.0 = sym (open_core.root s) ∙ (o.root s).0 ∙ a.1 in tag_within opened s 0 a.0 b;
       slots = λ s k e. let a = bound_root s k e in sound.inside s a.0 a.1;
     };
-    naming = record { counted = o.count; found = o.found; listed = λ s k e f. o.listed s k e; waiting = λ s k e f. absurd (true≢false (sym (ap has e) ∙ f)) };
+    naming = record { counted = o.count; found = o.found; listed = λ s k e f. o.listed s k e; waiting = λ s k e f. absurd (true≢false (sym (ap has e) ∙ f)); once = o.once };
     stage = record { settled = λ s q. (refl, refl); holds = λ b e. absurd (never_held b e); names = λ s k e. inl (ap has e); here = tt };
     short = λ s t e. absurd (cc (o.short s, e));
   }

@@ -30,7 +30,6 @@ use Rattle.clover_rule.specs.Told.{IsGivenBack, IsDurableBinding}
 use Rattle.clover_rule.specs.Views.{book, book_at, renewed, root_at}
 use Rattle.clover_rule.specs.Words.{mem_of, next_code, next_of}
 use Rattle.clover_rule.specs.declared.view.BufferState.TheVariants.{Bound as IsBound, Free as IsFree, Out as IsOut, Worn as IsWorn}
-use Rattle.clover_rule.specs.declared.view.Link.{Link}
 use Rattle.clover_rule.specs.declared.view.NewBinding.{NewBinding}
 use Rattle.clover_rule.specs.declared.view.Recycling.{Recycling}
 use Rattle.clover_rule.specs.declared.view.Task.{Task}
@@ -69,7 +68,7 @@ module _ (p : Pool) (first : Tagged) (used : List ℕ) (ws : List ℕ) (vs : Lis
   After a b = IsMet p first used (words_after_step p a ws) (renewed vs id (next_view b a h v (found p a ws))) h
 
   -- the words with another number at the step's word
-  abbrev words_with : Step → ℕ → List ℕ
+  abbrev pub words_with : Step → ℕ → List ℕ
   words_with a n = slice_set ws (address_of p (word_of a) (side_of a)) n
 
   -- a step follows from the helping facts over the words after it, decoded
@@ -124,11 +123,14 @@ module _ (p : Pool) (first : Tagged) (used : List ℕ) (ws : List ℕ) (vs : Lis
 
   -- a recycling's steps
   module _ (c : Recycling) where
+    pub flushed_link_words : IsWithin p (next_word_of c.root) → IsAt v (Loaded c) → (mem_of p (words_after_step p (FlushLink c) ws) ≡ raised_mem m c.root c.next) × IsCode (next_word_of c.root) (becomes (FlushLink c) (found p (FlushLink c) ws))
+    flushed_link_words hw i =
+        let g : Stage p m st (Loaded c) = stage_of (Loaded c) i in
+        raised_words p first used ws vs st h r id v at (record { slot = c.slot; from = c.root; to = c.next }) (st.gone c.slot, g.here.root, g.here.next) hw (found p (FlushLink c) ws) refl
+
     pub keeps_flush_link : IsWithin p (next_word_of c.root) → IsAt v (Loaded c) → (b : Bool) → After (FlushLink c) b
     keeps_flush_link hw i b =
-        let g : Stage p m st (Loaded c) = stage_of (Loaded c) i in
-        let l : Link = record { slot = c.slot; from = c.root; to = c.next } in
-        let z = raised_words p first used ws vs st h r id v at l (st.gone c.slot, g.here.root, g.here.next) hw (found p (FlushLink c) ws) refl in
+        let z = flushed_link_words hw i in
         lifted (FlushLink c) tt hw (max (found p (FlushLink c) ws) (linked c.root c.next)) refl z.1 (link_flushed v c) refl (same_run (link_flushed v c) refl refl refl refl refl) refl (raised_mem m c.root c.next) z.0
         (flush_link_whole p m0 used m vs id v st h r.whole at i.server c i.task_is) b
 
@@ -148,19 +150,31 @@ module _ (p : Pool) (first : Tagged) (used : List ℕ) (ws : List ℕ) (vs : Lis
     pub pass_says : IsWithin p (next_word_of c.root) → IsAt v (Both c) → found p (PassRoot c) ws ≡ linked c.root c.next
     pass_says hw i = sym (r.decodes (next_word_of c.root) Current hw tt) ∙ ap next_code (sym (read_next p ws (home c.root) (inside_of p (home c.root) hw)) ∙ exchange_finds p m0 used m vs id v st h r.whole at i.server c i.task_is)
 
+    pass_writes : IsWithin p (next_word_of c.root) → IsAt v (Both c) → becomes (PassRoot c) (found p (PassRoot c) ws) ≡ moved_on c.root
+    pass_writes hw i = ap (λ (z : Bool). either z (moved_on c.root) (found p (PassRoot c) ws)) (eq-eqb (found p (PassRoot c) ws) (linked c.root c.next) (pass_says hw i))
+
+    next_generation : next_of (moved_on c.root) ≡ word (suc (age c.root)) None
+    next_generation = next_again (suc (age c.root)) None (omega arith)
+
+    moved_words : IsWithin p (next_word_of c.root) → mem_of p (words_with (PassRoot c) (moved_on c.root)) ≡ recycled_mem m c.root
+    moved_words hw = write_next p ws (moved_on c.root) (home c.root) (inside_of p (home c.root) hw) (room_for (PassRoot c) hw tt) ∙ ap (λ (z : Next). record m { next = upd m.next (home c.root) z }) next_generation
+
+    pub passed_words : IsWithin p (next_word_of c.root) → IsAt v (Both c) → mem_of p (words_after_step p (PassRoot c) ws) ≡ recycled_mem m c.root
+    passed_words hw i = ap (λ (z : ℕ). mem_of p (words_with (PassRoot c) z)) (pass_writes hw i) ∙ moved_words hw
+
+    pub link_stood : IsAt v (Both c) → m.next (home c.root) ≡ word (age c.root) (Some c.next)
+    link_stood i = exchange_finds p m0 used m vs id v st h r.whole at i.server c i.task_is
+
     pub keeps_pass_root : IsWithin p (next_word_of c.root) → IsAt v (Both c) → (b : Bool) → After (PassRoot c) b
     keeps_pass_root hw i b =
-        let x : ℕ = found p (PassRoot c) ws in
-        let value : next_of (moved_on c.root) ≡ word (suc (age c.root)) None = next_again (suc (age c.root)) None (omega arith) in
-        lifted (PassRoot c) tt hw (moved_on c.root) (ap (λ (z : Bool). either z (moved_on c.root) x) (eq-eqb x (linked c.root c.next) (pass_says hw i))) (ap next_code value) (root_passed v c) refl (same_run (root_passed v c) refl refl refl refl refl) refl (recycled_mem m c.root)
-        (write_next p ws (moved_on c.root) (home c.root) (inside_of p (home c.root) hw) (room_for (PassRoot c) hw tt) ∙ ap (λ (z : Next). record m { next = upd m.next (home c.root) z }) value)
+        lifted (PassRoot c) tt hw (moved_on c.root) (pass_writes hw i) (ap next_code next_generation) (root_passed v c) refl (same_run (root_passed v c) refl refl refl refl refl) refl (recycled_mem m c.root) (moved_words hw)
         (exchange_whole p m0 used m vs id v st h r.whole at i.server c i.task_is) b
 
-    abbrev freed_mem : Mem
+    abbrev pub freed_mem : Mem
     freed_mem = record m { fnext = upd m.fnext (home c.root) (greater (m.fnext (home c.root)) (word (suc (age c.root)) None)) }
 
     -- the decoded words after the last raise, and that the raised number is a code
-    freed_words : IsWithin p (next_word_of c.root) → (x : ℕ) → x ≡ copy_in p ws (next_word_of c.root) Flushed
+    pub freed_words : IsWithin p (next_word_of c.root) → (x : ℕ) → x ≡ copy_in p ws (next_word_of c.root) Flushed
         → (mem_of p (words_with (FreeRoot c) (max x (moved_on c.root))) ≡ freed_mem) × (next_code (next_of (max x (moved_on c.root))) ≡ max x (moved_on c.root))
     freed_words hw x is =
         let i : inside p (home c.root) ≡ true = inside_of p (home c.root) hw in

@@ -14,7 +14,7 @@ use Rattle.clover_rule.specs.Memory.{Next, word, gen, Mem, greater, order}
 use Rattle.clover_rule.specs.Server.{holding, IsRecycling, Stage, or_else, root_in, is_home, book_of, Serves, Whole}
 use Rattle.clover_rule.specs.Learned.{at_task, looked, link_flushed, entered}
 use Rattle.clover_rule.specs.Story.{Taken, Story, tag_at, now_at, unsure, Place, Chained, Standing}
-use Rattle.clover_rule.specs.Views.{IsLink, Past, Basis, renewed, root_at, book_at, book}
+use Rattle.clover_rule.specs.Views.{SlotsOnce, IsLink, Past, Basis, renewed, root_at, book_at, book}
 use Rattle.clover_rule.specs.declared.view.BufferState.TheVariants.{Bound as IsBound, Out as IsOut}
 use Rattle.clover_rule.specs.declared.view.NewBinding.{NewBinding}
 use Rattle.clover_rule.specs.declared.view.Recycling.{Recycling}
@@ -24,7 +24,8 @@ use Rattle.clover_rule.specs.declared.view.Task.{Task}
 use Rattle.clover_rule.specs.declared.view.Task.TheVariants.{Idle, Rooted, Waiting, Loaded, Raised, Led, Both}
 use Rattle.clover_rule.specs.declared.view.View.{View}
 use Rattle.clover_words.specs.declared.pool.Pool.{Pool}
-use Rattle.clover_rule.proofs.Tools.{upd_same, upd_else}
+use Rattle.clover_rule.proofs.Bindings.{nth_among}
+use Rattle.clover_rule.proofs.Tools.{upd_same, upd_else, nth_snoc}
 use Rattle.clover_rule.proofs.Standings.{tag_within}
 use Rattle.clover_rule.proofs.Steps.{prefix_self, within_prefix, within_last, Grows, durable_kept}
 use Rattle.clover_rule.proofs.ServerTools.{IsServed, same_known, own_whole, core_copy, whole, book_same, tale_copy}
@@ -127,7 +128,7 @@ module _ (l : Pool) (m0 : Map) (used : List ℕ) (m : Mem) (vs : List View) (id 
               help = record {
                 ranged = let a = p.ranged in record { tags = a.tags; own = a.own; below = a.below; ready = a.ready; worn = a.worn; fits = a.fits };
                 keyed = let a = p.keyed in record { valid = a.valid; current = a.current; flushed = a.flushed; bare = a.bare; nameless = a.nameless; filled = a.filled; slots = a.slots };
-                naming = let a = p.naming in record { counted = a.counted; found = a.found; listed = a.listed; waiting = a.waiting };
+                naming = let a = p.naming in record { counted = a.counted; found = a.found; listed = a.listed; waiting = a.waiting; once = a.once };
                 stage = record { settled = λ s1 q. g.settled s1 (λ z. absurd cc); holds = λ b q. g.holds b q; names = g.names; here = record { root = recycling.root; next = recycling.next } };
                 short = p.short;
               };
@@ -194,7 +195,7 @@ module _ (l : Pool) (m0 : Map) (used : List ℕ) (m : Mem) (vs : List View) (id 
                 below = λ b. dite (ℕ_discrete b (home cycle.root)) (λ d. rw d (rw new_f (gen_most (m.fnext (home cycle.root)) (word (age cycle.root) (Some cycle.next)) (gen (m.next (home cycle.root))) (a.below (home cycle.root)) (let z = ap gen (ru.core.standing cycle.slot (st.gone cycle.slot) cycle.root gl.here.root (omega arith)).now in omega arith)))) (λ n. let z = ap gen (else_f b n) in let z1 = a.below b in omega arith);
               };
               keyed = let a = p.keyed in record { valid = a.valid; current = a.current; flushed = a.flushed; bare = a.bare; nameless = a.nameless; filled = a.filled; slots = a.slots };
-              naming = let a = p.naming in record { counted = a.counted; found = a.found; listed = a.listed; waiting = a.waiting };
+              naming = let a = p.naming in record { counted = a.counted; found = a.found; listed = a.listed; waiting = a.waiting; once = a.once };
               stage = record { settled = λ s1 q. gl.settled s1 (λ z. absurd cc); holds = λ b q. gl.holds b q; names = gl.names; here = (record { root = gl.here.root; next = gl.here.next }, now_sure) };
               short = λ s1 y q. durable_kept m st h ms ss h grow s1 y (p.short s1 y q);
             };
@@ -232,7 +233,7 @@ module _ (l : Pool) (m0 : Map) (used : List ℕ) (m : Mem) (vs : List View) (id 
             help = record {
               ranged = let a = p.ranged in record { tags = a.tags; own = a.own; below = a.below; ready = a.ready; worn = a.worn; fits = a.fits };
               keyed = let a = p.keyed in record { valid = a.valid; current = a.current; flushed = a.flushed; bare = a.bare; nameless = a.nameless; filled = a.filled; slots = a.slots };
-              naming = let a = p.naming in record { counted = a.counted; found = a.found; listed = a.listed; waiting = a.waiting };
+              naming = let a = p.naming in record { counted = a.counted; found = a.found; listed = a.listed; waiting = a.waiting; once = a.once };
               stage = record {
                 settled = λ s1 q. let d : s1 ≢ cycle.slot = λ z. q (ap Some (sym z)) in let a = gr.settled s1 (λ z. absurd cc) in (upd_else st.lead cycle.slot s1 (suc (st.gone cycle.slot)) d ∙ a.0, a.1);
                 holds = λ b q. gr.holds b q;
@@ -275,7 +276,7 @@ module _ (l : Pool) (m0 : Map) (used : List ℕ) (m : Mem) (vs : List View) (id 
             help = record {
               ranged = let a = p.ranged in record { tags = a.tags; own = a.own; below = a.below; ready = a.ready; worn = a.worn; fits = a.fits };
               keyed = let a = p.keyed in record { valid = a.valid; current = a.current; flushed = a.flushed; bare = a.bare; nameless = a.nameless; filled = a.filled; slots = a.slots };
-              naming = let a = p.naming in record { counted = a.counted; found = a.found; listed = a.listed; waiting = a.waiting };
+              naming = let a = p.naming in record { counted = a.counted; found = a.found; listed = a.listed; waiting = a.waiting; once = a.once };
               stage = record {
                 settled = λ s1 q. let d : s1 ≢ cycle.slot = λ z. q (ap Some (sym z)) in let a = gd.settled s1 q in (a.0, upd_else st.flead cycle.slot s1 (st.lead cycle.slot) d ∙ a.1);
                 holds = λ b q. gd.holds b q;
@@ -318,7 +319,7 @@ module _ (l : Pool) (m0 : Map) (used : List ℕ) (m : Mem) (vs : List View) (id 
             help = record {
               ranged = let a = p.ranged in record { tags = a.tags; own = a.own; below = a.below; ready = a.ready; worn = a.worn; fits = a.fits };
               keyed = let a = p.keyed in record { valid = a.valid; current = a.current; flushed = a.flushed; bare = a.bare; nameless = a.nameless; filled = a.filled; slots = a.slots };
-              naming = let a = p.naming in record { counted = a.counted; found = a.found; listed = a.listed; waiting = a.waiting };
+              naming = let a = p.naming in record { counted = a.counted; found = a.found; listed = a.listed; waiting = a.waiting; once = a.once };
               stage = record {
                 settled = λ s1 q. let a = gb.settled s1 (λ z. absurd cc) in (a.0, ⊎_elim (λ d. d.1 ∙ ap st.lead (sym d.0) ∙ a.0) (λ d. d.1 ∙ a.1) (flead_cases m st bind.slot bind.tag ru.core (ap (tag_at st bind.slot) ((gb.settled bind.slot (λ z. absurd cc)).0 ∙ a0.gone) ∙ a0.tag) s1));
                 holds = λ b q. gb.holds b q;
@@ -378,6 +379,16 @@ module _ (l : Pool) (m0 : Map) (used : List ℕ) (m : Mem) (vs : List View) (id 
             d (sym c.4 ∙ ap home (let y : Some c.1 ≡ Some bind.tag = sym c.2 ∙ ap (tag_at st s1) z0 ∙ ap (λ (a : ℕ). tag_at st a 0) z ∙ gc.here.0.tag in cc))))
             (λ z. sym (ap (λ (c : Bool). is_home (or_else (cond c (Some None) None) (tag_at st s1 (st.gone s1))) b) (ne_eqb bind.slot s1 (λ y. z (sym y)))))
 
+    -- the slot that gets its name had none
+    no_name : (j : ℕ) (k : List ℕ) → nth st.bindings j ≡ Some (bind.slot, k) → ⊥
+    no_name j k q = true≢false (sym (ru.bound bind.slot k (nth_among st.bindings j (bind.slot, k) q)).1 ∙ gc.here.0.unnamed)
+
+    once_more : SlotsOnce st.bindings → SlotsOnce (st.bindings ++ (bind.slot, bind.key) ∷ [])
+    once_more f i j s k1 k2 q g = ⊎_elim
+        (λ a. ⊎_elim (λ b. f i j s k1 k2 a b) (λ b. absurd (no_name i k1 (a ∙ ap (λ (x : ℕ). Some (x, k1)) (sym (ap (λ (x : ℕ × List ℕ). x.0) b.1))))) (nth_snoc st.bindings (bind.slot, bind.key) (s, k2) j g))
+        (λ a. ⊎_elim (λ b. absurd (no_name j k2 (b ∙ ap (λ (x : ℕ). Some (x, k2)) (sym (ap (λ (x : ℕ × List ℕ). x.0) a.1))))) (λ b. a.0 ∙ sym b.0) (nth_snoc st.bindings (bind.slot, bind.key) (s, k2) j g))
+        (nth_snoc st.bindings (bind.slot, bind.key) (s, k1) i q)
+
     pub store_count_whole : IsServed l m0 used mc (renewed vs id (entered v bind)) st h
     store_count_whole = let p = w.help in let sv = serves_of (Waiting bind) e in let a0 = gc.here.0 in let c = ru.core in (
       sc,
@@ -421,6 +432,7 @@ module _ (l : Pool) (m0 : Map) (used : List ℕ) (m : Mem) (vs : List View) (id 
                 found = a.found;
                 listed = λ s1 k1 q f. dite (ℕ_discrete s1 bind.slot) (λ d. let z : k1 ≡ bind.key = cc (ap st.keys d, q, a0.key) in rw (d, z) (within_last (bind.slot, bind.key) st.bindings)) (λ d. within_prefix (s1, k1) st.bindings ((bind.slot, bind.key) ∷ []) (a.listed s1 k1 q (sym (named_else s1 d) ∙ f)));
                 waiting = λ s1 k1 q f. a.waiting s1 k1 q (sym (named_else s1 (unnamed_else s1 f)) ∙ f);
+                once = once_more a.once;
               };
               stage = record {
                 settled = λ s1 q. gc.settled s1 (λ z. absurd cc);

@@ -12,7 +12,12 @@ pub mod Steps
 pub mod Asks
 pub mod Learned
 pub mod Meets
-pub mod Parts
+pub mod Holding
+pub mod Buffers
+pub mod Chains
+pub mod Known
+pub mod Names
+pub mod Histories
 pub mod Rule
 pub mod Meant
 pub mod Accesses

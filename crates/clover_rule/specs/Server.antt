@@ -9,7 +9,7 @@ use Rattle.clover_rule.specs.History.{Version, Map, used_by}
 use Rattle.clover_rule.specs.Lists.{Each, nth, Within}
 use Rattle.clover_rule.specs.Memory.{Mem, word, gen}
 use Rattle.clover_rule.specs.Story.{Place, Chained, Stocked, Free, Worn, Taken, Story, tag_at, Durable}
-use Rattle.clover_rule.specs.Views.{book_at, root_at, Book, book, Basis, Naming}
+use Rattle.clover_rule.specs.Views.{book_at, root_at, Book, book, Basis, Holds, Naming}
 use Rattle.clover_rule.specs.declared.view.BufferState.TheVariants.{Free as IsFree, Worn as IsWorn, Bound as IsBound, Out as IsOut}
 use Rattle.clover_rule.specs.declared.view.NewBinding.{NewBinding}
 use Rattle.clover_rule.specs.declared.view.Recycling.{Recycling}
@@ -97,6 +97,8 @@ pub record IsExchanged (l : Pool) (m : Mem) (st : Story) (c : Recycling) : Type 
   pub safe : m.fnext (home c.root) ≡ word (age c.root) (Some c.next)
   pub old : (i : ℕ) × (suc i ≡ st.gone c.slot) × (tag_at st c.slot i ≡ Some c.root)
   pub root : tag_at st c.slot (st.gone c.slot) ≡ Some c.next
+  -- both copies of its content stand still
+  pub body : (w : Version) × (nth (st.log c.slot) old.0 ≡ Some w) × Holds m w
   pub inside : inside l (home c.root) ≡ true
   pub young : age c.root < l.wear
 
@@ -182,6 +184,3 @@ pub record Whole (l : Pool) (m0 : Map) (used : List ℕ) (m : Mem) (vs : List Vi
   -- each client is one of those that the server made
   pub made : (i j n : ℕ) (v w : View) → nth vs i ≡ Some v → nth vs j ≡ Some w → v.pass.role ≡ Serving → w.pass.role ≡ Client n → Within n v.server.clients
   pub entered : (i : ℕ) (v : View) → nth vs i ≡ Some v → v.pass.role ≡ Serving → Each (λ (e : Entry). Within e.client v.server.clients) h
-
-abbrev pub IsWhole : Pool → Map → List ℕ → Mem → List View → Type 0
-IsWhole l m0 used m vs = (st : Story) × (h : List Entry) × Whole l m0 used m vs st h

@@ -1,6 +1,6 @@
 -- What a step tells its actor: facts on its own view and the history, before and after.
 use Prim.Native.Nat.{suc}
-use Rattle.std.specs.Prelude.{◌≡◌, ◌≢◌, ℕ, ◌<◌, ◌≤◌, ◌⊎◌, List, Bool, true, Option, Some, None}
+use Rattle.std.specs.Prelude.{◌≡◌, ◌≢◌, ℕ, ◌<◌, ◌≤◌, ◌⊎◌, List, length, Bool, true, Option, Some, None}
 use Rattle.clover_words.specs.declared.pool.Pool.{Pool}
 use Rattle.clover_words.specs.declared.word.Word.{Word}
 use Rattle.clover_words.specs.declared.word.Word.TheVariants.{Next as NextOf, Root, Short}
@@ -23,7 +23,7 @@ use Rattle.clover_rule.specs.Learned.{found, next_view, next_history, words_afte
 use Rattle.clover_rule.specs.Lists.{Each, IsPrefix, Within, nth}
 use Rattle.clover_rule.specs.Meets.{IsCode, IsMet}
 use Rattle.clover_rule.specs.Memory.{Mem, gen, link, word}
-use Rattle.clover_rule.specs.Steps.{Step, LoadNext, ReadRoot, DecideNext, LinkNext, ReadVersion, PassRoot, FreeRoot, StoreCount, word_of, side_of, becomes}
+use Rattle.clover_rule.specs.Steps.{Step, LoadNext, ReadRoot, DecideNext, LinkNext, ReadCount, AbsentCount, ReadVersion, PassRoot, FreeRoot, StoreCount, word_of, side_of, becomes}
 use Rattle.clover_rule.specs.Views.{OwnCalls, Apart, root_at, book_at, book}
 use Rattle.clover_rule.specs.Words.{next_of, root_of, mem_of}
 use Rattle.clover_rule.specs.declared.view.BufferState.TheVariants.{Free as IsFree}
@@ -86,12 +86,14 @@ pub record IsDurableBinding (m : Mem) (b : NewBinding) : Type 0 where
   pub root : m.froot b.slot ≡ Some b.tag
   pub tombstone : m.fbody (home b.tag) 0 ≡ tombstone
 
--- What else a step says. A named slot has a root. A meta word that was copied of a tag is a version's where the tag is found unlinked. A tag that a deciding step finds unlinked is the tail of its call's key in the words of that moment, and what was copied of it is one version's. A root version shows its own generation, and a recycling's exchange finds its link. After a recycling's last raise its old version is given back, and after a binding's last store the binding is durable.
+-- What else a step says. A named slot has a root. A meta word that was copied of a tag is a version's where the tag is found unlinked. A tag that a deciding step finds unlinked is the tail of its call's key in the words of that moment, and what was copied of it is one version's. A count is at least the actor's names and at most the slots. A root version shows its own generation, and a recycling's exchange finds its link. After a recycling's last raise its old version is given back, and after a binding's last store the binding is durable.
 abbrev pub Says : Pool → List ℕ → Step → View → ℕ → Type 0
 Says p ws (LoadNext s t) v x = x ≡ unlinked t → (y : ℕ) → Within (s, record { tag = t; place = 0; word = y }) v.pass.copied → IsMetaWord p y
 Says p ws (ReadRoot s) v x = (k : List ℕ) → Within (s, k) v.pass.names → (t : ℕ) × (root_of x ≡ Some t)
 Says p ws (DecideNext s t c r) v x = x ≡ unlinked t → IsTail (mem_of p ws) (named c) t × AreOneVersion p s t v
 Says p ws (LinkNext s u t c) v x = x ≡ unlinked u → IsTail (mem_of p ws) (named c) u
+Says p ws ReadCount v x = (length v.pass.names ≤ x) × (x ≤ p.slots)
+Says p ws (AbsentCount c) v x = (length v.pass.names ≤ x) × (x ≤ p.slots)
 Says p ws (ReadVersion s r) v x = gen (next_of x) ≡ age r
 Says p ws (PassRoot c) v x = x ≡ linked c.root c.next
 Says p ws (FreeRoot c) v x = IsGivenBack p (words_after_step p (FreeRoot c) ws) c.root

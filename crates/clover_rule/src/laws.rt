@@ -1,7 +1,7 @@
 // The laws, each a contract of a function with an empty body.
 ghost use Rattle.clover_rule.specs.Cut.{CutLaw};
 ghost use Rattle.clover_rule.specs.Preset.{PresetLaw};
-ghost use Rattle.clover_rule.specs.Laws.{PartsLaw, LongestLaw, StepLaw, ToldLaw, TableStepLaw, AccessLaw};
+ghost use Rattle.clover_rule.specs.Laws.{PartsLaw, LongestLaw, StepLaw, ToldLaw, TableStepLaw, RiseLaw, AccessLaw};
 
 /// The twelve parts of the rule follow from the helping facts.
 pub fn parts_law()
@@ -31,6 +31,11 @@ pub fn told_law()
 /// Each step is one that a table whose rule is this one allows.
 pub fn table_step_law()
     ensures { TableStepLaw }
+{}
+
+/// No step lets a copy of a next word fall.
+pub fn rise_law()
+    ensures { RiseLaw }
 {}
 
 /// The access of a step comes back with what the words give.

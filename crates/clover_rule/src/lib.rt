@@ -9,7 +9,8 @@ mod view;
 
 pub use access::{Access, Act, Actor};
 pub use laws::{
-    access_law, cut_law, longest_law, parts_law, preset_law, step_law, table_step_law, told_law,
+    access_law, cut_law, longest_law, parts_law, preset_law, rise_law, step_law, table_step_law,
+    told_law,
 };
 pub use step::StepName;
 pub use view::{
