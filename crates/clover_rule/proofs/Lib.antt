@@ -5,6 +5,7 @@ pub mod Codecs
 pub mod Presets
 pub mod Acting
 pub mod Accessing
+pub mod Rested
 pub mod AfterCuts
 pub mod TwelveParts
 pub mod Bindings
