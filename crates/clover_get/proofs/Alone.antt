@@ -19,7 +19,8 @@ use Rattle.clover_words.specs.Version.{unlinked, buffer_at, content_at}
 use Rattle.clover_map.specs.declared.bytes.Value.{Value}
 use Rattle.clover_map.specs.declared.call.Call.TheVariants.{Get}
 use Rattle.clover_rule.specs.Content.{content, value_meta}
-use Rattle.clover_rule.specs.Steps.{DecideNext, found, words_after_step}
+use Rattle.clover_rule.specs.Learned.{found, words_after_step}
+use Rattle.clover_rule.specs.Steps.{DecideNext}
 use Rattle.clover_rule.specs.declared.view.View.{View}
 use Rattle.clover_rule.proofs.Spelling.{nth_all, short_enough}
 use Rattle.clover_walk.specs.Alone.{alone, HasVersion, ReachesAfter, raised, version_words}

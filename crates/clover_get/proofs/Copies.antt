@@ -17,7 +17,8 @@ use Rattle.clover_map.specs.declared.call.Call.TheVariants.{Get}
 use Rattle.clover_map.specs.declared.call.Reply.TheVariants.{Found, Absent}
 use Rattle.clover_rule.specs.Content.{InRange, value_meta, Unpacks}
 use Rattle.clover_rule.specs.Lists.{Within}
-use Rattle.clover_rule.specs.Steps.{LoadNext, DecideNext, LoadContent, Asks}
+use Rattle.clover_rule.specs.Asks.{Asks}
+use Rattle.clover_rule.specs.Steps.{LoadNext, DecideNext, LoadContent}
 use Rattle.clover_rule.specs.Told.{IsMetaWord}
 use Rattle.clover_rule.specs.declared.access.Act.{Act}
 use Rattle.clover_rule.specs.declared.access.Act.TheVariants.{Load}

@@ -19,7 +19,8 @@ use Rattle.clover_port.specs.Told.{Open, Made}
 use Rattle.clover_rule.specs.Accesses.{AtTail, SawWhole, SawDead}
 use Rattle.clover_rule.specs.Content.{InRange}
 use Rattle.clover_rule.specs.Lists.{Within}
-use Rattle.clover_rule.specs.Steps.{Step, LoadContent, DecideNext, number_of, act_of, turn_at, counted, decided, seen}
+use Rattle.clover_rule.specs.Learned.{turn_at, counted, decided, seen}
+use Rattle.clover_rule.specs.Steps.{Step, LoadContent, DecideNext, number_of, act_of}
 use Rattle.clover_rule.specs.Told.{AreOneVersion}
 use Rattle.clover_rule.specs.Words.{next_of}
 use Rattle.clover_rule.specs.declared.view.Role.{Role}

@@ -12,7 +12,8 @@ use Rattle.clover_words.specs.Version.{unlinked}
 use Rattle.clover_port.specs.Told.{Open, Made}
 use Rattle.clover_rule.specs.Content.{InRange}
 use Rattle.clover_rule.specs.Lists.{Within}
-use Rattle.clover_rule.specs.Steps.{Step, Asks, LoadNext, word_of}
+use Rattle.clover_rule.specs.Asks.{Asks}
+use Rattle.clover_rule.specs.Steps.{Step, LoadNext, word_of}
 use Rattle.clover_rule.specs.Told.{Says, IsShown, IsMetaWord}
 use Rattle.clover_rule.specs.Words.{next_of, next_code}
 use Rattle.clover_rule.specs.declared.view.View.{View}

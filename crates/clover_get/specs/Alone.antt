@@ -8,7 +8,8 @@ use Rattle.clover_map.specs.declared.bytes.Value.{Value}
 use Rattle.clover_map.specs.declared.call.Call.TheVariants.{Get}
 use Rattle.clover_map.specs.declared.call.Reply.{Reply}
 use Rattle.clover_map.specs.declared.call.Reply.TheVariants.{Found, Absent}
-use Rattle.clover_rule.specs.Steps.{Step, DecideNext, found, words_after_step}
+use Rattle.clover_rule.specs.Learned.{found, words_after_step}
+use Rattle.clover_rule.specs.Steps.{Step, DecideNext}
 use Rattle.clover_rule.specs.declared.view.View.{View}
 use Rattle.clover_walk.specs.Alone.{Way, ComesBy, HasVersion, raised, version_words}
 use Rattle.clover_walk.specs.Walking.{Walking}

@@ -1,6 +1,5 @@
 pub mod Seating
 pub mod Trails
-pub mod Learned
 pub mod Acting
 pub mod Stepping
 pub mod Standing

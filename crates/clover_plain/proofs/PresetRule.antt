@@ -178,6 +178,7 @@ module _ (s : Setup) (keys : List (List ℕ)) (ws : List ℕ) (sized : length ws
       added = refl;
       calls = refl;
       history = refl;
+      plan = refl;
     }
 
     held : (b i : ℕ) → owner b ≡ Some i → (v : View) × (nth vs i ≡ Some v) × (t : ℕ) × Within t v.pass.stock × (home t ≡ b)

@@ -7,19 +7,21 @@ use Rattle.clover_map.specs.declared.call.Entry.{Entry}
 use Rattle.clover_rule.specs.Accesses.{CameBack, words_after_act}
 use Rattle.clover_rule.specs.Lists.{nth, IsPrefix}
 use Rattle.clover_rule.specs.Rule.{Rule, longest}
-use Rattle.clover_rule.specs.Steps.{Step, Asks, act_of, found, words_after_step, next_view, next_history}
+use Rattle.clover_rule.specs.Asks.{Asks}
+use Rattle.clover_rule.specs.Learned.{found, words_after_step, next_view, next_history}
+use Rattle.clover_rule.specs.Steps.{Step, act_of}
 use Rattle.clover_rule.specs.Told.{ToldAt}
 use Rattle.clover_rule.specs.declared.access.Access.{Access}
 use Rattle.clover_rule.specs.declared.access.Act.{Act}
 use Rattle.clover_rule.specs.declared.view.Role.TheVariants.{Client}
 use Rattle.clover_rule.specs.declared.view.View.{View}
-use Rattle.clover_rule.proofs.Accessing.{step_law, access_law}
+use Rattle.clover_rule.proofs.Acting.{access_law, role_kept, history_grows}
+use Rattle.clover_rule.proofs.Accessing.{step_law}
 use Rattle.clover_rule.proofs.Longest.{longest_law}
 use Rattle.clover_rule.proofs.Steps.{nth_set, set_here, prefix_trans}
 use Rattle.clover_rule.proofs.Telling.{told_at}
 use Rattle.clover_port.specs.Told.{Made}
 use Rattle.clover_plain.specs.Plain.{Plain, Running, Stepped, Refused, Leads, outset, view_at, history, open_of, grown, access}
-use Rattle.clover_plain.proofs.Learned.{role_kept, history_grows}
 use Rattle.clover_plain.proofs.Trails.{leads_more, leads_refused}
 
 pub nth_default : (vs : List View) (i : ℕ) (d : View) → i < length vs → nth vs i ≡ Some (get_or vs i d)

@@ -9,7 +9,8 @@ use Rattle.clover_map.specs.declared.call.Entry.{Entry}
 use Rattle.clover_rule.specs.Accesses.{Replays, done, words_after_act}
 use Rattle.clover_rule.specs.Lists.{nth, IsPrefix}
 use Rattle.clover_rule.specs.Rule.{Rule, longest}
-use Rattle.clover_rule.specs.Steps.{Step, act_of, words_after_step, next_view, found}
+use Rattle.clover_rule.specs.Learned.{words_after_step, next_view, found}
+use Rattle.clover_rule.specs.Steps.{Step, act_of}
 use Rattle.clover_rule.specs.Views.{alone, start_pass}
 use Rattle.clover_rule.specs.declared.access.Access.{Access}
 use Rattle.clover_rule.specs.declared.access.Act.{Act}

@@ -2,7 +2,8 @@
 use Rattle.std.specs.Prelude.{◌≡◌, ℕ, ◌+◌, ◌-◌, ◌^◌, ◌≤◌, min, List, Bool, Option, Some, None}
 use Rattle.clover_words.specs.declared.pool.Pool.{Pool}
 use Rattle.clover_map.specs.declared.call.Entry.{Entry}
-use Rattle.clover_rule.specs.Steps.{Step, words_after_step, next_history}
+use Rattle.clover_rule.specs.Learned.{words_after_step, next_history}
+use Rattle.clover_rule.specs.Steps.{Step}
 use Rattle.clover_rule.specs.Told.{ToldAt}
 use Rattle.clover_rule.specs.declared.view.View.{View}
 

@@ -5,7 +5,8 @@
 ghost use Rattle.std.specs.Prelude.{◌≡◌, ◌≤◌, ℕ, Bool, true, false, Option, Some, MatchResult};
 ghost use Rattle.clover_words.specs.declared.pool.Pool.{Pool as Shape};
 ghost use Rattle.clover_rule.specs.declared.view.View.{View};
-ghost use Rattle.clover_rule.specs.Steps.{Step, Asks};
+ghost use Rattle.clover_rule.specs.Asks.{Asks};
+ghost use Rattle.clover_rule.specs.Steps.{Step};
 ghost use Rattle.clover_rule.specs.Meant.{IsLoad, IsStore, IsExchange, IsRaise};
 ghost use Rattle.atomic_table.specs.Seated.{TableId};
 ghost use Rattle.clover_port.specs.Told.{Open, Made, Rose};

@@ -1,6 +1,6 @@
 // An access that a machine asks for, and the one function that makes it.
 ghost use Rattle.std.specs.Prelude.{ℕ, MatchResult};
-ghost use Rattle.clover_rule.specs.Steps.{Asks};
+ghost use Rattle.clover_rule.specs.Asks.{Asks};
 ghost use Rattle.clover_port.specs.Asked.{IsOp, Finds};
 
 use crate::{Failed, Port};

@@ -22,7 +22,8 @@ use Rattle.clover_map.specs.declared.call.Reply.TheVariants.{Absent, Differs}
 use Rattle.clover_rule.specs.Content.{inside, InRange, content, value_meta}
 use Rattle.clover_rule.specs.Lists.{Each}
 use Rattle.clover_rule.specs.Memory.{Mem, word, gen}
-use Rattle.clover_rule.specs.Steps.{LoadContent, found, words_after_step, turn_of, turn_at}
+use Rattle.clover_rule.specs.Learned.{found, words_after_step, turn_of, turn_at}
+use Rattle.clover_rule.specs.Steps.{LoadContent}
 use Rattle.clover_rule.specs.Words.{next_of, root_of, mem_of}
 use Rattle.clover_rule.specs.declared.view.View.{View}
 use Rattle.clover_rule.proofs.Spelling.{short_enough}

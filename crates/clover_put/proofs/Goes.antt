@@ -13,7 +13,8 @@ use Rattle.clover_port.specs.Told.{Open, Made}
 use Rattle.clover_rule.specs.Content.{InRange, Fits, content}
 use Rattle.clover_rule.specs.History.{named}
 use Rattle.clover_rule.specs.Lists.{Within, nth}
-use Rattle.clover_rule.specs.Steps.{Step, Asks, LinkNext, DecideNext, act_of, word_of}
+use Rattle.clover_rule.specs.Asks.{Asks}
+use Rattle.clover_rule.specs.Steps.{Step, LinkNext, DecideNext, act_of, word_of}
 use Rattle.clover_rule.specs.Told.{Says, IsMetaWord, IsShown}
 use Rattle.clover_rule.specs.Words.{next_code, next_of, root_of}
 use Rattle.clover_rule.specs.declared.view.View.{View}

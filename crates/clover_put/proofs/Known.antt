@@ -11,7 +11,8 @@ use Rattle.clover_words.specs.Tag.{home}
 use Rattle.clover_words.specs.Version.{content_at}
 use Rattle.clover_rule.specs.Knowing.{dropped}
 use Rattle.clover_rule.specs.Lists.{nth, Within}
-use Rattle.clover_rule.specs.Steps.{Step, number_of, turn_of}
+use Rattle.clover_rule.specs.Learned.{turn_of}
+use Rattle.clover_rule.specs.Steps.{Step, number_of}
 use Rattle.clover_rule.specs.declared.access.Act.{Act}
 use Rattle.clover_rule.specs.declared.access.Act.TheVariants.{Store}
 use Rattle.clover_rule.specs.declared.view.Content.{Content}

@@ -16,7 +16,9 @@ use Rattle.clover_rule.specs.Accesses.{SawLive, SawFor, StoredBoth, Decides, Com
 use Rattle.clover_rule.specs.Content.{InRange, content}
 use Rattle.clover_rule.specs.Knowing.{SawTombstone, SawValue, link_view}
 use Rattle.clover_rule.specs.Lists.{nth, Within}
-use Rattle.clover_rule.specs.Steps.{Step, LoadContent, LinkNext, DecideNext, RaiseNext, StoreShort, MayCall, MayReply, value_of, reply_of, turn_at, turn_of, counted, act_of, client, rest_of, decided, seen}
+use Rattle.clover_rule.specs.Asks.{MayCall, MayReply}
+use Rattle.clover_rule.specs.Learned.{turn_at, turn_of, counted, rest_of, decided, seen}
+use Rattle.clover_rule.specs.Steps.{Step, LoadContent, LinkNext, DecideNext, RaiseNext, StoreShort, value_of, reply_of, act_of, client}
 use Rattle.clover_rule.specs.Words.{next_of}
 use Rattle.clover_rule.specs.declared.access.Act.{Act}
 use Rattle.clover_rule.specs.declared.access.Act.TheVariants.{Load}

@@ -9,7 +9,7 @@ use Rattle.clover_port.specs.Told.{Open}
 use Rattle.clover_rule.specs.Accesses.{SawFor}
 use Rattle.clover_rule.specs.Content.{InRange}
 use Rattle.clover_rule.specs.Memory.{Next, word}
-use Rattle.clover_rule.specs.Steps.{MayCall}
+use Rattle.clover_rule.specs.Asks.{MayCall}
 use Rattle.clover_rule.specs.Words.{next_of, next_code, root_of}
 use Rattle.clover_rule.specs.declared.view.View.{View}
 use Rattle.clover_walk.specs.Finding.{Walked}

@@ -6,7 +6,7 @@ use Rattle.clover_words.specs.Tag.{tag_number, home}
 use Rattle.clover_map.specs.declared.bytes.Value.{Value}
 use Rattle.clover_rule.specs.Content.{InRange}
 use Rattle.clover_rule.specs.Lists.{Each}
-use Rattle.clover_rule.specs.Steps.{found, turn_of}
+use Rattle.clover_rule.specs.Learned.{found, turn_of}
 use Rattle.clover_rule.specs.declared.view.View.{View}
 use Rattle.clover_walk.specs.Alone.{after_alone, Way, ComesBy, HasVersion, version_words}
 use Rattle.clover_map.specs.declared.call.Reply.TheVariants.{Absent, Differs}

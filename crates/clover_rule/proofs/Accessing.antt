@@ -1,16 +1,8 @@
 -- The laws of a step: it keeps the rule, it tells its actor facts, and its access replays.
-use Rattle.std.proofs.Common.{◌≡◌, ℕ, List, refl, sym}
-use Rattle.std.specs.Prelude.{slice_set, slice_index}
-use Rattle.std.proofs.lemmas.List.{set-get_or}
-use Rattle.clover_words.specs.declared.word.Word.TheVariants.{Next as NextOf}
-use Rattle.clover_words.specs.declared.word.Side.TheVariants.{Current}
-use Rattle.clover_words.specs.Place.{address_of}
-use Rattle.clover_words.specs.Tag.{home}
-use Rattle.clover_words.specs.Version.{content_at, buffer_at}
-use Rattle.clover_rule.specs.Laws.{PartsLaw, StepLaw, ToldLaw, TableStepLaw, AccessLaw}
-use Rattle.clover_rule.specs.Steps.{LoadNext, DecideNext, RaiseNext, LinkNext, StoreContent, FlushContent, LoadContent, ReadRoot, ReadShort, StoreShort, ReadCount, AbsentCount, word_of}
+use Rattle.std.proofs.Common.{◌≡◌, refl}
+use Rattle.clover_rule.specs.Laws.{PartsLaw, StepLaw, ToldLaw, TableStepLaw}
 use Rattle.clover_rule.specs.Told.{Told}
-use Rattle.clover_rule.proofs.Keeps.{keeps}
+use Rattle.clover_rule.proofs.AllKeeps.{keeps}
 use Rattle.clover_rule.proofs.Telling.{told, table_law}
 use Rattle.clover_rule.proofs.TwelveParts.{rule_holds}
 
@@ -26,20 +18,3 @@ told_law p first used ws vs h id v a b r at asks = told p first used ws vs h id 
 
 pub table_step_law : TableStepLaw
 table_step_law p first used slots id me a b asks = table_law (Unit {0}) p first used slots id me a b (λ x you. Told p a b me.0 x you.0 × (you.1 ≡ me.1)) asks (λ x w t. (t, refl))
-
-same_words : (ws : List ℕ) (i : ℕ) → ws ≡ slice_set ws i (slice_index ws i)
-same_words ws i = sym (set-get_or ws i 0)
-
-pub access_law : AccessLaw
-access_law p ws (LoadNext s t) = (refl, same_words ws (address_of p (NextOf (buffer_at (home t))) Current))
-access_law p ws (DecideNext s t c r) = (refl, same_words ws (address_of p (NextOf (buffer_at (home t))) Current))
-access_law p ws (RaiseNext l) = (refl, refl)
-access_law p ws (LinkNext s u t c) = (refl, refl)
-access_law p ws (StoreContent t j x) = (tt, refl)
-access_law p ws (FlushContent t j x) = (tt, refl)
-access_law p ws (LoadContent s t j) = (refl, same_words ws (address_of p (content_at (home t) j) Current))
-access_law p ws (ReadRoot s) = (refl, same_words ws (address_of p (word_of (ReadRoot s)) Current))
-access_law p ws (ReadShort s) = (refl, same_words ws (address_of p (word_of (ReadShort s)) Current))
-access_law p ws (StoreShort s t) = (tt, refl)
-access_law p ws ReadCount = (refl, same_words ws (address_of p (word_of ReadCount) Current))
-access_law p ws (AbsentCount c) = (refl, same_words ws (address_of p (word_of ReadCount) Current))

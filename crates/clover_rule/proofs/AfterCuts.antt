@@ -1,29 +1,35 @@
 -- The law of cuts over the words of a pool.
 use Rattle.std.proofs.Common.{◌≡◌, ℕ, ◌+◌, ◌≢◌, ◌⊎◌, ◌&&◌, List, [], ◌∷◌, Bool, true, false, refl, sym, ap, ◌∙◌, inl, inr, ⊎_elim, subst, nat_lt}
 use mathlib.Core.Logic.{dite}
-use Rattle.std.specs.Prelude.{Option, Some, None}
+use Rattle.std.specs.Prelude.{slice_index, Option, Some, None}
 use Rattle.clover_words.specs.declared.pool.Pool.{Pool}
+use Rattle.clover_words.specs.declared.word.Word.{Word}
 use Rattle.clover_words.specs.declared.word.Word.TheVariants.{Next as NextOf, Root, Key}
 use Rattle.clover_words.specs.declared.word.Side.TheVariants.{Current, Flushed}
+use Rattle.clover_words.specs.Place.{IsWithin, HasSide, place, copy_in}
 use Rattle.clover_words.proofs.Places.{has_current}
+use Rattle.clover_words.specs.Tag.{home}
 use Rattle.clover_words.specs.Version.{buffer_at, content_at}
 use Rattle.clover_map.specs.declared.call.Entry.{Entry}
 use Rattle.clover_map.specs.Tagged.{Tagged}
 use Rattle.clover_map.specs.declared.bytes.Held.{Held}
 use Rattle.clover_rule.specs.Content.{IsKey, Spells, inside}
-use Rattle.clover_rule.specs.Cut.{IsCut, image_of, ImageDecodes, IsKnownDurable, AfterCut, CutLaw}
-use Rattle.clover_rule.specs.History.{Survives, Version, Map, shows, kept, leads, ends}
+use Rattle.clover_rule.specs.Cut.{IsCut, image_of, IsKnownDurable, AfterCut, CutLaw}
+use Rattle.clover_rule.specs.History.{Legal, Version, Map, shows, kept, leads, ends}
 use Rattle.clover_rule.specs.Image.{Image, IsImage, Reads, ReadsMap, missing, tags, Chain}
+use Rattle.clover_rule.specs.Lists.{Within, nth}
+use Prim.Native.Nat.{suc}
 use Rattle.clover_rule.specs.Meets.{Meets, IsCode}
-use Rattle.clover_rule.specs.Memory.{Mem, word}
+use Rattle.clover_rule.specs.Memory.{Mem, Next, word, link}
 use Rattle.clover_rule.specs.Sound.{Sound}
-use Rattle.clover_rule.specs.Story.{Story, Durable}
+use Rattle.clover_rule.specs.Story.{Story, Durable, Chained}
 use Rattle.clover_rule.specs.Words.{guarded, mem_of, next_of, root_of}
 use Rattle.clover_rule.specs.declared.view.View.{View}
 use Rattle.clover_rule.proofs.Steps.{each_within}
 use Rattle.clover_rule.proofs.Snocs.{within_nth}
-use Rattle.clover_rule.proofs.Cuts.{cut_survives, cut_stands}
-use Rattle.clover_rule.proofs.Soundness.{cut_sound, cut_ends, bound_root as bound_key, spelled as spelled_key}
+use Rattle.clover_rule.proofs.Cuts.{last_lost, untold, legal_left, cut_stands}
+use Rattle.clover_rule.proofs.Rested.{cut_ages, cut_rested}
+use Rattle.clover_rule.proofs.Soundness.{cut_sound, cut_ends, bound_root as bound_key, spelled as spelled_key, chain_placed}
 use Rattle.clover_rule.proofs.Spelling.{one_key}
 use Rattle.clover_rule.proofs.Keys.{key_discrete}
 use Rattle.clover_rule.proofs.TaggedMaps.{legal_history}
@@ -48,7 +54,7 @@ module _ (p : Pool) (first : Tagged) (used ws : List ℕ) (vs : List View) (st :
     key = λ s k. either_guard (nat_lt s p.slots && nat_lt k 32) (λ (n : ℕ). n) _ _ _ 0 (λ e. let q = both (nat_lt s p.slots) (nat_lt k 32) e in cut.copies (Key s k) (below s p.slots q.0, below k 32 q.1) tt);
   }
 
-  decoded : ImageDecodes p im
+  decoded : (w : Word) → IsWithin p w → HasSide w Flushed → IsCode w (slice_index im (place p w))
   decoded w hw hs = ⊎_elim (λ e. subst (IsCode w) (sym e) (r.decodes w Current hw (has_current w))) (λ e. subst (IsCode w) (sym e) (r.decodes w Flushed hw hs)) (cut.copies w hw hs)
 
   abbrev sound : Sound p i
@@ -57,8 +63,8 @@ module _ (p : Pool) (first : Tagged) (used ws : List ℕ) (vs : List View) (st :
   abbrev rest : List Entry
   rest = kept (missing st i) h
 
-  abbrev survives : Survives (shows first) used (λ (x : ℕ). (s : ℕ) × Durable st s x) h rest
-  survives = cut_survives m st r.whole.basis.core i is (shows first) used h r.whole.basis.tale
+  legal_rest : Legal (shows first) used rest
+  legal_rest = legal_left m st r.whole.basis.core i is (shows first) used h r.whole.basis.tale
 
   told_durable : (t : ℕ) → IsKnownDurable vs t → (s : ℕ) × Durable st s t
   told_durable t (v, w, (s, d)) = let x = within_nth v vs w in (s, each_within (λ (q : ℕ × ℕ). Durable st q.0 q.1) (s, t) v.pass.durable (r.whole.basis.views x.0 v x.1).durable d)
@@ -96,19 +102,65 @@ module _ (p : Pool) (first : Tagged) (used ws : List ℕ) (vs : List View) (st :
       no_root s q None e = e
       no_root s q (Some t) e = absurd (f s t e (spelled_key p (shows first) used m vs st h r.whole i is s k q))
 
+  -- a key at which something is left is one
+  valid_key : (k : List ℕ) → (leads (shows first) rest k ≡ None → ⊥) → IsKey k
+  valid_key k n = ⊎_elim (λ a. r.whole.help.keyed.valid a.0 k a.1) (λ g. absurd (n (reads.unbound k g))) (slot_of_key k)
+
+  -- a buffer outside of the pool reads as unlinked at generation 0
+  outside : (b : ℕ) → inside p b ≡ false → m.next b ≡ word 0 None
+  outside b e = guarded_out (inside p b) (next_of (copy_in p ws (NextOf (buffer_at b)) Current)) (word 0 None) e
+    where
+      guarded_out : (t : Bool) (x y : Next) → t ≡ false → guarded t x y ≡ y
+      guarded_out true x y e = absurd cc
+      guarded_out false x y e = refl
+
   after : AfterCut p first used vs h im
-  after = let l = legal_history first used rest survives.legal in record {
-    decodes = decoded;
-    sound = sound;
+  after = let l = legal_history first used rest legal_rest in record {
     rest = rest;
-    survived = record { lost = survives.lost; without = survives.is; last = survives.last; untold = λ t e q. survives.untold t e (told_durable t q); legal = l.2 };
+    survives = record {
+      lost = missing st i;
+      without = refl;
+      last = last_lost m st r.whole.basis.core i is (shows first) used h r.whole.basis.tale;
+      untold = λ t e q. untold m st r.whole.basis.core i is (shows first) used h r.whole.basis.tale t e (told_durable t q);
+      legal = l.2;
+    };
     map = l.0;
     leads = l.1;
-    stands = record {
-      bound = λ s t k e ik sp. ap (λ (f : Map). f k) l.3 ∙ sym (cut_ends p (shows first) used m vs st h r.whole i is s t k e (key_of_slot s t k e ik sp));
-      unbound = λ k f. ap (λ (g : Map). g k) l.3 ∙ unspelled k f;
+    rests = record {
+      sound = record { decodes = decoded; reads = sound };
+      stands = record {
+        bound = λ s t k e ik sp. ap (λ (f : Map). f k) l.3 ∙ sym (cut_ends p (shows first) used m vs st h r.whole i is s t k e (key_of_slot s t k e ik sp));
+        unbound = λ k f. ap (λ (g : Map). g k) l.3 ∙ unspelled k f;
+        keys = λ k x e. valid_key k (λ z. absurd (let y = ap (λ (g : Map). g k) l.3 in cc (y, e, z)));
+      };
+      ages = cut_ages p (shows first) used m vs st h r.whole outside i is;
+      worn = cut_rested p (shows first) used m vs st h r.whole outside i is;
     };
   }
+
+-- an image has one chain from a link
+same_chain : (i : Image) (x : Option ℕ) (ts us : List ℕ) → Chain i x ts → Chain i x us → ts ≡ us
+same_chain i None [] [] c d = refl
+same_chain i None [] (u ∷ us) c d = absurd d
+same_chain i None (t ∷ ts) us c d = absurd c
+same_chain i (Some x) [] us c d = absurd c
+same_chain i (Some x) (t ∷ ts) [] c d = absurd d
+same_chain i (Some x) (t ∷ ts) (u ∷ us) c d = let q : t ≡ u = sym c.0 ∙ d.0 in
+    let z : ts ≡ us = same_chain i (link (i.next (home x))) ts us c.2 d.2 in cc
+
+place_within : (ts : List ℕ) (t : ℕ) → Within t ts → (i : ℕ) × (nth ts i ≡ Some t)
+place_within [] t w = absurd w
+place_within (u ∷ ts) t (inl e) = (0, ap Some e)
+place_within (u ∷ ts) t (inr w) = let q = place_within ts t w in (suc q.0, q.1)
+
+-- a buffer that stands on no slot's chain stands on no chain of an image of these words
+pub nowhere : (p : Pool) (first : Tagged) (used ws : List ℕ) (vs : List View) (st : Story) (h : List Entry) → Meets p first used ws vs st h → (b : ℕ) → ((s : ℕ) → st.place b ≢ Chained s)
+    → (im : List ℕ) → IsCut p ws im → (s : ℕ) (ts : List ℕ) → Chain (image_of p im) ((image_of p im).root s) ts → (t : ℕ) → Within t ts → home t ≢ b
+nowhere p first used ws vs st h r b off im cut s ts c t w e =
+    let i : Image = image_of p im in
+    let so : Sound p i = cut_sound p (shows first) used (mem_of p ws) vs st h r.whole i (is p first used ws vs st h r im cut) in
+    let q = place_within (so.chain s) t (subst (Within t) (same_chain i (i.root s) ts (so.chain s) c (so.walk s)) w) in
+    off s (ap st.place (sym e) ∙ chain_placed p (shows first) used (mem_of p ws) vs st h r.whole i (is p first used ws vs st h r im cut) s q.0 t q.1)
 
 pub cut_law : CutLaw
 cut_law p first used ws vs h im r cut = after p first used ws vs r.story h r.helped im cut

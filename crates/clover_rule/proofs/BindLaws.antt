@@ -1,20 +1,21 @@
 -- The laws of a binding's stores of the root, its flushed copy and the count.
-use Rattle.std.proofs.Common.{◌≡◌, ℕ, zero, suc, ◌+◌, ◌≤◌, ◌≢◌, ◌⊎◌, List, [], ◌∷◌, ◌++◌, length, append-nil, Bool, true, cond, leb, refl, sym, ap, ◌∙◌, inl, inr, ⊎_elim, arith, subst, eq-eqb, true≢false}
+use Rattle.std.proofs.Common.{◌≡◌, ℕ, zero, suc, ◌+◌, ◌≤◌, ◌≢◌, ◌⊎◌, List, [], ◌∷◌, ◌++◌, length, append-nil, Bool, true, cond, leb, refl, sym, ap, ◌∙◌, inl, inr, ⊎_elim, arith, subst, eq-eqb, true≢false, ne_eqb}
 use native.Mathlib.Decide.{ℕ_discrete}
 use mathlib.Core.Logic.{dite}
 use Rattle.std.specs.Prelude.{Option, Some, None}
 use Rattle.std.proofs.lemmas.List.{nil_from_length}
-use Rattle.clover_words.specs.Tag.{home, age}
+use Rattle.clover_words.specs.Tag.{home}
 use Rattle.clover_map.specs.declared.call.Entry.{Entry}
 use Rattle.clover_rule.specs.Content.{spelling, Fits, IsKey}
 use Rattle.clover_rule.specs.History.{Version, Map, commits, ends, at_key}
 use Rattle.clover_rule.specs.Lists.{nth, upd}
 use Rattle.clover_rule.specs.Memory.{gen, Mem}
-use Rattle.clover_rule.specs.Server.{Ready, IsStoring, Stage, Help, is_home, book_of, Serves, Whole, IsWhole}
-use Rattle.clover_rule.specs.ServerSteps.{BindRoot, server_after, served_view, ServerLaw}
-use Rattle.clover_rule.specs.Story.{Place, Chained, Story, tag_in_version, tag_at, Core, Tale, unsure}
-use Rattle.clover_rule.specs.Views.{book, Holds, Stands, Basis, renewed, book_at, root_at}
+use Rattle.clover_rule.specs.Server.{Ready, IsStoring, Stage, Help, is_home, book_of, Serves, Whole, or_else, root_in}
+use Rattle.clover_rule.specs.Learned.{root_bound}
+use Rattle.clover_rule.specs.Story.{Place, Chained, Story, tag_in_version, tag_at, Core, Tale, unsure, Stocked}
+use Rattle.clover_rule.specs.Views.{book, Holds, Stands, Basis, renewed, root_at}
 use Rattle.clover_rule.specs.declared.view.BufferState.TheVariants.{Bound as IsBound, Out as IsOut}
+use Rattle.clover_rule.specs.declared.view.NewBinding.{NewBinding}
 use Rattle.clover_rule.specs.declared.view.Role.TheVariants.{Serving}
 use Rattle.clover_rule.specs.declared.view.Task.TheVariants.{Storing, Rooted}
 use Rattle.clover_rule.specs.declared.view.View.{View}
@@ -24,7 +25,7 @@ use Rattle.clover_rule.proofs.Spelling.{dead_word}
 use Rattle.clover_rule.proofs.Tools.{upd_same, upd_else, nth_within}
 use Rattle.clover_rule.proofs.Standings.{tag_there, tag_within}
 use Rattle.clover_rule.proofs.Steps.{prefix_self, Grows, durable_kept}
-use Rattle.clover_rule.proofs.ServerTools.{core_copy, Moves, whole, book_same}
+use Rattle.clover_rule.proofs.ServerTools.{IsServed, same_known, core_copy, Moves, whole, book_same, no_stock}
 use Rattle.clover_rule.proofs.ServerLaws.{stage_at, serves_at}
 use Rattle.clover_rule.proofs.Binding.{CanBind, bound_story, bind_core, Case, here_tag, else_case, log_here, here_sure}
 use Rattle.clover_rule.proofs.Cuts.{unread_less, unsure_less}
@@ -34,7 +35,16 @@ pub unrooted : (m : Mem) (st : Story) (s : ℕ) → Core m st → length (st.log
 unrooted m st s c e = ⊎_elim (λ q. q ∙ ap (λ (ws : List Version). tag_in_version (nth ws (st.flead s))) (nil_from_length (st.log s) e)) (λ q. q.empty) (c.froot s)
 
 module _ (l : Pool) (m0 : Map) (used : List ℕ) (m : Mem) (vs : List View) (id : ℕ) (v : View) (st : Story) (h : List Entry) (w : Whole l m0 used m vs st h) (at : nth vs id ≡ Some v) (role : v.pass.role ≡ Serving)
-    (s : ℕ) (k : List ℕ) (t : ℕ) (e : v.server.task ≡ Storing s k t (2 + length (spelling k) + length (spelling k))) where
+    (bind : NewBinding) (e : v.server.task ≡ Storing bind (2 + length (spelling bind.key) + length (spelling bind.key))) where
+  abbrev s : ℕ
+  s = bind.slot
+
+  abbrev k : List ℕ
+  k = bind.key
+
+  abbrev t : ℕ
+  t = bind.tag
+
   abbrev n : ℕ
   n = 2 + length (spelling k) + length (spelling k)
 
@@ -44,13 +54,13 @@ module _ (l : Pool) (m0 : Map) (used : List ℕ) (m : Mem) (vs : List View) (id 
   r : Basis m0 used m vs st h
   r = w.basis
 
-  g : Stage l m st (Storing s k t n)
-  g = stage_at l m0 used m vs id v st h w at role (Storing s k t n) e
+  g : Stage l m st (Storing bind n)
+  g = stage_at l m0 used m vs id v st h w at role (Storing bind n) e
 
-  sv : Serves l m st (Storing s k t n) v.server
-  sv = serves_at l m0 used m vs id v st h w at role (Storing s k t n) e
+  sv : Serves l m st (Storing bind n) v.server
+  sv = serves_at l m0 used m vs id v st h w at role (Storing bind n) e
 
-  is : IsStoring l m st s k t n
+  is : IsStoring l m st bind n
   is = g.here
 
   bare : length (st.log s) ≡ 0
@@ -66,7 +76,7 @@ module _ (l : Pool) (m0 : Map) (used : List ℕ) (m : Mem) (vs : List View) (id 
   st0 = bound_story m st s x r.core can
 
   abbrev st1 : Story
-  st1 = record st0 { keys = upd st.keys s (Some k); first = upd st.first s (x ∷ []); task = Rooted s k t; slot_named = at_key st.slot_named k s }
+  st1 = record st0 { keys = upd st.keys s (Some k); first = upd st.first s (x ∷ []); task = Rooted bind; slot_named = at_key st.slot_named k s }
 
   log_now : st1.log s ≡ x ∷ []
   log_now = log_here m st s x r.core can ∙ ap (λ (ws : List Version). ws ++ x ∷ []) (nil_from_length (st.log s) bare)
@@ -174,6 +184,7 @@ module _ (l : Pool) (m0 : Map) (used : List ℕ) (m : Mem) (vs : List View) (id 
       found = λ s1 k1 q. ⊎_elim (λ d. rw (d.0, d.1) (at_key_same st.slot_named k s)) (λ d. at_key_else st.slot_named k k1 s (λ z. is.absent s1 (d.1 ∙ ap Some z)) ∙ a.found s1 k1 d.1) (bound_case s1 k1 q);
       listed = λ s1 k1 q f. ⊎_elim (λ d. absurd (true≢false (sym f ∙ ap st.named d.0 ∙ is.unnamed))) (λ d. a.listed s1 k1 d.1 f) (bound_case s1 k1 q);
       waiting = λ s1 k1 q f i y z. ⊎_elim (λ d. ap (λ (a1 : Version). a1.value) (sym d.2)) (λ d. ⊎_elim (λ c. absurd (d.0 c.0)) (λ c. a.waiting s1 k1 c.1 f i y d.1) (bound_case s1 k1 q)) (stands_case s1 i y z);
+      once = a.once;
     };
     stage = record {
       settled = λ s1 q. dite (ℕ_discrete s1 s) (λ d. (ap st1.lead d ∙ upd_same st.lead s 0 ∙ sym (ap st1.gone d ∙ upd_same st.gone s 0), ap st1.flead d ∙ upd_same st.flead s 0 ∙ sym (ap st1.gone d ∙ upd_same st.gone s 0)))
@@ -187,7 +198,7 @@ module _ (l : Pool) (m0 : Map) (used : List ℕ) (m : Mem) (vs : List View) (id 
 
   moves : Moves l m0 used m st h m1 st1
   moves = record {
-    core = core_copy (record m { root = upd m.root s (Some t) }) st0 (bind_core m st s x r.core can) m.body m.fbody m.key m.fkey m.short m.count st1.keys st1.first st.bindings (Rooted s k t) st1.slot_named;
+    core = core_copy (record m { root = upd m.root s (Some t) }) st0 (bind_core m st s x r.core can) m.body m.fbody m.key m.fkey m.short m.count st1.keys st1.first st.bindings (Rooted bind) st1.slot_named;
     tale = tale1;
     bodies = λ s1 i y q f. ⊎_elim (λ d. subst (Holds m1) d.2 holds_new) (λ d. r.bodies s1 i y d.1 (let z = (same s1 d.0).gone in omega arith)) (stands_case s1 i y q);
     spent = λ y q. ⊎_elim inl (λ a. inr (a.0, place_else (home y) (λ d. absurd (cc (ap st.place d, a.1, is.place))) ∙ a.1, a.2)) q;
@@ -199,29 +210,33 @@ module _ (l : Pool) (m0 : Map) (used : List ℕ) (m : Mem) (vs : List View) (id 
     fgens = λ b. omega arith;
   }
 
-  roots_now : (s1 : ℕ) → upd (root_at v.server) s (Some t) s1 ≡ tag_at st1 s1 (st1.gone s1)
-  roots_now s1 = dite (ℕ_discrete s1 s) (λ d. ap (upd (root_at v.server) s (Some t)) d ∙ upd_same (root_at v.server) s (Some t) ∙ sym (ap (λ (a : ℕ). tag_at st1 a (st1.gone a)) d ∙ ap (tag_at st1 s) (upd_same st.gone s 0) ∙ here_tag m st s x r.core can))
-      (λ d. upd_else (root_at v.server) s s1 (Some t) d ∙ sv.roots s1 ∙ sym (ap (tag_at st1 s1) (same s1 d).gone ∙ (same s1 d).tags (st.gone s1)))
+  -- the directory has no root of the slot yet
+  rootless : root_at v.server s ≡ None
+  rootless = sv.roots s ∙ none (nth (st.log s) (st.gone s)) refl
+    where
+      none : (o : Option Version) → nth (st.log s) (st.gone s) ≡ o → tag_in_version o ≡ None
+      none None e1 = refl
+      none (Some w1) e1 = let z = nth_within (st.log s) (st.gone s) w1 e1 in absurd (omega (arith, bare))
 
-  serves1 : Serves l m1 st1 (Rooted s k t) (server_after l (BindRoot s k t) v.server)
+  roots_now : (s1 : ℕ) → root_at v.server s1 ≡ root_in (Rooted bind) st1 s1
+  roots_now s1 = dite (ℕ_discrete s1 s) (λ d. ap (root_at v.server) d ∙ rootless ∙ sym (ap (λ (b : Bool). or_else (cond b (Some None) None) (tag_at st1 s1 (st1.gone s1))) (eq-eqb s s1 (sym d))))
+      (λ d. sv.roots s1 ∙ sym (ap (tag_at st1 s1) (same s1 d).gone ∙ (same s1 d).tags (st.gone s1)) ∙ sym (ap (λ (b : Bool). or_else (cond b (Some None) None) (tag_at st1 s1 (st1.gone s1))) (ne_eqb s s1 (λ z. d (sym z)))))
+
+  serves1 : Serves l m1 st1 (Rooted bind) (root_bound v bind).server
   serves1 = record {
     task_is = refl;
     directory = ap (λ (a : List (ℕ × List ℕ)). a ++ (s, k) ∷ []) (sv.directory ∙ append-nil st.bindings);
     roots = roots_now;
     books = λ b i. dite (ℕ_discrete b (home t))
-        (λ d. ap (upd (book_at v.server) (home t) (book (age t) IsBound)) d ∙ upd_same (book_at v.server) (home t) (book (age t) IsBound)
-        ∙ sym (ap (λ (a : ℕ). book_of (Rooted s k t) st1 (st1.place a) (gen (m.next a)) a) d ∙ ap (λ (p : Place). book_of (Rooted s k t) st1 p (gen (m.next (home t))) (home t)) (upd_same st.place (home t) (Chained s))
-        ∙ ap (λ (a : Option ℕ). book (gen (m.next (home t))) (cond (is_home a (home t)) IsBound IsOut)) (ap (tag_at st1 s) (upd_same st.gone s 0) ∙ here_tag m st s x r.core can)
-        ∙ ap (λ (a : Bool). book (gen (m.next (home t))) (cond a IsBound IsOut)) (eq-eqb (home t) (home t) refl) ∙ ap (λ (a : ℕ). book a IsBound) (ap gen is.now)))
-        (λ d. upd_else (book_at v.server) (home t) b (book (age t) IsBound) d ∙ sv.books b i
-        ∙ sym (book_same (Storing s k t n) (Rooted s k t) st st1 (st.place b) (gen (m.next b)) b
-        (λ s1 q. ap (λ (a : Option ℕ). is_home a b) (let f : s1 ≢ s = λ z. let c = r.core.chained b s1 q in let c1 = tag_within st s1 c.0 c.1 c.2 in let c2 = bare in let c3 = ap (λ (a : ℕ). length (st.log a)) z in absurd (omega arith) in ap (tag_at st1 s1) (same s1 f).gone ∙ (same s1 f).tags (st.gone s1)))
+        (λ d. sv.books b i ∙ ap (λ (q : Place). book_of (Storing bind n) st q (gen (m.next b)) b) (ap st.place d ∙ is.place)
+        ∙ sym (ap (λ (p : Place). book_of (Rooted bind) st1 p (gen (m.next b)) b) (ap st1.place d ∙ upd_same st.place (home t) (Chained s))
+        ∙ ap (λ (c : Bool). book (gen (m.next b)) (cond (is_home (or_else (cond c (Some None) None) (tag_at st1 s (st1.gone s))) b) IsBound IsOut)) (eq-eqb s s refl)))
+        (λ d. sv.books b i
+        ∙ sym (book_same (Storing bind n) (Rooted bind) st st1 (st.place b) (gen (m.next b)) b
+        (λ s1 q. ap (λ (a : Option ℕ). is_home a b) (let f : s1 ≢ s = λ z. let c = r.core.chained b s1 q in let c1 = tag_within st s1 c.0 c.1 c.2 in let c2 = bare in let c3 = ap (λ (a : ℕ). length (st.log a)) z in absurd (omega arith) in ap (λ (y : Bool). or_else (cond y (Some None) None) (tag_at st1 s1 (st1.gone s1))) (ne_eqb s s1 (λ z. f (sym z))) ∙ ap (tag_at st1 s1) (same s1 f).gone ∙ (same s1 f).tags (st.gone s1)))
         (λ q. absurd (d (let z : Some (home t) ≡ Some b = g.holds b q in cc))))
-        ∙ sym (ap (λ (p : Place). book_of (Rooted s k t) st1 p (gen (m.next b)) b) (place_else b d)));
+        ∙ sym (ap (λ (p : Place). book_of (Rooted bind) st1 p (gen (m.next b)) b) (place_else b d)));
   }
 
-  pub bind_root_whole : IsWhole l m0 used m1 (renewed vs id (served_view l (BindRoot s k t) v))
-  bind_root_whole = (st1, h, whole l m0 used m vs st h w id v at role (BindRoot s k t) m1 st1 moves serves1)
-
-pub bind_root_law : (l : Pool) (s : ℕ) (k : List ℕ) (t : ℕ) → ServerLaw l (BindRoot s k t)
-bind_root_law l s k t m0 used m vs id v (st, h, w) at role e = bind_root_whole l m0 used m vs id v st h w at role s k t e
+  pub bind_root_whole : IsServed l m0 used m1 (renewed vs id (root_bound v bind)) st h
+  bind_root_whole = (st1, whole l m0 used m vs st h w id v at role (root_bound v bind) refl refl refl m1 st1 moves (same_known m1 st1 h id v (root_bound v bind).server) serves1, no_stock st.place (home t) (Chained s) (λ i z. absurd (let y : Chained s ≡ Stocked i = z in cc)))

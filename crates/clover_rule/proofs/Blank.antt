@@ -95,13 +95,13 @@ module _ (l : Pool) (im : Image) (sound : Sound l im) (m0 : Map) (used : List �
     books = λ b i. lines_here (λ (x : ℕ). book_of Idle st (st.place x) (gen (m.next x)) x) (l.nodes * 65536) b (inside_below l b i);
   }
 
-abbrev blank_image : Image
+abbrev pub blank_image : Image
 blank_image = record { next = λ (b : ℕ). word 0 None; root = λ (s : ℕ). None; body = λ (b j : ℕ). 0; key = λ (s j : ℕ). 0 }
 
-abbrev blank_mem : Mem
+abbrev pub blank_mem : Mem
 blank_mem = record { next = λ (b : ℕ). word 0 None; fnext = λ (b : ℕ). word 0 None; body = λ (b j : ℕ). 0; fbody = λ (b j : ℕ). 0; root = λ (s : ℕ). None; froot = λ (s : ℕ). None; short = λ (s : ℕ). None; count = 0; key = λ (s j : ℕ). 0; fkey = λ (s j : ℕ). 0 }
 
-blank_sound : (l : Pool) → Sound l blank_image
+unfoldable pub blank_sound : (l : Pool) → Sound l blank_image
 blank_sound l = record {
   own = λ b. omega arith;
   target = λ b t e. absurd cc;
@@ -116,7 +116,7 @@ blank_sound l = record {
   inside = λ s t e. absurd cc;
 }
 
-blank_opens : (l : Pool) → Opens l blank_image (blank_sound l) (λ (k : List ℕ). None) [] blank_mem
+unfoldable pub blank_opens : (l : Pool) → Opens l blank_image (blank_sound l) (λ (k : List ℕ). None) [] blank_mem
 unfolding blank_sound
 blank_opens l = record {
   next = λ b. (refl, refl);
@@ -135,6 +135,7 @@ blank_opens l = record {
   bindings = [];
   listed = λ s k e. absurd cc;
   bound = λ s k e. absurd e;
+  once = λ i j s k k1 e f. absurd cc;
   count = refl;
   slot_named = λ k. 0;
   found = λ s k e. absurd cc;

@@ -60,7 +60,7 @@ module _ (l : Pool) (m0 : Map) (used : List ℕ) (m : Mem) (vs : List View) (st 
       record {
         ranged = let a = p.ranged in record { tags = a.tags; own = a.own; below = a.below; ready = a.ready; worn = a.worn; fits = a.fits };
         keyed = let a = p.keyed in record { valid = a.valid; current = a.current; flushed = a.flushed; bare = a.bare; nameless = a.nameless; filled = a.filled; slots = a.slots };
-        naming = let a = p.naming in record { counted = a.counted; found = a.found; listed = a.listed; waiting = a.waiting };
+        naming = let a = p.naming in record { counted = a.counted; found = a.found; listed = a.listed; waiting = a.waiting; once = a.once };
         stage = record { settled = p.stage.settled; holds = p.stage.holds; names = p.stage.names; here = here st.task p.stage.here };
         short = λ s1 y q. dite (ℕ_discrete s1 s) (λ z. let f : t ≡ y = let f1 : Some t ≡ Some y = sym (ap (upd m.short s (Some t)) z ∙ upd_same m.short s (Some t)) ∙ q in cc in
             rw (z, ← f) (each_within (λ (a : ℕ × ℕ). Durable st a.0 a.1) (s, t) v.pass.durable (r.views id v at).durable d)) (λ z. p.short s1 y (sym (upd_else m.short s s1 (Some t) z) ∙ q));
@@ -71,11 +71,11 @@ module _ (l : Pool) (m0 : Map) (used : List ℕ) (m : Mem) (vs : List View) (st 
 
       here : (T : Task) → AtStage l m st T → AtStage l (record m { short = upd m.short s (Some t) }) st T
       here Idle a = tt
-      here (Storing s1 k1 t1 n1) a = record { place = a.place; now = a.now; safe = a.safe; range = a.range; slot = a.slot; bare = a.bare; unnamed = a.unnamed; absent = a.absent; valid = a.valid; body = a.body; fbody = a.fbody; key = a.key; fkey = a.fkey }
-      here (Rooted s1 k1 t1) a = (record { key = a.0.key; unnamed = a.0.unnamed; alone = a.0.alone; tag = a.0.tag; gone = a.0.gone }, a.1)
-      here (Waiting s1 k1 t1) a = (record { key = a.0.key; unnamed = a.0.unnamed; alone = a.0.alone; tag = a.0.tag; gone = a.0.gone }, a.1)
-      here (Loaded s1 r1 t1) a = a
-      here (Raised s1 r1 t1) a = a
-      here (Led s1 r1 t1) a = a
-      here (Both s1 r1 t1) a = a
-      here (Exchanged s1 r1 t1) a = record { place = a.place; now = a.now; safe = a.safe; root = a.root; old = a.old; inside = a.inside; young = a.young }
+      here (Storing bind n1) a = record { place = a.place; now = a.now; safe = a.safe; range = a.range; slot = a.slot; bare = a.bare; unnamed = a.unnamed; absent = a.absent; valid = a.valid; body = a.body; fbody = a.fbody; key = a.key; fkey = a.fkey }
+      here (Rooted bind) a = (record { key = a.0.key; unnamed = a.0.unnamed; alone = a.0.alone; tag = a.0.tag; gone = a.0.gone }, a.1)
+      here (Waiting bind) a = (record { key = a.0.key; unnamed = a.0.unnamed; alone = a.0.alone; tag = a.0.tag; gone = a.0.gone }, a.1)
+      here (Loaded cycle) a = a
+      here (Raised cycle) a = a
+      here (Led cycle) a = a
+      here (Both cycle) a = a
+      here (Exchanged cycle) a = record { place = a.place; now = a.now; safe = a.safe; root = a.root; old = a.old; body = a.body; inside = a.inside; young = a.young }

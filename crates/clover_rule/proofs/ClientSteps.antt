@@ -10,12 +10,14 @@ use Rattle.clover_rule.specs.Content.{InRange, Fits}
 use Rattle.clover_rule.specs.History.{Version, Map, used_by}
 use Rattle.clover_rule.specs.Lists.{Each, nth, Within}
 use Rattle.clover_rule.specs.Memory.{word, gen, Mem, greater}
-use Rattle.clover_rule.specs.Server.{Ready, IsWaiting, IsRecycling, AtStage, Help, root_in, is_home, book_of, Serves, Whole}
+use Rattle.clover_rule.specs.Server.{Ready, IsWaiting, IsRecycling, AtStage, Help, lagging, or_else, root_in, is_home, book_of, Serves, Whole}
 use Rattle.clover_rule.specs.Story.{Place, Chained, Taken, Story, tag_at, Core}
 use Rattle.clover_rule.specs.Views.{book, Basis, renewed}
 use Rattle.clover_rule.specs.declared.view.BufferState.TheVariants.{Bound as IsBound, Out as IsOut}
 use Rattle.clover_rule.specs.declared.view.Role.TheVariants.{Client, Serving}
 use Rattle.clover_rule.specs.declared.view.Server.{Server}
+use Rattle.clover_rule.specs.declared.view.NewBinding.{NewBinding}
+use Rattle.clover_rule.specs.declared.view.Recycling.{Recycling}
 use Rattle.clover_rule.specs.declared.view.Task.{Task}
 use Rattle.clover_rule.specs.declared.view.Task.TheVariants.{Idle, Storing, Rooted, Waiting, Loaded, Raised, Led, Both, Exchanged}
 use Rattle.clover_rule.specs.declared.view.View.{View}
@@ -88,30 +90,31 @@ module _ (l : Pool) (m : Mem) (st : Story) (c : Core m st) (p : Help l m st) (s 
   unnamed_else : (s1 : ℕ) → st.named s1 ≡ false → s1 ≢ s
   unnamed_else s1 f q = true≢false (sym can.named ∙ ap st.named (sym q) ∙ f)
 
-  recycling_kept : (s1 r1 t1 : ℕ) → IsRecycling st s1 r1 t1 → IsRecycling st' s1 r1 t1
-  recycling_kept s1 r1 t1 a = record { root = tag_keeps s1 (st.gone s1) r1 a.root; next = tag_keeps s1 (suc (st.gone s1)) t1 a.next }
+  recycling_kept : (cycle : Recycling) → IsRecycling st cycle → IsRecycling st' cycle
+  recycling_kept cycle a = record { root = tag_keeps cycle.slot (st.gone cycle.slot) cycle.root a.root; next = tag_keeps cycle.slot (suc (st.gone cycle.slot)) cycle.next a.next }
     where
       tag_keeps : (s1 j y : ℕ) → tag_at st s1 j ≡ Some y → tag_at st' s1 j ≡ Some y
       tag_keeps s1 j y e = tag_else st s x s1 j (λ d q. let a1 = tag_within st s1 j y e in let a2 = ap (λ (z : ℕ). length (st.log z)) d in absurd (omega arith)) ∙ e
 
-  waiting_kept : (s1 : ℕ) (k1 : List ℕ) (t1 : ℕ) → IsWaiting m st s1 k1 t1 → IsWaiting m' st' s1 k1 t1
-  waiting_kept s1 k1 t1 a = let d = unnamed_else s1 a.unnamed in record { key = a.key; unnamed = a.unnamed; alone = ap length (log_else s1 d) ∙ a.alone; tag = tag_else st s x s1 0 (λ z. absurd (d z)) ∙ a.tag; gone = a.gone }
+  waiting_kept : (bind : NewBinding) → IsWaiting m st bind → IsWaiting m' st' bind
+  waiting_kept bind a = let d = unnamed_else bind.slot a.unnamed in record { key = a.key; unnamed = a.unnamed; alone = ap length (log_else bind.slot d) ∙ a.alone; tag = tag_else st s x bind.slot 0 (λ z. absurd (d z)) ∙ a.tag; gone = a.gone }
 
   here_kept : (T : Task) → AtStage l m st T → AtStage l m' st' T
   here_kept Idle a = tt
-  here_kept (Storing s1 k1 t1 n1) a = record { place = held_place (home t1) a.place; now = held_next (home t1) a.place ∙ a.now; safe = a.safe; range = a.range; slot = a.slot; bare = a.bare; unnamed = a.unnamed; absent = a.absent; valid = a.valid; body = a.body; fbody = a.fbody; key = a.key; fkey = a.fkey }
-  here_kept (Rooted s1 k1 t1) a = (waiting_kept s1 k1 t1 a.0, a.1)
-  here_kept (Waiting s1 k1 t1) a = (waiting_kept s1 k1 t1 a.0, a.1)
-  here_kept (Loaded s1 r1 t1) a = recycling_kept s1 r1 t1 a
-  here_kept (Raised s1 r1 t1) a = (recycling_kept s1 r1 t1 a.0, a.1)
-  here_kept (Led s1 r1 t1) a = (recycling_kept s1 r1 t1 a.0, a.1, a.2, a.3)
-  here_kept (Both s1 r1 t1) a = (recycling_kept s1 r1 t1 a.0, a.1, a.2, a.3)
-  here_kept (Exchanged s1 r1 t1) a = record {
-    place = held_place (home r1) a.place;
-    now = held_next (home r1) a.place ∙ a.now;
+  here_kept (Storing bind n1) a = record { place = held_place (home bind.tag) a.place; now = held_next (home bind.tag) a.place ∙ a.now; safe = a.safe; range = a.range; slot = a.slot; bare = a.bare; unnamed = a.unnamed; absent = a.absent; valid = a.valid; body = a.body; fbody = a.fbody; key = a.key; fkey = a.fkey }
+  here_kept (Rooted bind) a = (waiting_kept bind a.0, a.1)
+  here_kept (Waiting bind) a = (waiting_kept bind a.0, a.1)
+  here_kept (Loaded cycle) a = recycling_kept cycle a
+  here_kept (Raised cycle) a = (recycling_kept cycle a.0, a.1)
+  here_kept (Led cycle) a = (recycling_kept cycle a.0, a.1, a.2, a.3)
+  here_kept (Both cycle) a = (recycling_kept cycle a.0, a.1, a.2, a.3)
+  here_kept (Exchanged cycle) a = record {
+    place = held_place (home cycle.root) a.place;
+    now = held_next (home cycle.root) a.place ∙ a.now;
     safe = a.safe;
-    root = tag_else st s x s1 (st.gone s1) (λ d q. let a1 = tag_within st s1 (st.gone s1) t1 a.root in let a2 = ap (λ (z : ℕ). length (st.log z)) d in absurd (omega arith)) ∙ a.root;
-    old = (a.old.0, a.old.1, tag_else st s x s1 a.old.0 (λ d q. let a1 = tag_within st s1 a.old.0 r1 a.old.2 in let a2 = ap (λ (z : ℕ). length (st.log z)) d in absurd (omega arith)) ∙ a.old.2);
+    root = tag_else st s x cycle.slot (st.gone cycle.slot) (λ d q. let a1 = tag_within st cycle.slot (st.gone cycle.slot) cycle.next a.root in let a2 = ap (λ (z : ℕ). length (st.log z)) d in absurd (omega arith)) ∙ a.root;
+    old = (a.old.0, a.old.1, tag_else st s x cycle.slot a.old.0 (λ d q. let a1 = tag_within st cycle.slot a.old.0 cycle.root a.old.2 in let a2 = ap (λ (z : ℕ). length (st.log z)) d in absurd (omega arith)) ∙ a.old.2);
+    body = (a.body.0, g.versions cycle.slot a.old.0 a.body.0 a.body.1, a.body.2);
     inside = a.inside;
     young = a.young;
   }
@@ -142,6 +145,7 @@ module _ (l : Pool) (m : Mem) (st : Story) (c : Core m st) (p : Help l m st) (s 
       found = a.found;
       listed = a.listed;
       waiting = λ s1 k1 q f i1 y e. a.waiting s1 k1 q f i1 y (sym (ap (λ (ws : List Version). nth ws i1) (log_else s1 (unnamed_else s1 f))) ∙ e);
+      once = a.once;
     };
     stage = record {
       settled = p.stage.settled;
@@ -157,21 +161,10 @@ module _ (l : Pool) (m : Mem) (st : Story) (c : Core m st) (p : Help l m st) (s 
       go s1 i1 y (new a b d) = rw d own_range
 
   roots_kept : (T : Task) (s1 : ℕ) → root_in T st' s1 ≡ root_in T st s1
-  roots_kept T s1 = by T
+  roots_kept T s1 = ap (or_else (lagging T s1)) gone_kept
     where
       gone_kept : tag_at st' s1 (st.gone s1) ≡ tag_at st s1 (st.gone s1)
       gone_kept = tag_else st s x s1 (st.gone s1) (λ d q. let a1 = tag_within st s i u can.tail in let a2 = u_stands m st s u i k x c can in let a3 = ap st.gone d in absurd (omega arith))
-
-      by : (T : Task) → root_in T st' s1 ≡ root_in T st s1
-      by Idle = gone_kept
-      by (Storing s2 k2 t2 n2) = gone_kept
-      by (Rooted s2 k2 t2) = gone_kept
-      by (Waiting s2 k2 t2) = gone_kept
-      by (Loaded s2 k2 t2) = gone_kept
-      by (Raised s2 k2 t2) = gone_kept
-      by (Led s2 k2 t2) = gone_kept
-      by (Both s2 k2 t2) = gone_kept
-      by (Exchanged s2 r2 t2) = ap (cond (eqb s2 s1) (Some r2)) gone_kept
 
   -- the linked buffer is no slot's root
   not_root : (T : Task) → AtStage l m st T → is_home (root_in T st s) (home t) ≡ false
@@ -187,20 +180,24 @@ module _ (l : Pool) (m : Mem) (st : Story) (c : Core m st) (p : Help l m st) (s 
       still : is_home (tag_at st s (st.gone s)) (home t) ≡ false
       still = root_away (tag_at st s (st.gone s)) refl
 
+      none_or : (b : Bool) → is_home (or_else (cond b (Some None) None) (tag_at st s (st.gone s))) (home t) ≡ false
+      none_or true = refl
+      none_or false = still
+
       by : (T : Task) → AtStage l m st T → is_home (root_in T st s) (home t) ≡ false
       by Idle a = still
-      by (Storing s2 k2 t2 n2) a = still
-      by (Rooted s2 k2 t2) a = still
-      by (Waiting s2 k2 t2) a = still
-      by (Loaded s2 k2 t2) a = still
-      by (Raised s2 k2 t2) a = still
-      by (Led s2 k2 t2) a = still
-      by (Both s2 k2 t2) a = still
-      by (Exchanged s2 r2 t2) a = pick (eqb s2 s)
+      by (Storing bind n2) a = still
+      by (Rooted bind) a = none_or (eqb bind.slot s)
+      by (Waiting bind) a = none_or (eqb bind.slot s)
+      by (Loaded cycle) a = still
+      by (Raised cycle) a = still
+      by (Led cycle) a = still
+      by (Both cycle) a = still
+      by (Exchanged cycle) a = pick (eqb cycle.slot s)
         where
-          pick : (b : Bool) → is_home (cond b (Some r2) (tag_at st s (st.gone s))) (home t) ≡ false
+          pick : (b : Bool) → is_home (or_else (cond b (Some (Some cycle.root)) None) (tag_at st s (st.gone s))) (home t) ≡ false
           pick false = still
-          pick true = ne_eqb (home r2) (home t) (λ q. absurd (cc (ap st.place q, a.place, can.stocked)))
+          pick true = ne_eqb (home cycle.root) (home t) (λ q. absurd (cc (ap st.place q, a.place, can.stocked)))
 
   pub link_serves : (sv : Server) → Serves l m st st.task sv → Serves l m' st' st.task sv
   link_serves sv e = record {
@@ -214,18 +211,7 @@ module _ (l : Pool) (m : Mem) (st : Story) (c : Core m st) (p : Help l m st) (s 
   }
     where
       held_same : (T : Task) (b y : ℕ) (q : Place) → book_of T st' q y b ≡ book_of T st q y b
-      held_same T b y q = book_same T T st st' q y b (λ s1 z. ap (λ (o : Option ℕ). is_home o b) (roots_kept T s1)) (λ z. same_held T)
-        where
-          same_held : (T : Task) → book_of T st' Taken y b ≡ book_of T st Taken y b
-          same_held Idle = refl
-          same_held (Storing s2 k2 t2 n2) = refl
-          same_held (Rooted s2 k2 t2) = refl
-          same_held (Waiting s2 k2 t2) = refl
-          same_held (Loaded s2 k2 t2) = refl
-          same_held (Raised s2 k2 t2) = refl
-          same_held (Led s2 k2 t2) = refl
-          same_held (Both s2 k2 t2) = refl
-          same_held (Exchanged s2 r2 t2) = refl
+      held_same T b y q = book_same T T st st' q y b (λ s1 z. ap (λ (o : Option ℕ). is_home o b) (roots_kept T s1)) (λ z. refl)
 
 -- the helping facts after a raise over a link of a slot's log
 module _ (l : Pool) (m : Mem) (st : Story) (c : Core m st) (p : Help l m st) (s i u t : ℕ) (can : CanRaise m st s i u t) (h : List Entry) (g : Grows m st h (raised_mem m u t) (raised_story st s i) h) where
@@ -254,14 +240,14 @@ module _ (l : Pool) (m : Mem) (st : Story) (c : Core m st) (p : Help l m st) (s 
 
   raised_here : (T : Task) → AtStage l m st T → AtStage l mr sr T
   raised_here Idle a = tt
-  raised_here (Storing s1 k1 t1 n1) a = record { place = a.place; now = a.now; safe = held_off (home t1) a.place ∙ a.safe; range = a.range; slot = a.slot; bare = a.bare; unnamed = a.unnamed; absent = a.absent; valid = a.valid; body = a.body; fbody = a.fbody; key = a.key; fkey = a.fkey }
-  raised_here (Rooted s1 k1 t1) a = (record { key = a.0.key; unnamed = a.0.unnamed; alone = a.0.alone; tag = a.0.tag; gone = a.0.gone }, a.1)
-  raised_here (Waiting s1 k1 t1) a = (record { key = a.0.key; unnamed = a.0.unnamed; alone = a.0.alone; tag = a.0.tag; gone = a.0.gone }, a.1)
-  raised_here (Loaded s1 r1 t1) a = record { root = a.root; next = a.next }
-  raised_here (Raised s1 r1 t1) a = (record { root = a.0.root; next = a.0.next }, more_sure s1 (suc (st.gone s1)) a.1)
-  raised_here (Led s1 r1 t1) a = (record { root = a.0.root; next = a.0.next }, more_sure s1 (suc (st.gone s1)) a.1, a.2, a.3)
-  raised_here (Both s1 r1 t1) a = (record { root = a.0.root; next = a.0.next }, more_sure s1 (suc (st.gone s1)) a.1, a.2, a.3)
-  raised_here (Exchanged s1 r1 t1) a = record { place = a.place; now = a.now; safe = held_off (home r1) a.place ∙ a.safe; root = a.root; old = a.old; inside = a.inside; young = a.young }
+  raised_here (Storing bind n1) a = record { place = a.place; now = a.now; safe = held_off (home bind.tag) a.place ∙ a.safe; range = a.range; slot = a.slot; bare = a.bare; unnamed = a.unnamed; absent = a.absent; valid = a.valid; body = a.body; fbody = a.fbody; key = a.key; fkey = a.fkey }
+  raised_here (Rooted bind) a = (record { key = a.0.key; unnamed = a.0.unnamed; alone = a.0.alone; tag = a.0.tag; gone = a.0.gone }, a.1)
+  raised_here (Waiting bind) a = (record { key = a.0.key; unnamed = a.0.unnamed; alone = a.0.alone; tag = a.0.tag; gone = a.0.gone }, a.1)
+  raised_here (Loaded cycle) a = record { root = a.root; next = a.next }
+  raised_here (Raised cycle) a = (record { root = a.0.root; next = a.0.next }, more_sure cycle.slot (suc (st.gone cycle.slot)) a.1)
+  raised_here (Led cycle) a = (record { root = a.0.root; next = a.0.next }, more_sure cycle.slot (suc (st.gone cycle.slot)) a.1, a.2, a.3)
+  raised_here (Both cycle) a = (record { root = a.0.root; next = a.0.next }, more_sure cycle.slot (suc (st.gone cycle.slot)) a.1, a.2, a.3)
+  raised_here (Exchanged cycle) a = record { place = a.place; now = a.now; safe = held_off (home cycle.root) a.place ∙ a.safe; root = a.root; old = a.old; body = a.body; inside = a.inside; young = a.young }
 
   pub raise_help : Help l mr sr
   raise_help = record {
@@ -275,7 +261,7 @@ module _ (l : Pool) (m : Mem) (st : Story) (c : Core m st) (p : Help l m st) (s 
           (λ d. let z = ap gen (upd_else m.fnext (home u) b (greater (m.fnext (home u)) (word (age u) (Some t))) d) in let z1 = a.below b in omega arith);
     };
     keyed = let a = p.keyed in record { valid = a.valid; current = a.current; flushed = a.flushed; bare = a.bare; nameless = a.nameless; filled = a.filled; slots = a.slots };
-    naming = let a = p.naming in record { counted = a.counted; found = a.found; listed = a.listed; waiting = a.waiting };
+    naming = let a = p.naming in record { counted = a.counted; found = a.found; listed = a.listed; waiting = a.waiting; once = a.once };
     stage = record { settled = p.stage.settled; holds = p.stage.holds; names = p.stage.names; here = raised_here st.task p.stage.here };
     short = λ s1 y q. durable_kept m st h mr sr h g s1 y (p.short s1 y q);
   }
@@ -284,28 +270,6 @@ module _ (l : Pool) (m : Mem) (st : Story) (c : Core m st) (p : Help l m st) (s 
   raise_serves sv e = record {
     task_is = e.task_is;
     directory = e.directory;
-    roots = λ s1. e.roots s1 ∙ roots_same st.task s1;
-    books = λ b j. e.books b j ∙ book_same st.task st.task sr st (st.place b) (gen (m.next b)) b (λ s1 q. ap (λ (o : Option ℕ). is_home o b) (roots_same st.task s1)) (λ q. held_same st.task (gen (m.next b)) b);
+    roots = e.roots;
+    books = λ b j. e.books b j ∙ book_same st.task st.task sr st (st.place b) (gen (m.next b)) b (λ s1 q. refl) (λ q. refl);
   }
-    where
-      roots_same : (T : Task) (s1 : ℕ) → root_in T st s1 ≡ root_in T sr s1
-      roots_same Idle s1 = refl
-      roots_same (Storing s2 k2 t2 n2) s1 = refl
-      roots_same (Rooted s2 k2 t2) s1 = refl
-      roots_same (Waiting s2 k2 t2) s1 = refl
-      roots_same (Loaded s2 k2 t2) s1 = refl
-      roots_same (Raised s2 k2 t2) s1 = refl
-      roots_same (Led s2 k2 t2) s1 = refl
-      roots_same (Both s2 k2 t2) s1 = refl
-      roots_same (Exchanged s2 r2 t2) s1 = refl
-
-      held_same : (T : Task) (y b : ℕ) → book_of T st Taken y b ≡ book_of T sr Taken y b
-      held_same Idle y b = refl
-      held_same (Storing s2 k2 t2 n2) y b = refl
-      held_same (Rooted s2 k2 t2) y b = refl
-      held_same (Waiting s2 k2 t2) y b = refl
-      held_same (Loaded s2 k2 t2) y b = refl
-      held_same (Raised s2 k2 t2) y b = refl
-      held_same (Led s2 k2 t2) y b = refl
-      held_same (Both s2 k2 t2) y b = refl
-      held_same (Exchanged s2 r2 t2) y b = refl

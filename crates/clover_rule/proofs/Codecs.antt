@@ -7,12 +7,12 @@ use Rattle.clover_words.specs.declared.word.Word.TheVariants.{Next as NextOf, Ro
 use Rattle.clover_words.specs.Place.{IsBuffer}
 use Rattle.clover_words.specs.Tag.{TagParts, IsTag, tag_number, home, age}
 use Rattle.clover_words.specs.Next.{NextParts, IsNext, IsLink, next_word, root_word, root_code}
+use Rattle.clover_words.proofs.Versions.{age_tag, buffer_tag}
 use Rattle.clover_rule.specs.Content.{InRange}
 use Rattle.clover_rule.specs.Memory.{word}
 use Rattle.clover_rule.specs.Told.{IsShown}
 use Rattle.clover_rule.specs.Words.{next_of, root_of, next_code}
 use Rattle.clover_words.proofs.Spellings.{tag_small}
-use Rattle.clover_words.proofs.Versions.{age_tag, buffer_tag}
 use Rattle.clover_rule.proofs.Ties.{next_again, root_again, buffer_in}
 use Rattle.clover_rule.proofs.Keeping.{inside_of}
 

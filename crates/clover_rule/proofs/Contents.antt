@@ -13,6 +13,7 @@ use Rattle.clover_rule.specs.Story.{Place, Chained, Stocked, Taken, Story, tag_i
 use Rattle.clover_rule.specs.Views.{find_book, book_at, book, Holds, Stands, Spent, Basis}
 use Rattle.clover_rule.specs.declared.view.BookLine.{BookLine}
 use Rattle.clover_rule.specs.declared.view.BufferState.TheVariants.{Out as IsOut}
+use Rattle.clover_rule.specs.declared.view.NewBinding.{NewBinding}
 use Rattle.clover_rule.specs.declared.view.Server.{Server}
 use Rattle.clover_rule.specs.declared.view.Task.{Task}
 use Rattle.clover_rule.specs.declared.view.Task.TheVariants.{Storing}
@@ -77,35 +78,35 @@ module _ (l : Pool) (m0 : Map) (used : List ℕ) (m : Mem) (vs : List View) (st 
           current = λ s k e j x q. ap (λ (f : ℕ → ℕ). f j) (key_else s k e) ∙ a.current s k e j x q;
           flushed = λ s k e j x q. ap (λ (f : ℕ → ℕ). f j) (fkey_else s k e) ∙ a.flushed s k e j x q;
         };
-        naming = let a = p.naming in record { counted = a.counted; found = a.found; listed = a.listed; waiting = a.waiting };
+        naming = let a = p.naming in record { counted = a.counted; found = a.found; listed = a.listed; waiting = a.waiting; once = a.once };
         stage = stage;
         short = p.short;
       };
       fgens = λ b. omega arith;
     }
 
-abbrev storing_story : Story → ℕ → List ℕ → ℕ → ℕ → Story
-storing_story st s k t n = record st { place = upd st.place (home t) Taken; task = Storing s k t n }
+abbrev storing_story : Story → NewBinding → ℕ → Story
+storing_story st bind n = record st { place = upd st.place (home bind.tag) Taken; task = Storing bind n }
 
 -- the stage of a binding after one of these stores
-pub storing_stage : (l : Pool) (m m' : Mem) (st : Story) (T : Task) (s : ℕ) (k : List ℕ) (t n : ℕ) → Stage l m st T → ((s1 : ℕ) → moving T ≢ Some s1) → unnamed T ≡ None → ((b : ℕ) → holding T ≡ Some b → b ≡ home t)
-    → IsStoring l m' (record st { place = upd st.place (home t) Taken; task = Storing s k t n }) s k t n → Stage l m' (record st { place = upd st.place (home t) Taken; task = Storing s k t n }) (Storing s k t n)
-storing_stage l m m' st T s k t n g mv un ho is = record {
+pub storing_stage : (l : Pool) (m m' : Mem) (st : Story) (T : Task) (bind : NewBinding) (n : ℕ) → Stage l m st T → ((s1 : ℕ) → moving T ≢ Some s1) → unnamed T ≡ None → ((b : ℕ) → holding T ≡ Some b → b ≡ home bind.tag)
+    → IsStoring l m' (record st { place = upd st.place (home bind.tag) Taken; task = Storing bind n }) bind n → Stage l m' (record st { place = upd st.place (home bind.tag) Taken; task = Storing bind n }) (Storing bind n)
+storing_stage l m m' st T bind n g mv un ho is = record {
   settled = λ s1 q. g.settled s1 (mv s1);
-  holds = λ b e. dite (ℕ_discrete b (home t)) (λ d. ap Some (sym d)) (λ d. absurd (d (ho b (g.holds b (sym (upd_else st.place (home t) b Taken d) ∙ e)))));
+  holds = λ b e. dite (ℕ_discrete b (home bind.tag)) (λ d. ap Some (sym d)) (λ d. absurd (d (ho b (g.holds b (sym (upd_else st.place (home bind.tag) b Taken d) ∙ e)))));
   names = λ s1 k1 e. ⊎_elim inl (λ q. absurd (cc (un, q))) (g.names s1 k1 e);
   here = is;
 }
 
 -- the books under a task that holds one buffer
-pub storing_serves : (l : Pool) (m m' : Mem) (st : Story) (T : Task) (s : ℕ) (k : List ℕ) (t n : ℕ) (sv : Server) → Serves l m st T sv → ((s1 : ℕ) → root_in T st s1 ≡ tag_at st s1 (st.gone s1)) → waiting_name T ≡ [] → ((b : ℕ) → st.place b ≡ Taken → b ≡ home t)
-    → ((b : ℕ) → m'.next b ≡ m.next b) → (books : List BookLine) → ((b : ℕ) → b ≢ home t → find_book books b ≡ book_at sv b) → (find_book books (home t) ≡ book (gen (m.next (home t))) IsOut)
-    → Serves l m' (record st { place = upd st.place (home t) Taken; task = Storing s k t n }) (Storing s k t n) (record sv { task = Storing s k t n; books = books })
-storing_serves l m m' st T s k t n sv e ro wa he nx books el now = record {
+pub storing_serves : (l : Pool) (m m' : Mem) (st : Story) (T : Task) (bind : NewBinding) (n : ℕ) (sv : Server) → Serves l m st T sv → ((s1 : ℕ) → root_in T st s1 ≡ tag_at st s1 (st.gone s1)) → waiting_name T ≡ [] → ((b : ℕ) → st.place b ≡ Taken → b ≡ home bind.tag)
+    → ((b : ℕ) → m'.next b ≡ m.next b) → (books : List BookLine) → ((b : ℕ) → b ≢ home bind.tag → find_book books b ≡ book_at sv b) → (find_book books (home bind.tag) ≡ book (gen (m.next (home bind.tag))) IsOut)
+    → Serves l m' (record st { place = upd st.place (home bind.tag) Taken; task = Storing bind n }) (Storing bind n) (record sv { task = Storing bind n; books = books })
+storing_serves l m m' st T bind n sv e ro wa he nx books el now = record {
   task_is = refl;
   directory = e.directory ∙ ap (λ (x : List (ℕ × List ℕ)). st.bindings ++ x) wa;
   roots = λ s1. e.roots s1 ∙ ro s1;
-  books = λ b i. dite (ℕ_discrete b (home t))
-      (λ d. ap (find_book books) d ∙ now ∙ ap (λ (x : ℕ). book x IsOut) (sym (ap gen (ap m'.next d ∙ nx (home t)))) ∙ sym (ap (λ (p : Place). book_of (Storing s k t n) (storing_story st s k t n) p (gen (m'.next b)) b) (ap (storing_story st s k t n).place d ∙ upd_same st.place (home t) Taken)))
-      (λ d. el b d ∙ e.books b i ∙ sym (ap (λ (g : ℕ). book_of T st (st.place b) g b) (ap gen (nx b))) ∙ sym (book_same T (Storing s k t n) st (storing_story st s k t n) (st.place b) (gen (m'.next b)) b (λ s1 q. ap (λ (x : Option ℕ). is_home x b) (sym (ro s1))) (λ q. absurd (d (he b q)))) ∙ sym (ap (λ (p : Place). book_of (Storing s k t n) (storing_story st s k t n) p (gen (m'.next b)) b) (upd_else st.place (home t) b Taken d)));
+  books = λ b i. dite (ℕ_discrete b (home bind.tag))
+      (λ d. ap (find_book books) d ∙ now ∙ ap (λ (x : ℕ). book x IsOut) (sym (ap gen (ap m'.next d ∙ nx (home bind.tag)))) ∙ sym (ap (λ (p : Place). book_of (Storing bind n) (storing_story st bind n) p (gen (m'.next b)) b) (ap (storing_story st bind n).place d ∙ upd_same st.place (home bind.tag) Taken)))
+      (λ d. el b d ∙ e.books b i ∙ sym (ap (λ (g : ℕ). book_of T st (st.place b) g b) (ap gen (nx b))) ∙ sym (book_same T (Storing bind n) st (storing_story st bind n) (st.place b) (gen (m'.next b)) b (λ s1 q. ap (λ (x : Option ℕ). is_home x b) (sym (ro s1))) (λ q. absurd (d (he b q)))) ∙ sym (ap (λ (p : Place). book_of (Storing bind n) (storing_story st bind n) p (gen (m'.next b)) b) (upd_else st.place (home bind.tag) b Taken d)));
 }

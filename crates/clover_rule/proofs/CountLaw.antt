@@ -51,15 +51,15 @@ module _ (l : Pool) (m0 : Map) (used : List ℕ) (m : Mem) (vs : List View) (st 
 
   -- where the key is being bound, its slot has the tombstone alone, which is durable
   alone : (T : Task) → Stage l m st T → (s : ℕ) → unnamed T ≡ Some s → length (st.log s) ≡ 1
-  alone (Rooted s k1 t) g s1 e = let q : s ≡ s1 = cc in ap (λ (j : ℕ). length (st.log j)) (sym q) ∙ g.here.0.alone
-  alone (Waiting s k1 t) g s1 e = let q : s ≡ s1 = cc in ap (λ (j : ℕ). length (st.log j)) (sym q) ∙ g.here.0.alone
+  alone (Rooted bind) g s1 e = let q : bind.slot ≡ s1 = cc in ap (λ (j : ℕ). length (st.log j)) (sym q) ∙ g.here.0.alone
+  alone (Waiting bind) g s1 e = let q : bind.slot ≡ s1 = cc in ap (λ (j : ℕ). length (st.log j)) (sym q) ∙ g.here.0.alone
   alone Idle g s1 e = absurd cc
-  alone (Storing s k1 t n) g s1 e = absurd cc
-  alone (Loaded s k1 t) g s1 e = absurd cc
-  alone (Raised s k1 t) g s1 e = absurd cc
-  alone (Led s k1 t) g s1 e = absurd cc
-  alone (Both s k1 t) g s1 e = absurd cc
-  alone (Exchanged s k1 t) g s1 e = absurd cc
+  alone (Storing bind n) g s1 e = absurd cc
+  alone (Loaded cycle) g s1 e = absurd cc
+  alone (Raised cycle) g s1 e = absurd cc
+  alone (Led cycle) g s1 e = absurd cc
+  alone (Both cycle) g s1 e = absurd cc
+  alone (Exchanged cycle) g s1 e = absurd cc
 
   unread_after : (x1 : Entry) → Within x1 h → lost_in (unsure st) (commit_of x1) ≡ true → (lost_in (unsure st) (commit_of x1) ≡ true) × (k ≢ key_of x1)
   unread_after x1 in_h q = (q, λ f. go (commit_of x1) refl q (sym f))

@@ -8,7 +8,7 @@ use Rattle.std.proofs.lemmas.Bool.Decides.{nat_tests}
 use Rattle.clover_words.specs.Tag.{home, age}
 use Rattle.clover_map.specs.declared.call.Entry.{Entry}
 use Rattle.clover_map.specs.declared.bytes.Held.{Held}
-use Rattle.clover_rule.specs.History.{same_key, Version, Map, pair_of, ends, kept, commits, Unread, Survives, key_of, commit_of, lost_in, joined, leads}
+use Rattle.clover_rule.specs.History.{same_key, Version, Map, pair_of, ends, kept, commits, Unread, Last, Legal, key_of, commit_of, lost_in, joined, leads}
 use Rattle.clover_rule.specs.Image.{Image, IsImage, Chain, is_none, leads_to, missing, sift, tags, Reads, ReadsMap}
 use Rattle.clover_rule.specs.Lists.{Each, nth}
 use Rattle.clover_rule.specs.Memory.{gen, link, Mem}
@@ -227,7 +227,7 @@ module _ (m : Mem) (st : Story) (c : Core m st) (im : Image) (is : IsImage m im)
       subst (λ (x : Option ℕ). Chain im x (tags (drop p (sift lost (st.log s))))) e (chain_of im (drop p (sift lost (st.log s))) (links s n p h g))
 
   module _ (m0 : Map) (used : List ℕ) (h : List Entry) (t : Tale st m0 used h) where
-    left : List Entry
+    abbrev pub left : List Entry
     left = kept lost h
 
     weaker : (x : ℕ) → lost x ≡ true → unsure st x ≡ true
@@ -240,17 +240,14 @@ module _ (m : Mem) (st : Story) (c : Core m st) (im : Image) (is : IsImage m im)
     unread : Unread lost h
     unread = unread_less (unsure st) lost weaker h t.unread
 
-    untold : (x : ℕ) → lost x ≡ true → (s : ℕ) × Durable st s x → ⊥
+    pub untold : (x : ℕ) → lost x ≡ true → (s : ℕ) × Durable st s x → ⊥
     untold x e (s, d) = let a = tag_there st s d.0 x d.1 in true≢false (sym e ∙ ap lost (sym a.2) ∙ kept_before s d.0 a.0 a.1 d.2)
 
-    pub cut_survives : Survives m0 used (λ (x : ℕ). (s : ℕ) × Durable st s x) h (kept lost h)
-    cut_survives = record {
-      lost = lost;
-      is = refl;
-      last = unread_last lost h unread;
-      untold = untold;
-      legal = kept_legal lost h m0 m0 used used t.legal unread (agree_self m0 h) (λ x f. f);
-    }
+    pub last_lost : Last lost h
+    last_lost = unread_last lost h unread
+
+    pub legal_left : Legal m0 used left
+    legal_left = kept_legal lost h m0 m0 used used t.legal unread (agree_self m0 h) (λ x f. f)
 
     log_left : (s : ℕ) (k : List ℕ) → st.keys s ≡ Some k → sift lost (st.log s) ≡ st.first s ++ commits k (kept lost h)
     log_left s k e =

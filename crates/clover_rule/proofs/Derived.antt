@@ -9,7 +9,10 @@ use Rattle.clover_rule.specs.History.{Version}
 use Rattle.clover_rule.specs.Image.{tags}
 use Rattle.clover_rule.specs.Lists.{nth, Within}
 use Rattle.clover_rule.specs.Memory.{Next, word, gen, link, Mem}
-use Rattle.clover_rule.specs.Parts.{Walk, ChainsStand, AllButLast, Falls, IsKnown, IsTarget}
+use Rattle.clover_rule.specs.Chains.{Walk, ChainsStand, AllButLast, Falls}
+use Rattle.clover_rule.specs.Holding.{recycled_by}
+use Rattle.clover_rule.specs.Known.{IsKnown, IsTarget}
+use Rattle.clover_rule.specs.declared.view.Task.{Task}
 use Rattle.clover_rule.specs.Story.{Place, Chained, Stocked, Free, Worn, Taken, Loose, Story, tag_in_version, tag_at, only, Core, Durable}
 use Rattle.clover_rule.specs.Views.{IsLink, Past}
 use Rattle.clover_rule.specs.declared.view.Link.{Link}
@@ -60,10 +63,11 @@ module _ (m : Mem) (st : Story) (c : Core m st) where
   pub is_held : (s i t : ℕ) → tag_at st s i ≡ Some t → st.gone s ≤ i → i < st.lead s → held s ≡ Some t
   is_held s i t e g h = let d = c.led s in let q : i ≡ st.gone s = omega arith in let n : st.lead s ≢ st.gone s = λ z. omega arith in rw (ne_eqb (st.lead s) (st.gone s) n) (ap (tag_at st s) (sym q) ∙ e)
 
-  pub known : (s t : ℕ) → Durable st s t → IsKnown m chain held s t
-  known s t d = go (dec_le (st.gone s) d.0) (dec_le (st.lead s) d.0) (ℕ_discrete (st.lead s) d.0)
+  -- what leaves is the task's version under recycling
+  pub known : (T : Task) → ((s t : ℕ) → held s ≡ Some t → recycled_by T s ≡ Some t) → (s t : ℕ) → Durable st s t → IsKnown m chain T s t
+  known T task s t d = go (dec_le (st.gone s) d.0) (dec_le (st.lead s) d.0) (ℕ_discrete (st.lead s) d.0)
     where
-      behind : (i : ℕ) → tag_at st s i ≡ Some t → i < st.sure s → st.lead s < i → IsKnown m chain held s t
+      behind : (i : ℕ) → tag_at st s i ≡ Some t → i < st.sure s → st.lead s < i → IsKnown m chain T s t
       behind zero e h l = absurd (omega arith)
       behind (suc i) e h l = let b = c.led s in
           let w = before (nth (st.log s) i) refl (tag_within st s (suc i) t e) in
@@ -75,18 +79,18 @@ module _ (m : Mem) (st : Story) (c : Core m st) where
           before None q z = absurd (let y = nth_past (st.log s) i q in omega arith)
           before (Some v) q z = (v.tag, ap tag_in_version q)
 
-      go : Dec (st.gone s ≤ d.0) → Dec (st.lead s ≤ d.0) → Dec (st.lead s ≡ d.0) → IsKnown m chain held s t
+      go : Dec (st.gone s ≤ d.0) → Dec (st.lead s ≤ d.0) → Dec (st.lead s ≡ d.0) → IsKnown m chain T s t
       go (no a) x y = IsKnown.passed (c.passed s d.0 t d.1 (omega arith)).later
-      go (yes a) (no x) y = IsKnown.recycles (is_held s d.0 t d.1 a (omega arith))
+      go (yes a) (no x) y = IsKnown.recycles (task s t (is_held s d.0 t d.1 a (omega arith)))
       go (yes a) (yes x) (yes y) = IsKnown.leads (c.root s ∙ ap (tag_at st s) y ∙ d.1)
       go (yes a) (yes x) (no y) = behind d.0 d.1 d.2 (omega arith)
 
-  pub target : (l : Link) → IsLink st l → IsTarget m chain held l.slot l.to
-  target l d = go (dec_le (st.gone l.slot) (suc d.0)) (dec_le (st.lead l.slot) (suc d.0))
+  pub target : (T : Task) → ((s t : ℕ) → held s ≡ Some t → recycled_by T s ≡ Some t) → (l : Link) → IsLink st l → IsTarget m chain T l.slot l.to
+  target T task l d = go (dec_le (st.gone l.slot) (suc d.0)) (dec_le (st.lead l.slot) (suc d.0))
     where
-      go : Dec (st.gone l.slot ≤ suc d.0) → Dec (st.lead l.slot ≤ suc d.0) → IsTarget m chain held l.slot l.to
+      go : Dec (st.gone l.slot ≤ suc d.0) → Dec (st.lead l.slot ≤ suc d.0) → IsTarget m chain T l.slot l.to
       go (no a) x = IsTarget.passed (c.passed l.slot (suc d.0) l.to d.2 (omega arith)).later
-      go (yes a) (no x) = IsTarget.recycles (is_held l.slot (suc d.0) l.to d.2 a (omega arith))
+      go (yes a) (no x) = IsTarget.recycles (task l.slot l.to (is_held l.slot (suc d.0) l.to d.2 a (omega arith)))
       go (yes a) (yes x) = IsTarget.stands (on_chain l.slot (suc d.0) l.to d.2 x)
 
   -- each link but the last is flushed

@@ -9,7 +9,7 @@ use Rattle.clover_map.specs.declared.call.Entry.{Entry}
 use Rattle.clover_rule.specs.History.{Map, own, used_by}
 use Rattle.clover_rule.specs.Lists.{Each, nth, upd, Within}
 use Rattle.clover_rule.specs.Memory.{gen, Mem}
-use Rattle.clover_rule.specs.Server.{Ready, AtStage, Help, root_in, book_of, Serves, Whole}
+use Rattle.clover_rule.specs.Server.{Ready, AtStage, Help, Serves, Whole}
 use Rattle.clover_rule.specs.Story.{Place, Chained, Stocked, Free, Worn, Taken, Loose, Story, Core}
 use Rattle.clover_rule.specs.Views.{alone, empty_pass, Owned, ViewOk, Spent, Numbered, handed}
 use Rattle.clover_rule.specs.declared.view.Role.TheVariants.{Client, Serving}
@@ -25,29 +25,6 @@ use Rattle.clover_rule.proofs.ServerTools.{tale_copy}
 pub each_both : {A : Type 0} (P : A → Type 0) (xs ys : List A) → Each P xs → Each P ys → Each P (xs ++ ys)
 each_both P [] ys a b = b
 each_both P (x ∷ xs) ys a b = (a.0, each_both P xs ys a.1 b)
-
--- roots and held buffers of the books do not hang on places
-pub roots_placed : (st : Story) (P : ℕ → Place) (T : Task) (s1 : ℕ) → root_in T (record st { place = P }) s1 ≡ root_in T st s1
-roots_placed st P Idle s1 = refl
-roots_placed st P (Storing s2 k2 t2 n2) s1 = refl
-roots_placed st P (Rooted s2 k2 t2) s1 = refl
-roots_placed st P (Waiting s2 k2 t2) s1 = refl
-roots_placed st P (Loaded s2 k2 t2) s1 = refl
-roots_placed st P (Raised s2 k2 t2) s1 = refl
-roots_placed st P (Led s2 k2 t2) s1 = refl
-roots_placed st P (Both s2 k2 t2) s1 = refl
-roots_placed st P (Exchanged s2 r2 t2) s1 = refl
-
-pub held_placed : (st : Story) (P : ℕ → Place) (T : Task) (y b : ℕ) → book_of T (record st { place = P }) Taken y b ≡ book_of T st Taken y b
-held_placed st P Idle y b = refl
-held_placed st P (Storing s2 k2 t2 n2) y b = refl
-held_placed st P (Rooted s2 k2 t2) y b = refl
-held_placed st P (Waiting s2 k2 t2) y b = refl
-held_placed st P (Loaded s2 k2 t2) y b = refl
-held_placed st P (Raised s2 k2 t2) y b = refl
-held_placed st P (Led s2 k2 t2) y b = refl
-held_placed st P (Both s2 k2 t2) y b = refl
-held_placed st P (Exchanged s2 r2 t2) y b = refl
 
 -- a batch that stood at one loose place goes to another
 module _ (l : Pool) (m0 : Map) (used : List ℕ) (m : Mem) (vs : List View) (st : Story) (h : List Entry) (w : Whole l m0 used m vs st h) (batch : List ℕ) (q0 : Place) (k : ℕ) (ready : Ready q0) (was : Each (λ (t : ℕ). st.place (home t) ≡ q0) batch) where
@@ -96,21 +73,21 @@ module _ (l : Pool) (m0 : Map) (used : List ℕ) (m : Mem) (vs : List View) (st 
       worn = λ b i f. ⊎_elim (λ d. absurd (cc (d.0, f))) (λ d. a.worn b i (sym d ∙ f)) (hand_case b);
     };
     keyed = let a = p.keyed in record { valid = a.valid; current = a.current; flushed = a.flushed; bare = a.bare; nameless = a.nameless; filled = a.filled; slots = a.slots };
-    naming = let a = p.naming in record { counted = a.counted; found = a.found; listed = a.listed; waiting = a.waiting };
+    naming = let a = p.naming in record { counted = a.counted; found = a.found; listed = a.listed; waiting = a.waiting; once = a.once };
     stage = record { settled = p.stage.settled; holds = λ b f. ⊎_elim (λ d. absurd (cc (d.0, f))) (λ d. p.stage.holds b (sym d ∙ f)) (hand_case b); names = p.stage.names; here = here st.task p.stage.here };
     short = p.short;
   }
     where
       here : (T : Task) → AtStage l m st T → AtStage l m st' T
       here Idle a = tt
-      here (Storing s1 k1 t1 n1) a = record { place = held_kept (home t1) a.place; now = a.now; safe = a.safe; range = a.range; slot = a.slot; bare = a.bare; unnamed = a.unnamed; absent = a.absent; valid = a.valid; body = a.body; fbody = a.fbody; key = a.key; fkey = a.fkey }
-      here (Rooted s1 k1 t1) a = (record { key = a.0.key; unnamed = a.0.unnamed; alone = a.0.alone; tag = a.0.tag; gone = a.0.gone }, a.1)
-      here (Waiting s1 k1 t1) a = (record { key = a.0.key; unnamed = a.0.unnamed; alone = a.0.alone; tag = a.0.tag; gone = a.0.gone }, a.1)
-      here (Loaded s1 r1 t1) a = record { root = a.root; next = a.next }
-      here (Raised s1 r1 t1) a = (record { root = a.0.root; next = a.0.next }, a.1)
-      here (Led s1 r1 t1) a = (record { root = a.0.root; next = a.0.next }, a.1, a.2, a.3)
-      here (Both s1 r1 t1) a = (record { root = a.0.root; next = a.0.next }, a.1, a.2, a.3)
-      here (Exchanged s1 r1 t1) a = record { place = held_kept (home r1) a.place; now = a.now; safe = a.safe; root = a.root; old = a.old; inside = a.inside; young = a.young }
+      here (Storing bind n1) a = record { place = held_kept (home bind.tag) a.place; now = a.now; safe = a.safe; range = a.range; slot = a.slot; bare = a.bare; unnamed = a.unnamed; absent = a.absent; valid = a.valid; body = a.body; fbody = a.fbody; key = a.key; fkey = a.fkey }
+      here (Rooted bind) a = (record { key = a.0.key; unnamed = a.0.unnamed; alone = a.0.alone; tag = a.0.tag; gone = a.0.gone }, a.1)
+      here (Waiting bind) a = (record { key = a.0.key; unnamed = a.0.unnamed; alone = a.0.alone; tag = a.0.tag; gone = a.0.gone }, a.1)
+      here (Loaded cycle) a = record { root = a.root; next = a.next }
+      here (Raised cycle) a = (record { root = a.0.root; next = a.0.next }, a.1)
+      here (Led cycle) a = (record { root = a.0.root; next = a.0.next }, a.1, a.2, a.3)
+      here (Both cycle) a = (record { root = a.0.root; next = a.0.next }, a.1, a.2, a.3)
+      here (Exchanged cycle) a = record { place = held_kept (home cycle.root) a.place; now = a.now; safe = a.safe; root = a.root; old = a.old; body = a.body; inside = a.inside; young = a.young }
 
   pub hand_spent : (y : ℕ) → Spent m st y → Spent m st' y
   hand_spent y (inl a) = inl a

@@ -1,13 +1,13 @@
 -- A grant is joined to a client's pass.
 use Rattle.std.proofs.Common.{◌≡◌, ℕ, ◌≢◌, ◌⊎◌, List, [], ◌∷◌, ◌++◌, length, set, append_assoc, append-nil, refl, sym, ap, ◌∙◌, inl, inr, ⊎_elim, arith, subst}
 use native.Mathlib.Decide.{ℕ_discrete}
-use Rattle.std.specs.Prelude.{Option, Some}
+use Rattle.std.specs.Prelude.{Some}
 use Rattle.clover_words.specs.Tag.{home}
 use Rattle.clover_map.specs.declared.call.Entry.{Entry}
 use Rattle.clover_rule.specs.History.{Map}
 use Rattle.clover_rule.specs.Lists.{Each, nth, Within, IsPrefix}
 use Rattle.clover_rule.specs.Memory.{gen, Mem}
-use Rattle.clover_rule.specs.Server.{is_home, book_of, Serves, Whole}
+use Rattle.clover_rule.specs.Server.{book_of, Serves, Whole}
 use Rattle.clover_rule.specs.Story.{Place, Stocked, Story}
 use Rattle.clover_rule.specs.Views.{alone, empty_pass, Owned, Apart, ViewOk, handed}
 use Rattle.clover_rule.specs.declared.view.Role.TheVariants.{Client, Granting, Joined}
@@ -16,7 +16,7 @@ use Rattle.clover_rule.specs.declared.view.View.{View}
 use Rattle.clover_words.specs.declared.pool.Pool.{Pool}
 use Rattle.clover_rule.proofs.Steps.{each_map, nth_set, set_here, set_away}
 use Rattle.clover_rule.proofs.ServerTools.{book_same}
-use Rattle.clover_rule.proofs.Hands.{each_both, hand_whole, hand_view, hand_case, hand_owned, roots_placed, held_placed}
+use Rattle.clover_rule.proofs.Hands.{each_both, hand_whole, hand_view, hand_case, hand_owned}
 
 -- a batch and names of a grant, or a refusal, are joined to a client's pass
 module _ (l : Pool) (m0 : Map) (used : List ℕ) (m : Mem) (vs : List View) (st : Story) (h : List Entry) (w : Whole l m0 used m vs st h) (id j : ℕ) (apart_seats : j ≢ id) (v y : View) (at : nth vs id ≡ Some v) (there_at : nth vs j ≡ Some y)
@@ -84,9 +84,9 @@ module _ (l : Pool) (m0 : Map) (used : List ℕ) (m : Mem) (vs : List View) (st 
   serves_kept sv e = record {
     task_is = e.task_is;
     directory = e.directory;
-    roots = λ s1. e.roots s1 ∙ sym (roots_placed st st1.place st.task s1);
+    roots = e.roots;
     books = λ b i. e.books b i ∙ ⊎_elim (λ d. ap (λ (q : Place). book_of st.task st q (gen (m.next b)) b) d.1 ∙ sym (ap (λ (q : Place). book_of st.task st1 q (gen (m.next b)) b) d.0))
-        (λ d. sym (book_same st.task st.task st st1 (st.place b) (gen (m.next b)) b (λ s q. ap (λ (o : Option ℕ). is_home o b) (roots_placed st st1.place st.task s)) (λ q. held_placed st st1.place st.task (gen (m.next b)) b)) ∙ sym (ap (λ (q : Place). book_of st.task st1 q (gen (m.next b)) b) d))
+        (λ d. sym (book_same st.task st.task st st1 (st.place b) (gen (m.next b)) b (λ s q. refl) (λ q. refl)) ∙ sym (ap (λ (q : Place). book_of st.task st1 q (gen (m.next b)) b) d))
         (hand_case l m0 used m vs st h w y.pass.stock (Stocked j) id tt was b);
   }
 

@@ -21,7 +21,7 @@ use Rattle.clover_rule.specs.Lists.{Within, nth}
 use Rattle.clover_rule.specs.Meets.{IsCode, Decodes, OfRun, Meets}
 use Rattle.clover_rule.specs.Memory.{Next, word}
 use Rattle.clover_rule.specs.Server.{Whole}
-use Rattle.clover_rule.specs.Steps.{IsClient, counted}
+use Rattle.clover_rule.specs.Learned.{counted}
 use Rattle.clover_rule.specs.Story.{Stocked, Story}
 use Rattle.clover_rule.specs.Views.{renewed}
 use Rattle.clover_rule.specs.Words.{next_code, root_of, next_of, mem_of}
@@ -72,14 +72,15 @@ module _ (p : Pool) (ws : List ℕ) where
   pub read_short : (s : ℕ) → s < p.slots → (mem_of p ws).short s ≡ root_of (copy_in p ws (Short s) Current)
   read_short s h = guard_true (nat_lt s p.slots) _ _ None (test_below s p.slots h) refl
 
--- the view that a step leaves is one of the same run and of the same client
+-- the view that a step leaves is one of the same run and of the same actor
 pub record SameRun (v y : View) : Type 0 where
   pub role : y.pass.role ≡ v.pass.role
   pub pool : y.pass.pool ≡ v.pass.pool
   pub map : y.pass.map ≡ v.pass.map
   pub used : y.pass.used ≡ v.pass.used
+  pub plan : y.plan ≡ v.plan
 
-module _ (p : Pool) (first : Tagged) (used : List ℕ) (ws : List ℕ) (vs : List View) (st : Story) (h : List Entry) (r : Meets p first used ws vs st h) (id : ℕ) (v : View) (at : nth vs id ≡ Some v) (cl : IsClient v) where
+module _ (p : Pool) (first : Tagged) (used : List ℕ) (ws : List ℕ) (vs : List View) (st : Story) (h : List Entry) (r : Meets p first used ws vs st h) (id : ℕ) (v : View) (at : nth vs id ≡ Some v) where
   -- the stocks of the views after
   in_renewed : (y : View) (st' : Story) → ((t : ℕ) → st'.place (home t) ≡ Stocked id → Within t v.pass.stock → Within t y.pass.stock) → (i : ℕ) (x : View) → nth vs i ≡ Some x → (t : ℕ) → Within t x.pass.stock → (c : ℕ) → home t ≡ c → st'.place c ≡ Stocked i → Dec (i ≡ id)
       → (z : View) × (nth (renewed vs id y) i ≡ Some z) × (u : ℕ) × Within u z.pass.stock × (home u ≡ c)
@@ -88,15 +89,16 @@ module _ (p : Pool) (first : Tagged) (used : List ℕ) (ws : List ℕ) (vs : Lis
       (y, ap (nth (renewed vs id y)) d ∙ set_here vs id y v at, t, stock t (ap st'.place e ∙ f ∙ ap Stocked d) (subst (λ (z : View). Within t z.pass.stock) same w), e)
   in_renewed y st' stock i x q t w c e f (no d) = (x, set_away vs id i y d ∙ q, t, w, e)
 
-  pub stepped : (w0 : Word) (s0 : Side) (n : ℕ) → IsWithin p w0 → HasSide w0 s0 → IsCode w0 n → (y : View) → SameRun v y → IsClient y → (st' : Story) (h' : List Entry) → ((b i : ℕ) → st'.place b ≡ Stocked i → st.place b ≡ Stocked i) → ((t : ℕ) → st'.place (home t) ≡ Stocked id → Within t v.pass.stock → Within t y.pass.stock)
+  pub stepped : (w0 : Word) (s0 : Side) (n : ℕ) → IsWithin p w0 → HasSide w0 s0 → IsCode w0 n → (y : View) → SameRun v y → (st' : Story) (h' : List Entry) → ((b i : ℕ) → st'.place b ≡ Stocked i → st.place b ≡ Stocked i) → ((t : ℕ) → st'.place (home t) ≡ Stocked id → Within t v.pass.stock → Within t y.pass.stock)
       → Whole p (shows first) used (mem_of p (slice_set ws (address_of p w0 s0) n)) (renewed vs id y) st' h'
       → (b : Bool) (a : Act) (k : ℕ) → Meets p first used (slice_set ws (address_of p w0 s0) n) (renewed vs id (counted b a k y)) st' h'
-  stepped w0 s0 n hw hs code y run cy st' h' places stock w b a k =
+  stepped w0 s0 n hw hs code y run st' h' places stock w b a k =
       let hl : address_of p w0 s0 < length ws = let q = address_below p w0 s0 hw hs in let e = r.sized in omega arith in
       record {
         sized = length-set ws (address_of p w0 s0) n ∙ r.sized;
         decodes = decodes_set p ws w0 s0 n r.decodes hw hs hl code;
         same = λ i z q. ⊎_elim (λ d. let o = r.same id v at in subst (OfRun p first used) d.1 (record { of_pool = run.pool ∙ o.of_pool; from_map = run.map ∙ o.from_map; from_used = run.used ∙ o.from_used })) (λ d. r.same i z d.1) (nth_set vs id i (counted b a k y) z q);
+        still = λ i z q. ⊎_elim (λ d. ap (λ (u : View). u.plan) (sym d.1) ∙ run.plan ∙ r.still id v at) (λ d. r.still i z d.1) (nth_set vs id i (counted b a k y) z q);
         stocks = λ c i e. let x = r.stocks c i (places c i e) in in_renewed (counted b a k y) st' stock i x.0 x.1 x.2 x.3 c x.4 e (ℕ_discrete i id);
-        whole = recount p (shows first) used (mem_of p (slice_set ws (address_of p w0 s0) n)) vs st' h' id v at y cy b a k w;
+        whole = recount p (shows first) used (mem_of p (slice_set ws (address_of p w0 s0) n)) vs st' h' id v at y b a k w;
       }

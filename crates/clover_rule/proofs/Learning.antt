@@ -8,7 +8,8 @@ use Rattle.clover_rule.specs.History.{Map, used_by}
 use Rattle.clover_rule.specs.Lists.{upd, Each, Within, nth}
 use Rattle.clover_rule.specs.Memory.{Next, word, Mem}
 use Rattle.clover_rule.specs.Server.{Whole}
-use Rattle.clover_rule.specs.Steps.{IsClient, client, seen, started, counts, counted}
+use Rattle.clover_rule.specs.Learned.{seen, started, counts, counted}
+use Rattle.clover_rule.specs.Steps.{IsClient, client}
 use Rattle.clover_rule.specs.Story.{Story, tag_at, Durable}
 use Rattle.clover_rule.specs.Views.{Basis, ViewOk, renewed, Past, IsLink, shown}
 use Rattle.clover_rule.specs.declared.access.Act.{Act}
@@ -20,7 +21,7 @@ use Rattle.clover_rule.proofs.Derived.{current_past}
 use Rattle.clover_rule.proofs.Quiet.{loaded_link, loaded_body}
 use Rattle.clover_rule.proofs.Raising.{most_kept}
 use Rattle.clover_rule.proofs.ClientLaws.{quiet_whole, short_whole}
-use Rattle.clover_rule.proofs.ServerTools.{core_copy}
+use Rattle.clover_rule.proofs.ServerTools.{core_copy, own_whole}
 
 module _ (p : Pool) (m0 : Map) (used : List ℕ) (m : Mem) (vs : List View) (st : Story) (h : List Entry) (w : Whole p m0 used m vs st h) (id : ℕ) (v : View) (at : nth vs id ≡ Some v) (cl : IsClient v) where
   ok : ViewOk m st h id v
@@ -91,10 +92,11 @@ module _ (p : Pool) (m0 : Map) (used : List ℕ) (m : Mem) (vs : List View) (st 
       })
 
 -- counting is read by no fact
-pub recount : (p : Pool) (m0 : Map) (used : List ℕ) (m : Mem) (vs : List View) (st : Story) (h : List Entry) (id : ℕ) (v : View) → nth vs id ≡ Some v → (y : View) → IsClient y → (first : Bool) (a : Act) (n : ℕ) → Whole p m0 used m (renewed vs id y) st h → Whole p m0 used m (renewed vs id (counted first a n y)) st h
-recount p m0 used m vs st h id v at y cl first a n w =
+pub recount : (p : Pool) (m0 : Map) (used : List ℕ) (m : Mem) (vs : List View) (st : Story) (h : List Entry) (id : ℕ) (v : View) → nth vs id ≡ Some v → (y : View) → (first : Bool) (a : Act) (n : ℕ) → Whole p m0 used m (renewed vs id y) st h → Whole p m0 used m (renewed vs id (counted first a n y)) st h
+recount p m0 used m vs st h id v at y first a n w =
     let here : nth (renewed vs id y) id ≡ Some y = set_here vs id y v at in
     let ok : ViewOk m st h id y = w.basis.views id y here in
     subst (λ (l : List View). Whole p m0 used m l st h) (set-set vs id y (counted first a n y))
-    (quiet_whole p m0 used m (renewed vs id y) st h w id y here (client y) cl (counted first a n y) refl refl
-    record { stocked = ok.stocked; apart = ok.apart; durable = ok.durable; links = ok.links; words = ok.words; written = ok.written; flushed = ok.flushed; copied = ok.copied; names = ok.names; added = ok.added; most = ok.most; history = ok.history; calls = ok.calls })
+    (own_whole p m0 used m (renewed vs id y) st h w id y (counted first a n y) here refl refl
+    record { stocked = ok.stocked; apart = ok.apart; durable = ok.durable; links = ok.links; words = ok.words; written = ok.written; flushed = ok.flushed; copied = ok.copied; names = ok.names; added = ok.added; most = ok.most; history = ok.history; calls = ok.calls }
+    (λ ro e. e) refl)

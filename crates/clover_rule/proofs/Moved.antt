@@ -1,14 +1,13 @@
 -- Views move to other positions; and a note is split off.
-use Rattle.std.proofs.Common.{◌≡◌, ℕ, List, [], ◌∷◌, ◌++◌, set, cond, refl, sym, ap, ◌∙◌, inl, inr, ⊎_elim}
-use Rattle.std.specs.Prelude.{Option, Some}
+use Rattle.std.proofs.Common.{◌≡◌, ℕ, List, [], ◌∷◌, ◌++◌, set, refl, sym, ap, ◌∙◌, inl, inr, ⊎_elim}
+use Rattle.std.specs.Prelude.{Some}
 use Rattle.clover_map.specs.declared.call.Entry.{Entry}
 use Rattle.clover_rule.specs.History.{Map, used_by}
 use Rattle.clover_rule.specs.Lists.{nth}
 use Rattle.clover_rule.specs.Memory.{gen, Mem}
-use Rattle.clover_rule.specs.Server.{Ready, AtStage, Help, is_home, book_of, Whole}
+use Rattle.clover_rule.specs.Server.{Ready, AtStage, Help, book_of, Whole}
 use Rattle.clover_rule.specs.Story.{Place, Chained, Stocked, Free, Worn, Taken, Loose, Story, Core}
-use Rattle.clover_rule.specs.Views.{alone, empty_pass, book, Owned, ViewOk, Basis}
-use Rattle.clover_rule.specs.declared.view.BufferState.TheVariants.{Bound as IsBound, Out as IsOut}
+use Rattle.clover_rule.specs.Views.{alone, empty_pass, Owned, ViewOk, Basis}
 use Rattle.clover_rule.specs.declared.view.Role.TheVariants.{Client, Noting}
 use Rattle.clover_rule.specs.declared.view.Task.{Task}
 use Rattle.clover_rule.specs.declared.view.Task.TheVariants.{Idle, Storing, Rooted, Waiting, Loaded, Raised, Led, Both, Exchanged}
@@ -16,7 +15,6 @@ use Rattle.clover_rule.specs.declared.view.View.{View}
 use Rattle.clover_words.specs.declared.pool.Pool.{Pool}
 use Rattle.clover_rule.proofs.Steps.{each_map}
 use Rattle.clover_rule.proofs.ServerTools.{tale_copy}
-use Rattle.clover_rule.proofs.Hands.{roots_placed, held_placed}
 use Rattle.clover_rule.proofs.Seats.{split_whole}
 
 abbrev pub moved : (ℕ → ℕ) → Place → Place
@@ -108,30 +106,30 @@ module _ (l : Pool) (m0 : Map) (used : List ℕ) (m : Mem) (vs vs' : List View) 
 
   here : (T : Task) → AtStage l m st T → AtStage l m st' T
   here Idle a = tt
-  here (Storing s1 k1 t1 n1) a = record { place = ap (moved f) a.place; now = a.now; safe = a.safe; range = a.range; slot = a.slot; bare = a.bare; unnamed = a.unnamed; absent = a.absent; valid = a.valid; body = a.body; fbody = a.fbody; key = a.key; fkey = a.fkey }
-  here (Rooted s1 k1 t1) a = (record { key = a.0.key; unnamed = a.0.unnamed; alone = a.0.alone; tag = a.0.tag; gone = a.0.gone }, a.1)
-  here (Waiting s1 k1 t1) a = (record { key = a.0.key; unnamed = a.0.unnamed; alone = a.0.alone; tag = a.0.tag; gone = a.0.gone }, a.1)
-  here (Loaded s1 r1 t1) a = record { root = a.root; next = a.next }
-  here (Raised s1 r1 t1) a = (record { root = a.0.root; next = a.0.next }, a.1)
-  here (Led s1 r1 t1) a = (record { root = a.0.root; next = a.0.next }, a.1, a.2, a.3)
-  here (Both s1 r1 t1) a = (record { root = a.0.root; next = a.0.next }, a.1, a.2, a.3)
-  here (Exchanged s1 r1 t1) a = record { place = ap (moved f) a.place; now = a.now; safe = a.safe; root = a.root; old = a.old; inside = a.inside; young = a.young }
+  here (Storing bind n1) a = record { place = ap (moved f) a.place; now = a.now; safe = a.safe; range = a.range; slot = a.slot; bare = a.bare; unnamed = a.unnamed; absent = a.absent; valid = a.valid; body = a.body; fbody = a.fbody; key = a.key; fkey = a.fkey }
+  here (Rooted bind) a = (record { key = a.0.key; unnamed = a.0.unnamed; alone = a.0.alone; tag = a.0.tag; gone = a.0.gone }, a.1)
+  here (Waiting bind) a = (record { key = a.0.key; unnamed = a.0.unnamed; alone = a.0.alone; tag = a.0.tag; gone = a.0.gone }, a.1)
+  here (Loaded cycle) a = record { root = a.root; next = a.next }
+  here (Raised cycle) a = (record { root = a.0.root; next = a.0.next }, a.1)
+  here (Led cycle) a = (record { root = a.0.root; next = a.0.next }, a.1, a.2, a.3)
+  here (Both cycle) a = (record { root = a.0.root; next = a.0.next }, a.1, a.2, a.3)
+  here (Exchanged cycle) a = record { place = ap (moved f) a.place; now = a.now; safe = a.safe; root = a.root; old = a.old; body = a.body; inside = a.inside; young = a.young }
 
   help' : Help l m st'
   help' = let p = w.help in record {
     ranged = let a = p.ranged in record { tags = a.tags; own = a.own; below = a.below; fits = a.fits; ready = λ b e. a.ready b (back_ready f (st.place b) e); worn = λ b i e. a.worn b i (back_worn f (st.place b) e) };
     keyed = let a = p.keyed in record { valid = a.valid; current = a.current; flushed = a.flushed; bare = a.bare; nameless = a.nameless; filled = a.filled; slots = a.slots };
-    naming = let a = p.naming in record { counted = a.counted; found = a.found; listed = a.listed; waiting = a.waiting };
+    naming = let a = p.naming in record { counted = a.counted; found = a.found; listed = a.listed; waiting = a.waiting; once = a.once };
     stage = record { settled = p.stage.settled; holds = λ b e. p.stage.holds b (back_held f (st.place b) e); names = p.stage.names; here = here st.task p.stage.here };
     short = p.short;
   }
 
   book_moved : (q : Place) (g b : ℕ) → book_of st.task st q g b ≡ book_of st.task st' (moved f q) g b
-  book_moved (Chained s) g b = ap (λ (o : Option ℕ). book g (cond (is_home o b) IsBound IsOut)) (sym (roots_placed st st'.place st.task s))
+  book_moved (Chained s) g b = refl
   book_moved (Stocked i) g b = refl
   book_moved Free g b = refl
   book_moved Worn g b = refl
-  book_moved Taken g b = sym (held_placed st st'.place st.task g b)
+  book_moved Taken g b = refl
 
   pub moved_whole : Whole l m0 used m vs' st' h
   moved_whole = record {
@@ -147,7 +145,7 @@ module _ (l : Pool) (m0 : Map) (used : List ℕ) (m : Mem) (vs vs' : List View) 
       longest = let o = r.longest in (f o.0, o.1, there o.0 o.1 o.2, o.3);
     };
     help = help';
-    serves = λ k y e q. let a = back k y e in let s = w.serves a.0 y a.1 q in record { task_is = s.task_is; directory = s.directory; roots = λ s1. s.roots s1 ∙ sym (roots_placed st st'.place st.task s1); books = λ b i. s.books b i ∙ book_moved (st.place b) (gen (m.next b)) b };
+    serves = λ k y e q. let a = back k y e in let s = w.serves a.0 y a.1 q in record { task_is = s.task_is; directory = s.directory; roots = s.roots; books = λ b i. s.books b i ∙ book_moved (st.place b) (gen (m.next b)) b };
     one = λ i j y z e g a b. let c = back i y e in let d = back j z g in sym c.2 ∙ ap f (w.one c.0 d.0 y z c.1 d.1 a b) ∙ d.2;
     safe = w.safe;
     made = λ i j n y z e g a b. w.made (back i y e).0 (back j z g).0 n y z (back i y e).1 (back j z g).1 a b;

@@ -18,7 +18,7 @@ use Rattle.clover_rule.specs.Story.{Durable, Stocked, Place, Chained, Free, Worn
 use Rattle.clover_rule.specs.Views.{Owned, OwnCalls, ViewOk, IsLink, Past, IsCopied, Numbered}
 use Rattle.clover_rule.specs.declared.view.Content.{Content}
 use Rattle.clover_rule.specs.declared.view.Role.{Role}
-use Rattle.clover_rule.specs.declared.view.Role.TheVariants.{Client, Serving, Granting, Noting, Joined}
+use Rattle.clover_rule.specs.declared.view.Role.TheVariants.{Client, Serving, Granting, Noting, Joined, Restarting}
 use Rattle.clover_rule.specs.declared.view.Shown.{Shown}
 use Rattle.clover_rule.specs.declared.view.Task.TheVariants.{Idle}
 use Rattle.clover_rule.specs.declared.view.View.{View}
@@ -203,7 +203,7 @@ module _ (l : Pool) (im : Image) (sound : Sound l im) (m0 : Map) (used : List �
       filled = λ s k e. let a = bound_root s k e in let b : tag_at opened s 0 ≡ Some a.0 = sym (open_core.root s) ∙ (o.root s).0 ∙ a.1 in tag_within opened s 0 a.0 b;
       slots = λ s k e. let a = bound_root s k e in sound.inside s a.0 a.1;
     };
-    naming = record { counted = o.count; found = o.found; listed = λ s k e f. o.listed s k e; waiting = λ s k e f. absurd (true≢false (sym (ap has e) ∙ f)) };
+    naming = record { counted = o.count; found = o.found; listed = λ s k e f. o.listed s k e; waiting = λ s k e f. absurd (true≢false (sym (ap has e) ∙ f)); once = o.once };
     stage = record { settled = λ s q. (refl, refl); holds = λ b e. absurd (never_held b e); names = λ s k e. inl (ap has e); here = tt };
     short = λ s t e. absurd (cc (o.short s, e));
   }
@@ -263,6 +263,7 @@ module _ (l : Pool) (im : Image) (sound : Sound l im) (m0 : Map) (used : List �
     none_own Granting cs e = tt
     none_own Noting cs e = tt
     none_own Joined cs e = tt
+    none_own Restarting cs e = tt
 
     view_starts : (i : ℕ) (v : View) → Starts m o.bindings owner i v → ViewOk m opened [] i v
     view_starts i v s = record {

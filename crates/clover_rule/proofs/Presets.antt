@@ -44,6 +44,15 @@ within_bindings : (keys : List (List ℕ)) (n s : ℕ) (k : List ℕ) → Within
 within_bindings [] n s k w = absurd w
 within_bindings (j ∷ ks) n s k w = ⊎_elim (λ q. (0, ap Some (ap (λ (x : ℕ × List ℕ). x.1) q), let z : n ≡ s = ap (λ (x : ℕ × List ℕ). x.0) q in omega arith)) (λ q. let r = within_bindings ks (suc n) s k q in (suc r.0, r.1, let z = r.2 in omega arith)) w
 
+binding_at : (keys : List (List ℕ)) (n i s : ℕ) (k : List ℕ) → nth (bindings_from n keys) i ≡ Some (s, k) → i + n ≡ s
+binding_at [] n i s k e = absurd cc
+binding_at (x ∷ ks) n zero s k e = let z : n ≡ s = ap slot_in e in omega arith
+  where
+    slot_in : Option (ℕ × List ℕ) → ℕ
+    slot_in None = 0
+    slot_in (Some q) = q.0
+binding_at (x ∷ ks) n (suc i) s k e = let r = binding_at ks (suc n) i s k e in omega arith
+
 bindings_within : (keys : List (List ℕ)) (n i : ℕ) (k : List ℕ) → nth keys i ≡ Some k → Within (i + n, k) (bindings_from n keys)
 bindings_within [] n i k e = absurd cc
 bindings_within (j ∷ ks) n zero k e = inl (let q : j ≡ k = (let z : Some j ≡ Some k = e in cc) in let z : n ≡ 0 + n = omega arith in cc)
@@ -170,6 +179,7 @@ module _ (p : Pool) (keys : List (List ℕ)) (tomb : ℕ → ℕ) (m : Mem) (w :
     bindings = bindings_from 0 keys;
     listed = λ s j e. subst (λ (z : ℕ). Within (z, j) (bindings_from 0 keys)) (let z : s + 0 ≡ s = omega arith in z) (bindings_within keys 0 s j e);
     bound = λ s j e. let a = within_bindings keys 0 s j e in ap (nth keys) (let z = a.2 in let y : s ≡ a.0 = omega arith in y) ∙ a.1;
+    once = λ i j s a b e f. let x = binding_at keys 0 i s a e in let y = binding_at keys 0 j s b f in omega arith;
     count = w.count ∙ sym (bindings_length keys 0);
     slot_named = λ (j : List ℕ). position j 0 keys;
     found = λ s j e. position_here keys j 0 s (λ r z. k.differ r s j z e) e ∙ (let z : s + 0 ≡ s = omega arith in z);
@@ -213,6 +223,7 @@ preset_law p first ws vs keys tomb owner sized decodes same empty words ks views
       sized = sized;
       decodes = decodes;
       same = same;
+      still = λ i v e. (views.starts i v e).plan;
       stocks = preset_stocks p keys tomb (mem_of p ws) words ks owner vs views;
       whole = subst (λ (f : Map). Whole p f [] (mem_of p ws) vs (opened p (im p keys tomb (mem_of p ws) words ks) (sound p keys tomb (mem_of p ws) words ks) (λ (j : List ℕ). None) [] (mem_of p ws) (opens p keys tomb (mem_of p ws) words ks) owner (owners p keys tomb (mem_of p ws) words ks owner vs views)) []) shown
           (preset_whole p keys tomb (mem_of p ws) words ks owner vs views);

@@ -8,7 +8,7 @@ use Rattle.clover_rule.specs.History.{Map}
 use Rattle.clover_rule.specs.Lists.{nth, Within}
 use Rattle.clover_rule.specs.Memory.{Mem}
 use Rattle.clover_rule.specs.Story.{Stocked, Story, Core, Tale, unsure}
-use Rattle.clover_rule.specs.Views.{IsLink, ViewOk, Basis, renewed, raise_view, RaiseLaw}
+use Rattle.clover_rule.specs.Views.{IsLink, ViewOk, Basis, renewed, raise_view}
 use Rattle.clover_rule.specs.declared.view.Link.{Link}
 use Rattle.clover_rule.specs.declared.view.View.{View}
 use Rattle.clover_rule.proofs.Tools.{upd_same, upd_else}
@@ -104,6 +104,3 @@ module _ (m0 : Map) (used : List ℕ) (m : Mem) (vs : List View) (st : Story) (h
     numbered = λ i1 j1 c a b qa qb ra rb. let x1 = role_was vs id v v' at refl i1 a qa in let y1 = role_was vs id v v' at refl j1 b qb in r.numbered i1 j1 c x1.0 y1.0 x1.1 y1.1 (x1.2 ∙ ra) (y1.2 ∙ rb);
     longest = longest_was vs id v v' at h refl r.longest;
   }
-
-pub raise_law : RaiseLaw
-raise_law m0 used m vs id v l (st, h, r) at p = (st' m0 used m vs st h r id v at l p, h, rule' m0 used m vs st h r id v at l p)

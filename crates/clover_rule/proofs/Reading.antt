@@ -13,7 +13,9 @@ use Rattle.clover_rule.specs.Knowing.{link_entry, link_view}
 use Rattle.clover_rule.specs.Lists.{Within}
 use Rattle.clover_rule.specs.Meant.{IsLoad}
 use Rattle.clover_rule.specs.Memory.{Next, word}
-use Rattle.clover_rule.specs.Steps.{LoadNext, DecideNext, LinkNext, act_of, turn_at, counted, seen, decided, client, reply_of, rest_of, next_history, IsClient, Asks}
+use Rattle.clover_rule.specs.Learned.{turn_at, counted, seen, decided, rest_of, next_history}
+use Rattle.clover_rule.specs.Asks.{Asks}
+use Rattle.clover_rule.specs.Steps.{LoadNext, DecideNext, LinkNext, act_of, client, reply_of, IsClient}
 use Rattle.clover_rule.specs.Told.{Told}
 use Rattle.clover_rule.specs.Words.{next_of}
 use Rattle.clover_rule.specs.declared.access.Act.TheVariants.{Load}

@@ -14,7 +14,7 @@ use Rattle.clover_rule.specs.Views.{ViewOk, Spent, Basis, renewed}
 use Rattle.clover_rule.specs.declared.view.View.{View}
 use Rattle.clover_rule.proofs.Tools.{upd_else}
 use Rattle.clover_rule.proofs.Steps.{each_map, prefix_self, Grows, Leaves, view_kept, nth_set, role_was, longest_was}
-use Rattle.clover_rule.proofs.Recycling.{CanRecycle, recycle_core, stands, is, else_same, gone_cases, behind}
+use Rattle.clover_rule.proofs.Exchanging.{CanRecycle, recycle_core, stands, is, else_same, gone_cases, behind}
 
 module _ (m0 : Map) (used : List ℕ) (m : Mem) (vs : List View) (st : Story) (h : List Entry) (r : Basis m0 used m vs st h)
     (id : ℕ) (v v' : View) (at : nth vs id ≡ Some v) (s x : ℕ) (l : CanRecycle m st s x) where

@@ -2,7 +2,7 @@
 use Rattle.std.proofs.Common.{◌≡◌, ℕ, ◌≢◌, ◌⊎◌, List, [], ◌∷◌, ◌++◌, length, set, true, refl, sym, ap, ◌∙◌, inl, inr, ⊎_elim, arith, subst}
 use native.Mathlib.Decide.{ℕ_discrete}
 use mathlib.Core.Logic.{dite}
-use Rattle.std.specs.Prelude.{Option, Some}
+use Rattle.std.specs.Prelude.{Some}
 use Rattle.std.proofs.lemmas.List.{length-set}
 use Rattle.clover_words.specs.Tag.{home, age}
 use Rattle.clover_map.specs.declared.call.Entry.{Entry}
@@ -10,16 +10,14 @@ use Rattle.clover_rule.specs.Content.{inside}
 use Rattle.clover_rule.specs.History.{Map}
 use Rattle.clover_rule.specs.Lists.{Each, nth, upd, Within, IsPart}
 use Rattle.clover_rule.specs.Memory.{gen, Mem}
-use Rattle.clover_rule.specs.Server.{root_in, is_home, book_of, Serves, Whole}
-use Rattle.clover_rule.specs.Story.{Place, Stocked, Free, Taken, Story}
+use Rattle.clover_rule.specs.Server.{book_of, Serves, Whole}
+use Rattle.clover_rule.specs.Story.{Place, Stocked, Free, Story}
 use Rattle.clover_rule.specs.Views.{find_book, line, alone, empty_pass, Book, book, Apart, ViewOk, handed, book_at}
 use Rattle.clover_rule.specs.declared.view.BookLine.{BookLine}
 use Rattle.clover_rule.specs.declared.view.BufferState.TheVariants.{Free as IsFree, Out as IsOut}
 use Rattle.clover_rule.specs.declared.view.Role.{Role}
-use Rattle.clover_rule.specs.declared.view.Role.TheVariants.{Client, Serving, Granting, Noting, Joined}
+use Rattle.clover_rule.specs.declared.view.Role.TheVariants.{Client, Serving, Granting, Noting, Joined, Restarting}
 use Rattle.clover_rule.specs.declared.view.Server.{Server}
-use Rattle.clover_rule.specs.declared.view.Task.{Task}
-use Rattle.clover_rule.specs.declared.view.Task.TheVariants.{Idle, Storing, Rooted, Waiting, Loaded, Raised, Led, Both, Exchanged}
 use Rattle.clover_rule.specs.declared.view.View.{View}
 use Rattle.clover_words.specs.declared.pool.Pool.{Pool}
 use Rattle.clover_rule.proofs.Tools.{upd_same, upd_else, nth_within, nth_snoc, nth_front}
@@ -54,6 +52,7 @@ module _ (l : Pool) (m0 : Map) (used : List ℕ) (m : Mem) (vs : List View) (st 
   role_dec Granting = no (λ e. cc)
   role_dec Noting = no (λ e. cc)
   role_dec Joined = no (λ e. cc)
+  role_dec Restarting = no (λ e. cc)
 
   pub split_whole : Whole l m0 used m split_list (record st { place = handed st.place batch (Stocked (length vs)) }) h
   split_whole = let p = w.basis in hand_whole l m0 used m vs st h w batch Free (length vs) tt was split_list
@@ -124,47 +123,14 @@ module _ (l : Pool) (m0 : Map) (used : List ℕ) (m : Mem) (vs : List View) (st 
   books_then b i = out_found batch v.server.books b ∙ go batch ages (book_at v.server) st.place (sv.books b i)
     where
       go : (ts : List ℕ) → Each (λ (t : ℕ). gen (m.next (home t)) ≡ age t) ts → (f : ℕ → Book) (g : ℕ → Place) → f b ≡ book_of st.task st (g b) (gen (m.next b)) b → out f ts b ≡ book_of st.task st1 (handed g ts (Stocked k) b) (gen (m.next b)) b
-      go [] a f g e = e ∙ sym (book_same st.task st.task st st1 (g b) (gen (m.next b)) b (λ s q. ap (λ (o : Option ℕ). is_home o b) (roots_same st.task s)) (λ q. held_same st.task (gen (m.next b)) b))
-        where
-          roots_same : (T : Task) (s1 : ℕ) → root_in T st1 s1 ≡ root_in T st s1
-          roots_same Idle s1 = refl
-          roots_same (Storing s2 k2 t2 n2) s1 = refl
-          roots_same (Rooted s2 k2 t2) s1 = refl
-          roots_same (Waiting s2 k2 t2) s1 = refl
-          roots_same (Loaded s2 k2 t2) s1 = refl
-          roots_same (Raised s2 k2 t2) s1 = refl
-          roots_same (Led s2 k2 t2) s1 = refl
-          roots_same (Both s2 k2 t2) s1 = refl
-          roots_same (Exchanged s2 r2 t2) s1 = refl
-
-          held_same : (T : Task) (y b : ℕ) → book_of T st1 Taken y b ≡ book_of T st Taken y b
-          held_same Idle y b = refl
-          held_same (Storing s2 k2 t2 n2) y b = refl
-          held_same (Rooted s2 k2 t2) y b = refl
-          held_same (Waiting s2 k2 t2) y b = refl
-          held_same (Loaded s2 k2 t2) y b = refl
-          held_same (Raised s2 k2 t2) y b = refl
-          held_same (Led s2 k2 t2) y b = refl
-          held_same (Both s2 k2 t2) y b = refl
-          held_same (Exchanged s2 r2 t2) y b = refl
+      go [] a f g e = e ∙ sym (book_same st.task st.task st st1 (g b) (gen (m.next b)) b (λ s q. refl) (λ q. refl))
       go (t ∷ ts) a f g e = go ts a.1 (upd f (home t) (book (age t) IsOut)) (upd g (home t) (Stocked k))
           (dite (ℕ_discrete b (home t)) (λ d. ap (upd f (home t) (book (age t) IsOut)) d ∙ upd_same f (home t) (book (age t) IsOut) ∙ ap (λ (x : ℕ). book x IsOut) (sym (ap (λ (x : ℕ). gen (m.next x)) d ∙ a.0)) ∙ sym (ap (λ (q : Place). book_of st.task st q (gen (m.next b)) b) (ap (upd g (home t) (Stocked k)) d ∙ upd_same g (home t) (Stocked k))))
           (λ d. upd_else f (home t) b (book (age t) IsOut) d ∙ e ∙ sym (ap (λ (q : Place). book_of st.task st q (gen (m.next b)) b) (upd_else g (home t) b (Stocked k) d))))
-
-  root_kept : (T : Task) (s1 : ℕ) → root_in T st s1 ≡ root_in T st1 s1
-  root_kept Idle s1 = refl
-  root_kept (Storing s2 k2 t2 n2) s1 = refl
-  root_kept (Rooted s2 k2 t2) s1 = refl
-  root_kept (Waiting s2 k2 t2) s1 = refl
-  root_kept (Loaded s2 k2 t2) s1 = refl
-  root_kept (Raised s2 k2 t2) s1 = refl
-  root_kept (Led s2 k2 t2) s1 = refl
-  root_kept (Both s2 k2 t2) s1 = refl
-  root_kept (Exchanged s2 r2 t2) s1 = refl
 
   pub grant_whole : Whole l m0 used m (set vs id granting ++ grant ∷ []) st1 h
   grant_whole = split_whole l m0 used m vs st h w id v granting grant at batch was refl refl refl (λ e. cc) (λ c e. cc)
       (let a = hand_view l m0 used m vs st h w batch Free k tt was id v (λ z. absurd cc) (w.basis.views id v at) in record { stocked = a.stocked; apart = a.apart; durable = a.durable; links = a.links; words = a.words; written = a.written; flushed = a.flushed; copied = a.copied; names = a.names; added = a.added; most = a.most; history = a.history; calls = a.calls })
       (record { stocked = hand_owned l m0 used m vs st h w batch Free k tt was batch was ages; apart = apart; durable = tt; links = tt; words = tt; written = tt; flushed = tt; copied = tt; names = (st.bindings, refl); added = inr part; most = omega arith; history = (h, refl); calls = tt })
-      (λ e. record { task_is = sv.task_is; directory = sv.directory; roots = λ s1. sv.roots s1 ∙ root_kept st.task s1; books = books_then })
+      (λ e. record { task_is = sv.task_is; directory = sv.directory; roots = sv.roots; books = books_then })
       (λ s e n. absurd (n role))

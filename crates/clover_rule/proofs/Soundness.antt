@@ -122,16 +122,16 @@ module _ (l : Pool) (m0 : Map) (used : List ℕ) (m : Mem) (vs : List View) (st 
       held T g = by T (g.holds b e) g.here
         where
           by : (T : Task) → holding T ≡ Some b → AtStage l m st T → InRange l t
-          by (Storing s k y n) z a = let q : home y ≡ b = cc in ⊎_elim (λ g1. absurd (cc (ap m.next q, ap link a.now, ap link (ap m.next q), g1))) (λ g1. absurd (cc (ap link (ap m.fnext q), ap link a.safe, g1))) f
-          by (Exchanged s r y) z a = let q : home r ≡ b = cc in ⊎_elim (λ g1. absurd (cc (ap link (ap m.next q), ap link a.now, g1)))
-              (λ g1. let u : y ≡ t = let u1 : Some y ≡ Some t = sym (ap link a.safe) ∙ ap link (ap m.fnext q) ∙ g1 in cc in p.ranged.tags s (st.gone s) t (a.root ∙ ap Some u)) f
+          by (Storing bind n) z a = let q : home bind.tag ≡ b = cc in ⊎_elim (λ g1. absurd (cc (ap m.next q, ap link a.now, ap link (ap m.next q), g1))) (λ g1. absurd (cc (ap link (ap m.fnext q), ap link a.safe, g1))) f
+          by (Exchanged cycle) z a = let q : home cycle.root ≡ b = cc in ⊎_elim (λ g1. absurd (cc (ap link (ap m.next q), ap link a.now, g1)))
+              (λ g1. let u : cycle.next ≡ t = let u1 : Some cycle.next ≡ Some t = sym (ap link a.safe) ∙ ap link (ap m.fnext q) ∙ g1 in cc in p.ranged.tags cycle.slot (st.gone cycle.slot) t (a.root ∙ ap Some u)) f
           by Idle z a = absurd cc
-          by (Rooted s k y) z a = absurd cc
-          by (Waiting s k y) z a = absurd cc
-          by (Loaded s k y) z a = absurd cc
-          by (Raised s k y) z a = absurd cc
-          by (Led s k y) z a = absurd cc
-          by (Both s k y) z a = absurd cc
+          by (Rooted bind) z a = absurd cc
+          by (Waiting bind) z a = absurd cc
+          by (Loaded cycle) z a = absurd cc
+          by (Raised cycle) z a = absurd cc
+          by (Led cycle) z a = absurd cc
+          by (Both cycle) z a = absurd cc
   place_cases b t (Stocked i) e f = absurd (let o = c.loose b (subst Loose (sym e) tt) in ⊎_elim (λ g. cc (o.0, g)) (λ g. cc (o.0, ap link o.1, g)) f)
   place_cases b t Free e f = absurd (let o = c.loose b (subst Loose (sym e) tt) in ⊎_elim (λ g. cc (o.0, g)) (λ g. cc (o.0, ap link o.1, g)) f)
   place_cases b t Worn e f = absurd (let o = c.loose b (subst Loose (sym e) tt) in ⊎_elim (λ g. cc (o.0, g)) (λ g. cc (o.0, ap link o.1, g)) f)
@@ -156,6 +156,11 @@ module _ (l : Pool) (m0 : Map) (used : List ℕ) (m : Mem) (vs : List View) (st 
       λ j y q. let b = w.basis.bodies s (from s + i) a.version a.there a.late j y (ap (λ (x : Option Value). nth (content x) j) (sym va) ∙ q) in ap (λ (x : ℕ). im.body (home x) j) (sym a.tag) ∙ ⊎_elim (λ f. f ∙ b.0) (λ f. f ∙ b.1) (is.body (home a.version.tag) j),
     );
   }
+
+  -- a tag of the image's chain stands in its buffer
+  pub chain_placed : (s i t : ℕ) → nth (cut_sound.chain s) i ≡ Some t → st.place (home t) ≡ Chained s
+  unfolding cut_sound
+  chain_placed s i t e = let a = on_chain s (im.root s) refl i t e in (c.standing s (from s + i) t (ap tag_in_version a.there ∙ ap Some a.tag) a.late).placed
 
   listed : (ws : List Version) (f : ℕ → Option Value) → ((i : ℕ) (y : Version) → nth ws i ≡ Some y → f i ≡ y.value) → versions_of (tags ws) f ≡ ws
   listed [] f e = refl

@@ -1,5 +1,5 @@
 -- The laws of a recycling's steps, of a binding's flushed root and of the count.
-use Rattle.std.proofs.Common.{◌≡◌, ℕ, suc, ◌<◌, ◌≤◌, ◌≢◌, ◌⊎◌, List, [], ◌∷◌, ◌++◌, length, length-append, append-nil, Bool, true, false, cond, ltb, refl, sym, ap, ◌∙◌, inl, inr, ⊎_elim, arith, true≢false}
+use Rattle.std.proofs.Common.{◌≡◌, ℕ, suc, ◌<◌, ◌≤◌, ◌≢◌, ◌⊎◌, List, [], ◌∷◌, ◌++◌, length, length-append, append-nil, Bool, true, false, cond, ltb, refl, sym, ap, ◌∙◌, inl, inr, ⊎_elim, arith, true≢false, eqb, eq-eqb, ne_eqb, subst}
 use native.Mathlib.Decide.{ℕ_discrete}
 use mathlib.Core.Logic.{dite}
 use Rattle.std.specs.Prelude.{Option, Some, None}
@@ -9,21 +9,27 @@ use Rattle.clover_map.specs.declared.call.Entry.{Entry}
 use Rattle.clover_rule.specs.Changes.{raised_mem, raised_story, greatest}
 use Rattle.clover_rule.specs.Content.{inside}
 use Rattle.clover_rule.specs.History.{Version, Map}
-use Rattle.clover_rule.specs.Lists.{nth, upd, Within, IsPrefix}
+use Rattle.clover_rule.specs.Lists.{Each, nth, upd, Within, IsPrefix}
 use Rattle.clover_rule.specs.Memory.{Next, word, gen, Mem, greater, order}
-use Rattle.clover_rule.specs.Server.{holding, IsRecycling, Stage, root_in, is_home, book_of, Serves, Whole, IsWhole}
-use Rattle.clover_rule.specs.ServerSteps.{LoadRoot, FlushLink, StoreRoot, StoreFlushedRoot, BindFlushedRoot, StoreCount, served_view}
-use Rattle.clover_rule.specs.Story.{Taken, Story, tag_at, now_at, unsure}
-use Rattle.clover_rule.specs.Views.{Basis, renewed, root_at, book_at}
+use Rattle.clover_rule.specs.Server.{holding, IsRecycling, Stage, or_else, root_in, is_home, book_of, Serves, Whole}
+use Rattle.clover_rule.specs.Learned.{at_task, looked, link_flushed, entered}
+use Rattle.clover_rule.specs.Story.{Taken, Story, tag_at, now_at, unsure, Place, Chained, Standing}
+use Rattle.clover_rule.specs.Views.{SlotsOnce, IsLink, Past, Basis, renewed, root_at, book_at, book}
+use Rattle.clover_rule.specs.declared.view.BufferState.TheVariants.{Bound as IsBound, Out as IsOut}
+use Rattle.clover_rule.specs.declared.view.NewBinding.{NewBinding}
+use Rattle.clover_rule.specs.declared.view.Recycling.{Recycling}
 use Rattle.clover_rule.specs.declared.view.Role.TheVariants.{Serving}
 use Rattle.clover_rule.specs.declared.view.Server.{Server}
 use Rattle.clover_rule.specs.declared.view.Task.{Task}
 use Rattle.clover_rule.specs.declared.view.Task.TheVariants.{Idle, Rooted, Waiting, Loaded, Raised, Led, Both}
 use Rattle.clover_rule.specs.declared.view.View.{View}
 use Rattle.clover_words.specs.declared.pool.Pool.{Pool}
-use Rattle.clover_rule.proofs.Tools.{upd_same, upd_else}
+use Rattle.clover_rule.proofs.Bindings.{nth_among}
+use Rattle.clover_rule.proofs.Tools.{upd_same, upd_else, nth_snoc}
+use Rattle.clover_rule.proofs.Standings.{tag_within}
 use Rattle.clover_rule.proofs.Steps.{prefix_self, within_prefix, within_last, Grows, durable_kept}
-use Rattle.clover_rule.proofs.ServerTools.{core_copy, whole, book_same, tale_copy}
+use Rattle.clover_rule.proofs.ServerTools.{IsServed, same_known, own_whole, core_copy, whole, book_same, tale_copy}
+use Rattle.clover_rule.proofs.Derived.{current_past}
 use Rattle.clover_rule.proofs.ServerLaws.{stage_at, serves_at}
 use Rattle.clover_rule.proofs.Roots.{root_core, flush_core, flead_cases}
 use Rattle.clover_rule.proofs.Raising.{raise_core, most_left, most_right}
@@ -70,72 +76,101 @@ module _ (l : Pool) (m0 : Map) (used : List ℕ) (m : Mem) (vs : List View) (id 
   serves_of T e = serves_at l m0 used m vs id v st h w at role T e
 
   -- the load of the root version's next word
-  module _ (s r t : ℕ) (e : v.server.task ≡ Idle) (root : (root_at v.server) s ≡ Some r) (found : m.next (home r) ≡ word (age r) (Some t)) where
+  module _ (s r : ℕ) (e : v.server.task ≡ Idle) (root : root_at v.server s ≡ Some r) where
     at_root : tag_at st s (st.gone s) ≡ Some r
     at_root = sym ((serves_of Idle e).roots s) ∙ root
 
-    recycling : IsRecycling st s r t
-    recycling = record { root = at_root; next = let q = (ru.core.standing s (st.gone s) r at_root (omega arith)).now in let z : now_at st s (st.gone s) r ≡ word (age r) (Some t) = sym q ∙ found in cc }
+    -- it has its own generation
+    pub root_shows : m.next (home r) ≡ now_at st s (st.gone s) r
+    root_shows = (ru.core.standing s (st.gone s) r at_root (omega arith)).now
 
-    pub load_root_whole : IsWhole l m0 used m (renewed vs id (served_view l (LoadRoot s r t) v))
-    load_root_whole = let p = w.help in let g = stage_of Idle e in let sv = serves_of Idle e in (
-      record st { task = Loaded s r t },
-      h,
-      whole l m0 used m vs st h w id v at role (LoadRoot s r t) m (record st { task = Loaded s r t })
-          record {
-            core = core_copy m st ru.core m.body m.fbody m.key m.fkey m.short m.count st.keys st.first st.bindings (Loaded s r t) st.slot_named;
-            tale = tale_copy st m0 used h ru.tale st.place st.gone st.lead st.flead st.named st.bindings (Loaded s r t) st.slot_named;
-            bodies = ru.bodies;
-            spent = λ y q. q;
-            bound = ru.bound;
-            keyed = ru.keyed;
-            grows = grow_refl m m st (record st { task = Loaded s r t }) h (λ a. refl) (λ a. refl) (λ a. refl) (λ a. refl) (prefix_self st.bindings) (omega arith);
-            leaves = λ j b f. record { place = f; next = refl; body = λ y. refl; fbody = λ y. refl };
-            help = record {
-              ranged = let a = p.ranged in record { tags = a.tags; own = a.own; below = a.below; ready = a.ready; worn = a.worn; fits = a.fits };
-              keyed = let a = p.keyed in record { valid = a.valid; current = a.current; flushed = a.flushed; bare = a.bare; nameless = a.nameless; filled = a.filled; slots = a.slots };
-              naming = let a = p.naming in record { counted = a.counted; found = a.found; listed = a.listed; waiting = a.waiting };
-              stage = record { settled = λ s1 q. g.settled s1 (λ z. absurd cc); holds = λ b q. g.holds b q; names = g.names; here = record { root = recycling.root; next = recycling.next } };
-              short = p.short;
-            };
-            fgens = λ b. omega arith;
-          }
-          record { task_is = refl; directory = sv.directory; roots = sv.roots; books = λ b i. books_still l m st (record st { task = Loaded s r t }) Idle (Loaded s r t) v.server g refl sv (λ s1. refl) b i },
-    )
+    -- what it showed was so
+    past : (n : Next) → m.next (home r) ≡ n → Past m st (home r) n
+    past n q = subst (Past m st (home r)) q (current_past m st ru.core (home r))
+
+    -- no version stands behind it
+    pub read_unlinked : m.next (home r) ≡ word (age r) None → Whole l m0 used m (renewed vs id (looked s r v (word (age r) None))) st h
+    read_unlinked q = own_whole l m0 used m vs st h w id v (looked s r v (word (age r) None)) at refl refl
+        (let k = ru.views id v at in record { stocked = k.stocked; apart = k.apart; durable = k.durable; links = k.links; words = (past (word (age r) None) q, k.words); written = k.written; flushed = k.flushed; copied = k.copied; names = k.names; added = k.added; most = k.most; history = k.history; calls = k.calls })
+        (λ ro x. record { task_is = x.task_is; directory = x.directory; roots = x.roots; books = x.books }) refl
+
+    -- a recycling begins
+    module _ (t : ℕ) (shows : m.next (home r) ≡ word (age r) (Some t)) where
+      abbrev cycle : Recycling
+      cycle = record { slot = s; root = r; next = t }
+
+      recycling : IsRecycling st cycle
+      recycling = record { root = at_root; next = let z : now_at st s (st.gone s) r ≡ word (age r) (Some t) = sym root_shows ∙ shows in cc }
+
+      abbrev y : View
+      y = looked s r v (word (age r) (Some t))
+
+      abbrev sl : Story
+      sl = record st { task = Loaded cycle }
+
+      link_there : (b : Bool) → Each (IsLink st) v.pass.links → Each (IsLink st) (cond b (record { slot = s; from = r; to = t } ∷ v.pass.links) v.pass.links)
+      link_there true k = ((st.gone s, recycling.root, recycling.next), k)
+      link_there false k = k
+
+      pub read_linked : IsServed l m0 used m (renewed vs id y) st h
+      read_linked = let p = w.help in let g = stage_of Idle e in let sv = serves_of Idle e in (
+        sl,
+        whole l m0 used m vs st h w id v at role y refl refl refl m sl
+            record {
+              core = core_copy m st ru.core m.body m.fbody m.key m.fkey m.short m.count st.keys st.first st.bindings (Loaded cycle) st.slot_named;
+              tale = tale_copy st m0 used h ru.tale st.place st.gone st.lead st.flead st.named st.bindings (Loaded cycle) st.slot_named;
+              bodies = ru.bodies;
+              spent = λ y q. q;
+              bound = ru.bound;
+              keyed = ru.keyed;
+              grows = grow_refl m m st sl h (λ a. refl) (λ a. refl) (λ a. refl) (λ a. refl) (prefix_self st.bindings) (omega arith);
+              leaves = λ j b f. record { place = f; next = refl; body = λ y. refl; fbody = λ y. refl };
+              help = record {
+                ranged = let a = p.ranged in record { tags = a.tags; own = a.own; below = a.below; ready = a.ready; worn = a.worn; fits = a.fits };
+                keyed = let a = p.keyed in record { valid = a.valid; current = a.current; flushed = a.flushed; bare = a.bare; nameless = a.nameless; filled = a.filled; slots = a.slots };
+                naming = let a = p.naming in record { counted = a.counted; found = a.found; listed = a.listed; waiting = a.waiting; once = a.once };
+                stage = record { settled = λ s1 q. g.settled s1 (λ z. absurd cc); holds = λ b q. g.holds b q; names = g.names; here = record { root = recycling.root; next = recycling.next } };
+                short = p.short;
+              };
+              fgens = λ b. omega arith;
+            }
+            (λ k. record { stocked = k.stocked; apart = k.apart; durable = k.durable; links = link_there (eqb (age r) (age r)) k.links; words = (past (word (age r) (Some t)) shows, k.words); written = k.written; flushed = k.flushed; copied = k.copied; names = k.names; added = k.added; most = k.most; history = k.history; calls = k.calls })
+            record { task_is = refl; directory = sv.directory; roots = sv.roots; books = λ b i. books_still l m st sl Idle (Loaded cycle) v.server g refl sv (λ s1. refl) b i },
+        λ b i f. f,
+      )
 
   -- the raise over its link
-  module _ (s r t : ℕ) (e : v.server.task ≡ Loaded s r t) where
-    gl : Stage l m st (Loaded s r t)
-    gl = stage_of (Loaded s r t) e
+  module _ (cycle : Recycling) (e : v.server.task ≡ Loaded cycle) where
+    gl : Stage l m st (Loaded cycle)
+    gl = stage_of (Loaded cycle) e
 
     abbrev ms : Mem
-    ms = raised_mem m r t
+    ms = raised_mem m cycle.root cycle.next
 
     abbrev ss : Story
-    ss = record (raised_story st s (st.gone s)) { task = Raised s r t }
+    ss = record (raised_story st cycle.slot (st.gone cycle.slot)) { task = Raised cycle }
 
     sure_more : (s1 : ℕ) → st.sure s1 ≤ ss.sure s1
-    sure_more s1 = dite (ℕ_discrete s1 s) (λ d. rw d (rw (upd_same st.sure s (greatest (st.sure s) (suc (suc (st.gone s))))) (most_left (st.sure s) (suc (suc (st.gone s)))))) (λ n. let q : ss.sure s1 ≡ st.sure s1 = upd_else st.sure s s1 (greatest (st.sure s) (suc (suc (st.gone s)))) n in omega arith)
+    sure_more s1 = dite (ℕ_discrete s1 cycle.slot) (λ d. rw d (rw (upd_same st.sure cycle.slot (greatest (st.sure cycle.slot) (suc (suc (st.gone cycle.slot))))) (most_left (st.sure cycle.slot) (suc (suc (st.gone cycle.slot)))))) (λ n. let q : ss.sure s1 ≡ st.sure s1 = upd_else st.sure cycle.slot s1 (greatest (st.sure cycle.slot) (suc (suc (st.gone cycle.slot)))) n in omega arith)
 
-    now_sure : suc (st.gone s) < ss.sure s
-    now_sure = rw (upd_same st.sure s (greatest (st.sure s) (suc (suc (st.gone s))))) (most_right (st.sure s) (suc (suc (st.gone s))))
+    now_sure : suc (st.gone cycle.slot) < ss.sure cycle.slot
+    now_sure = rw (upd_same st.sure cycle.slot (greatest (st.sure cycle.slot) (suc (suc (st.gone cycle.slot))))) (most_right (st.sure cycle.slot) (suc (suc (st.gone cycle.slot))))
 
     grow : Grows m st h ms ss h
     grow = record { versions = λ s1 i1 w1 q. q; sure = sure_more; gone = λ j. omega arith; gens = λ b. omega arith; names = prefix_self st.bindings; count = omega arith; history = prefix_self h }
 
-    new_f : ms.fnext (home r) ≡ greater (m.fnext (home r)) (word (age r) (Some t))
-    new_f = upd_same m.fnext (home r) (greater (m.fnext (home r)) (word (age r) (Some t)))
+    new_f : ms.fnext (home cycle.root) ≡ greater (m.fnext (home cycle.root)) (word (age cycle.root) (Some cycle.next))
+    new_f = upd_same m.fnext (home cycle.root) (greater (m.fnext (home cycle.root)) (word (age cycle.root) (Some cycle.next)))
 
-    else_f : (b : ℕ) → b ≢ home r → ms.fnext b ≡ m.fnext b
-    else_f b n = upd_else m.fnext (home r) b (greater (m.fnext (home r)) (word (age r) (Some t))) n
+    else_f : (b : ℕ) → b ≢ home cycle.root → ms.fnext b ≡ m.fnext b
+    else_f b n = upd_else m.fnext (home cycle.root) b (greater (m.fnext (home cycle.root)) (word (age cycle.root) (Some cycle.next))) n
 
-    pub flush_link_whole : IsWhole l m0 used ms (renewed vs id (served_view l (FlushLink s r t) v))
-    flush_link_whole = let p = w.help in let sv = serves_of (Loaded s r t) e in (
+    pub flush_link_whole : IsServed l m0 used ms (renewed vs id (link_flushed v cycle)) st h
+    flush_link_whole = let p = w.help in let sv = serves_of (Loaded cycle) e in (
       ss,
-      h,
-      whole l m0 used m vs st h w id v at role (FlushLink s r t) ms ss
+      whole l m0 used m vs st h w id v at role (link_flushed v cycle) refl refl refl ms ss
           record {
-            core = core_copy ms (raised_story st s (st.gone s)) (raise_core m st s (st.gone s) r t ru.core record { from = gl.here.root; to = gl.here.next }) m.body m.fbody m.key m.fkey m.short m.count st.keys st.first st.bindings (Raised s r t) st.slot_named;
+            core = core_copy ms (raised_story st cycle.slot (st.gone cycle.slot)) (raise_core m st cycle.slot (st.gone cycle.slot) cycle.root cycle.next ru.core record { from = gl.here.root; to = gl.here.next }) m.body m.fbody m.key m.fkey m.short m.count st.keys st.first st.bindings (Raised cycle) st.slot_named;
             tale = record {
               legal = ru.tale.legal;
               told = ru.tale.told;
@@ -157,37 +192,38 @@ module _ (l : Pool) (m0 : Map) (used : List ℕ) (m : Mem) (vs : List View) (id 
                 ready = a.ready;
                 worn = a.worn;
                 fits = a.fits;
-                below = λ b. dite (ℕ_discrete b (home r)) (λ d. rw d (rw new_f (gen_most (m.fnext (home r)) (word (age r) (Some t)) (gen (m.next (home r))) (a.below (home r)) (let z = ap gen (ru.core.standing s (st.gone s) r gl.here.root (omega arith)).now in omega arith)))) (λ n. let z = ap gen (else_f b n) in let z1 = a.below b in omega arith);
+                below = λ b. dite (ℕ_discrete b (home cycle.root)) (λ d. rw d (rw new_f (gen_most (m.fnext (home cycle.root)) (word (age cycle.root) (Some cycle.next)) (gen (m.next (home cycle.root))) (a.below (home cycle.root)) (let z = ap gen (ru.core.standing cycle.slot (st.gone cycle.slot) cycle.root gl.here.root (omega arith)).now in omega arith)))) (λ n. let z = ap gen (else_f b n) in let z1 = a.below b in omega arith);
               };
               keyed = let a = p.keyed in record { valid = a.valid; current = a.current; flushed = a.flushed; bare = a.bare; nameless = a.nameless; filled = a.filled; slots = a.slots };
-              naming = let a = p.naming in record { counted = a.counted; found = a.found; listed = a.listed; waiting = a.waiting };
+              naming = let a = p.naming in record { counted = a.counted; found = a.found; listed = a.listed; waiting = a.waiting; once = a.once };
               stage = record { settled = λ s1 q. gl.settled s1 (λ z. absurd cc); holds = λ b q. gl.holds b q; names = gl.names; here = (record { root = gl.here.root; next = gl.here.next }, now_sure) };
               short = λ s1 y q. durable_kept m st h ms ss h grow s1 y (p.short s1 y q);
             };
-            fgens = λ b. dite (ℕ_discrete b (home r)) (λ d. rw d (rw new_f (gen_least (m.fnext (home r)) (word (age r) (Some t))))) (λ n. let z = ap gen (else_f b n) in omega arith);
+            fgens = λ b. dite (ℕ_discrete b (home cycle.root)) (λ d. rw d (rw new_f (gen_least (m.fnext (home cycle.root)) (word (age cycle.root) (Some cycle.next))))) (λ n. let z = ap gen (else_f b n) in omega arith);
           }
-          record { task_is = refl; directory = sv.directory; roots = sv.roots; books = λ b i. books_still l m st ss (Loaded s r t) (Raised s r t) v.server gl refl sv (λ s1. refl) b i },
+          (λ q. let a = same_known ms ss h id v (link_flushed v cycle).server q in record { stocked = a.stocked; apart = a.apart; durable = ((suc (st.gone cycle.slot), gl.here.next, now_sure), a.durable); links = a.links; words = a.words; written = a.written; flushed = a.flushed; copied = a.copied; names = a.names; added = a.added; most = a.most; history = a.history; calls = a.calls })
+          record { task_is = refl; directory = sv.directory; roots = sv.roots; books = λ b i. books_still l m st ss (Loaded cycle) (Raised cycle) v.server gl refl sv (λ s1. refl) b i },
+      λ b i f. f,
     )
 
   -- the store of the root
-  module _ (s r t : ℕ) (e : v.server.task ≡ Raised s r t) where
-    gr : Stage l m st (Raised s r t)
-    gr = stage_of (Raised s r t) e
+  module _ (cycle : Recycling) (e : v.server.task ≡ Raised cycle) where
+    gr : Stage l m st (Raised cycle)
+    gr = stage_of (Raised cycle) e
 
     abbrev mr : Mem
-    mr = record m { root = upd m.root s (Some t) }
+    mr = record m { root = upd m.root cycle.slot (Some cycle.next) }
 
     abbrev sr : Story
-    sr = record st { lead = upd st.lead s (suc (st.gone s)); task = Led s r t }
+    sr = record st { lead = upd st.lead cycle.slot (suc (st.gone cycle.slot)); task = Led cycle }
 
-    pub store_root_whole : IsWhole l m0 used mr (renewed vs id (served_view l (StoreRoot s r t) v))
-    store_root_whole = let p = w.help in let sv = serves_of (Raised s r t) e in (
+    pub store_root_whole : IsServed l m0 used mr (renewed vs id (at_task v (Led cycle))) st h
+    store_root_whole = let p = w.help in let sv = serves_of (Raised cycle) e in (
       sr,
-      h,
-      whole l m0 used m vs st h w id v at role (StoreRoot s r t) mr sr
+      whole l m0 used m vs st h w id v at role (at_task v (Led cycle)) refl refl refl mr sr
           record {
-            core = core_copy mr (record st { lead = upd st.lead s (suc (st.gone s)) }) (root_core m st s r t ru.core gr.here.0.root gr.here.0.next gr.here.1) m.body m.fbody m.key m.fkey m.short m.count st.keys st.first st.bindings (Led s r t) st.slot_named;
-            tale = tale_copy st m0 used h ru.tale st.place st.gone (upd st.lead s (suc (st.gone s))) st.flead st.named st.bindings (Led s r t) st.slot_named;
+            core = core_copy mr (record st { lead = upd st.lead cycle.slot (suc (st.gone cycle.slot)) }) (root_core m st cycle.slot cycle.root cycle.next ru.core gr.here.0.root gr.here.0.next gr.here.1) m.body m.fbody m.key m.fkey m.short m.count st.keys st.first st.bindings (Led cycle) st.slot_named;
+            tale = tale_copy st m0 used h ru.tale st.place st.gone (upd st.lead cycle.slot (suc (st.gone cycle.slot))) st.flead st.named st.bindings (Led cycle) st.slot_named;
             bodies = ru.bodies;
             spent = λ y q. q;
             bound = ru.bound;
@@ -197,39 +233,40 @@ module _ (l : Pool) (m0 : Map) (used : List ℕ) (m : Mem) (vs : List View) (id 
             help = record {
               ranged = let a = p.ranged in record { tags = a.tags; own = a.own; below = a.below; ready = a.ready; worn = a.worn; fits = a.fits };
               keyed = let a = p.keyed in record { valid = a.valid; current = a.current; flushed = a.flushed; bare = a.bare; nameless = a.nameless; filled = a.filled; slots = a.slots };
-              naming = let a = p.naming in record { counted = a.counted; found = a.found; listed = a.listed; waiting = a.waiting };
+              naming = let a = p.naming in record { counted = a.counted; found = a.found; listed = a.listed; waiting = a.waiting; once = a.once };
               stage = record {
-                settled = λ s1 q. let d : s1 ≢ s = λ z. q (ap Some (sym z)) in let a = gr.settled s1 (λ z. absurd cc) in (upd_else st.lead s s1 (suc (st.gone s)) d ∙ a.0, a.1);
+                settled = λ s1 q. let d : s1 ≢ cycle.slot = λ z. q (ap Some (sym z)) in let a = gr.settled s1 (λ z. absurd cc) in (upd_else st.lead cycle.slot s1 (suc (st.gone cycle.slot)) d ∙ a.0, a.1);
                 holds = λ b q. gr.holds b q;
                 names = gr.names;
-                here = (record { root = gr.here.0.root; next = gr.here.0.next }, gr.here.1, upd_same st.lead s (suc (st.gone s)), (gr.settled s (λ z. absurd cc)).1);
+                here = (record { root = gr.here.0.root; next = gr.here.0.next }, gr.here.1, upd_same st.lead cycle.slot (suc (st.gone cycle.slot)), (gr.settled cycle.slot (λ z. absurd cc)).1);
               };
               short = p.short;
             };
             fgens = λ b. omega arith;
           }
-          record { task_is = refl; directory = sv.directory; roots = sv.roots; books = λ b i. books_still l m st sr (Raised s r t) (Led s r t) v.server gr refl sv (λ s1. refl) b i },
+          (same_known mr sr h id v (at_task v (Led cycle)).server)
+          record { task_is = refl; directory = sv.directory; roots = sv.roots; books = λ b i. books_still l m st sr (Raised cycle) (Led cycle) v.server gr refl sv (λ s1. refl) b i },
+      λ b i f. f,
     )
 
   -- the store of its flushed copy
-  module _ (s r t : ℕ) (e : v.server.task ≡ Led s r t) where
-    gd : Stage l m st (Led s r t)
-    gd = stage_of (Led s r t) e
+  module _ (cycle : Recycling) (e : v.server.task ≡ Led cycle) where
+    gd : Stage l m st (Led cycle)
+    gd = stage_of (Led cycle) e
 
     abbrev mf : Mem
-    mf = record m { froot = upd m.froot s (Some t) }
+    mf = record m { froot = upd m.froot cycle.slot (Some cycle.next) }
 
     abbrev sf : Story
-    sf = record st { flead = upd st.flead s (st.lead s); task = Both s r t }
+    sf = record st { flead = upd st.flead cycle.slot (st.lead cycle.slot); task = Both cycle }
 
-    pub store_flushed_whole : IsWhole l m0 used mf (renewed vs id (served_view l (StoreFlushedRoot s r t) v))
-    store_flushed_whole = let p = w.help in let sv = serves_of (Led s r t) e in (
+    pub store_flushed_whole : IsServed l m0 used mf (renewed vs id (at_task v (Both cycle))) st h
+    store_flushed_whole = let p = w.help in let sv = serves_of (Led cycle) e in (
       sf,
-      h,
-      whole l m0 used m vs st h w id v at role (StoreFlushedRoot s r t) mf sf
+      whole l m0 used m vs st h w id v at role (at_task v (Both cycle)) refl refl refl mf sf
           record {
-            core = core_copy mf (record st { flead = upd st.flead s (st.lead s) }) (flush_core m st s t ru.core (ap (tag_at st s) gd.here.2 ∙ gd.here.0.next)) m.body m.fbody m.key m.fkey m.short m.count st.keys st.first st.bindings (Both s r t) st.slot_named;
-            tale = tale_copy st m0 used h ru.tale st.place st.gone st.lead (upd st.flead s (st.lead s)) st.named st.bindings (Both s r t) st.slot_named;
+            core = core_copy mf (record st { flead = upd st.flead cycle.slot (st.lead cycle.slot) }) (flush_core m st cycle.slot cycle.next ru.core (ap (tag_at st cycle.slot) gd.here.2 ∙ gd.here.0.next)) m.body m.fbody m.key m.fkey m.short m.count st.keys st.first st.bindings (Both cycle) st.slot_named;
+            tale = tale_copy st m0 used h ru.tale st.place st.gone st.lead (upd st.flead cycle.slot (st.lead cycle.slot)) st.named st.bindings (Both cycle) st.slot_named;
             bodies = ru.bodies;
             spent = λ y q. q;
             bound = ru.bound;
@@ -239,39 +276,40 @@ module _ (l : Pool) (m0 : Map) (used : List ℕ) (m : Mem) (vs : List View) (id 
             help = record {
               ranged = let a = p.ranged in record { tags = a.tags; own = a.own; below = a.below; ready = a.ready; worn = a.worn; fits = a.fits };
               keyed = let a = p.keyed in record { valid = a.valid; current = a.current; flushed = a.flushed; bare = a.bare; nameless = a.nameless; filled = a.filled; slots = a.slots };
-              naming = let a = p.naming in record { counted = a.counted; found = a.found; listed = a.listed; waiting = a.waiting };
+              naming = let a = p.naming in record { counted = a.counted; found = a.found; listed = a.listed; waiting = a.waiting; once = a.once };
               stage = record {
-                settled = λ s1 q. let d : s1 ≢ s = λ z. q (ap Some (sym z)) in let a = gd.settled s1 q in (a.0, upd_else st.flead s s1 (st.lead s) d ∙ a.1);
+                settled = λ s1 q. let d : s1 ≢ cycle.slot = λ z. q (ap Some (sym z)) in let a = gd.settled s1 q in (a.0, upd_else st.flead cycle.slot s1 (st.lead cycle.slot) d ∙ a.1);
                 holds = λ b q. gd.holds b q;
                 names = gd.names;
-                here = (record { root = gd.here.0.root; next = gd.here.0.next }, gd.here.1, gd.here.2, upd_same st.flead s (st.lead s) ∙ gd.here.2);
+                here = (record { root = gd.here.0.root; next = gd.here.0.next }, gd.here.1, gd.here.2, upd_same st.flead cycle.slot (st.lead cycle.slot) ∙ gd.here.2);
               };
               short = p.short;
             };
             fgens = λ b. omega arith;
           }
-          record { task_is = refl; directory = sv.directory; roots = sv.roots; books = λ b i. books_still l m st sf (Led s r t) (Both s r t) v.server gd refl sv (λ s1. refl) b i },
+          (same_known mf sf h id v (at_task v (Both cycle)).server)
+          record { task_is = refl; directory = sv.directory; roots = sv.roots; books = λ b i. books_still l m st sf (Led cycle) (Both cycle) v.server gd refl sv (λ s1. refl) b i },
+      λ b i f. f,
     )
 
   -- a binding's store of the flushed root
-  module _ (s : ℕ) (k : List ℕ) (t : ℕ) (e : v.server.task ≡ Rooted s k t) where
-    gb : Stage l m st (Rooted s k t)
-    gb = stage_of (Rooted s k t) e
+  module _ (bind : NewBinding) (e : v.server.task ≡ Rooted bind) where
+    gb : Stage l m st (Rooted bind)
+    gb = stage_of (Rooted bind) e
 
     abbrev mb : Mem
-    mb = record m { froot = upd m.froot s (Some t) }
+    mb = record m { froot = upd m.froot bind.slot (Some bind.tag) }
 
     abbrev sb : Story
-    sb = record st { flead = upd st.flead s (st.lead s); task = Waiting s k t }
+    sb = record st { flead = upd st.flead bind.slot (st.lead bind.slot); task = Waiting bind }
 
-    pub bind_flushed_whole : IsWhole l m0 used mb (renewed vs id (served_view l (BindFlushedRoot s k t) v))
-    bind_flushed_whole = let p = w.help in let sv = serves_of (Rooted s k t) e in let a0 = gb.here.0 in (
+    pub bind_flushed_whole : IsServed l m0 used mb (renewed vs id (at_task v (Waiting bind))) st h
+    bind_flushed_whole = let p = w.help in let sv = serves_of (Rooted bind) e in let a0 = gb.here.0 in (
       sb,
-      h,
-      whole l m0 used m vs st h w id v at role (BindFlushedRoot s k t) mb sb
+      whole l m0 used m vs st h w id v at role (at_task v (Waiting bind)) refl refl refl mb sb
           record {
-            core = core_copy mb (record st { flead = upd st.flead s (st.lead s) }) (flush_core m st s t ru.core (ap (tag_at st s) ((gb.settled s (λ z. absurd cc)).0 ∙ a0.gone) ∙ a0.tag)) m.body m.fbody m.key m.fkey m.short m.count st.keys st.first st.bindings (Waiting s k t) st.slot_named;
-            tale = tale_copy st m0 used h ru.tale st.place st.gone st.lead (upd st.flead s (st.lead s)) st.named st.bindings (Waiting s k t) st.slot_named;
+            core = core_copy mb (record st { flead = upd st.flead bind.slot (st.lead bind.slot) }) (flush_core m st bind.slot bind.tag ru.core (ap (tag_at st bind.slot) ((gb.settled bind.slot (λ z. absurd cc)).0 ∙ a0.gone) ∙ a0.tag)) m.body m.fbody m.key m.fkey m.short m.count st.keys st.first st.bindings (Waiting bind) st.slot_named;
+            tale = tale_copy st m0 used h ru.tale st.place st.gone st.lead (upd st.flead bind.slot (st.lead bind.slot)) st.named st.bindings (Waiting bind) st.slot_named;
             bodies = ru.bodies;
             spent = λ y q. q;
             bound = ru.bound;
@@ -281,45 +319,80 @@ module _ (l : Pool) (m0 : Map) (used : List ℕ) (m : Mem) (vs : List View) (id 
             help = record {
               ranged = let a = p.ranged in record { tags = a.tags; own = a.own; below = a.below; ready = a.ready; worn = a.worn; fits = a.fits };
               keyed = let a = p.keyed in record { valid = a.valid; current = a.current; flushed = a.flushed; bare = a.bare; nameless = a.nameless; filled = a.filled; slots = a.slots };
-              naming = let a = p.naming in record { counted = a.counted; found = a.found; listed = a.listed; waiting = a.waiting };
+              naming = let a = p.naming in record { counted = a.counted; found = a.found; listed = a.listed; waiting = a.waiting; once = a.once };
               stage = record {
-                settled = λ s1 q. let a = gb.settled s1 (λ z. absurd cc) in (a.0, ⊎_elim (λ d. d.1 ∙ ap st.lead (sym d.0) ∙ a.0) (λ d. d.1 ∙ a.1) (flead_cases m st s t ru.core (ap (tag_at st s) ((gb.settled s (λ z. absurd cc)).0 ∙ a0.gone) ∙ a0.tag) s1));
+                settled = λ s1 q. let a = gb.settled s1 (λ z. absurd cc) in (a.0, ⊎_elim (λ d. d.1 ∙ ap st.lead (sym d.0) ∙ a.0) (λ d. d.1 ∙ a.1) (flead_cases m st bind.slot bind.tag ru.core (ap (tag_at st bind.slot) ((gb.settled bind.slot (λ z. absurd cc)).0 ∙ a0.gone) ∙ a0.tag) s1));
                 holds = λ b q. gb.holds b q;
                 names = gb.names;
-                here = (record { key = a0.key; unnamed = a0.unnamed; alone = a0.alone; tag = a0.tag; gone = a0.gone }, upd_same m.froot s (Some t));
+                here = (record { key = a0.key; unnamed = a0.unnamed; alone = a0.alone; tag = a0.tag; gone = a0.gone }, upd_same m.froot bind.slot (Some bind.tag));
               };
               short = p.short;
             };
             fgens = λ b. omega arith;
           }
-          record { task_is = refl; directory = sv.directory; roots = sv.roots; books = λ b i. books_still l m st sb (Rooted s k t) (Waiting s k t) v.server gb refl sv (λ s1. refl) b i },
+          (same_known mb sb h id v (at_task v (Waiting bind)).server)
+          record { task_is = refl; directory = sv.directory; roots = sv.roots; books = λ b i. books_still l m st sb (Rooted bind) (Waiting bind) v.server gb refl sv (λ s1. refl) b i },
+      λ b i f. f,
     )
 
   -- the store of the count
-  module _ (s : ℕ) (k : List ℕ) (t : ℕ) (e : v.server.task ≡ Waiting s k t) where
-    gc : Stage l m st (Waiting s k t)
-    gc = stage_of (Waiting s k t) e
+  module _ (bind : NewBinding) (e : v.server.task ≡ Waiting bind) where
+    gc : Stage l m st (Waiting bind)
+    gc = stage_of (Waiting bind) e
 
     abbrev mc : Mem
     mc = record m { count = suc m.count }
 
     abbrev sc : Story
-    sc = record st { named = upd st.named s true; bindings = st.bindings ++ (s, k) ∷ []; task = Idle }
+    sc = record st { named = upd st.named bind.slot true; bindings = st.bindings ++ (bind.slot, bind.key) ∷ []; task = Idle }
 
-    named_else : (s1 : ℕ) → s1 ≢ s → sc.named s1 ≡ st.named s1
-    named_else s1 n = upd_else st.named s s1 true n
+    named_else : (s1 : ℕ) → s1 ≢ bind.slot → sc.named s1 ≡ st.named s1
+    named_else s1 n = upd_else st.named bind.slot s1 true n
 
-    named_now : sc.named s ≡ true
-    named_now = upd_same st.named s true
+    named_now : sc.named bind.slot ≡ true
+    named_now = upd_same st.named bind.slot true
 
-    unnamed_else : (s1 : ℕ) → sc.named s1 ≡ false → s1 ≢ s
+    unnamed_else : (s1 : ℕ) → sc.named s1 ≡ false → s1 ≢ bind.slot
     unnamed_else s1 f z = true≢false (sym named_now ∙ ap sc.named (sym z) ∙ f)
 
-    pub store_count_whole : IsWhole l m0 used mc (renewed vs id (served_view l (StoreCount s k t) v))
-    store_count_whole = let p = w.help in let sv = serves_of (Waiting s k t) e in let a0 = gc.here.0 in let c = ru.core in (
+    -- the slot and its tombstone are entered
+    root_c : tag_at st bind.slot (st.gone bind.slot) ≡ Some bind.tag
+    root_c = ap (tag_at st bind.slot) gc.here.0.gone ∙ gc.here.0.tag
+
+    roots_c : (s1 : ℕ) → upd (root_at v.server) bind.slot (Some bind.tag) s1 ≡ tag_at st s1 (st.gone s1)
+    roots_c s1 = dite (ℕ_discrete s1 bind.slot) (λ d. ap (upd (root_at v.server) bind.slot (Some bind.tag)) d ∙ upd_same (root_at v.server) bind.slot (Some bind.tag) ∙ sym (ap (λ (a : ℕ). tag_at st a (st.gone a)) d ∙ root_c))
+        (λ d. upd_else (root_at v.server) bind.slot s1 (Some bind.tag) d ∙ (serves_of (Waiting bind) e).roots s1 ∙ ap (λ (b : Bool). or_else (cond b (Some None) None) (tag_at st s1 (st.gone s1))) (ne_eqb bind.slot s1 (λ z. d (sym z))))
+
+    t_stands : Standing m st bind.slot (st.gone bind.slot) bind.tag
+    t_stands = ru.core.standing bind.slot (st.gone bind.slot) bind.tag root_c (omega arith)
+
+    books_c : (b : ℕ) → inside l b ≡ true → upd (book_at v.server) (home bind.tag) (book (age bind.tag) IsBound) b ≡ book_of Idle sc (st.place b) (gen (m.next b)) b
+    books_c b i = dite (ℕ_discrete b (home bind.tag))
+        (λ d. ap (upd (book_at v.server) (home bind.tag) (book (age bind.tag) IsBound)) d ∙ upd_same (book_at v.server) (home bind.tag) (book (age bind.tag) IsBound)
+        ∙ sym (ap (λ (q : Place). book_of Idle sc q (gen (m.next b)) b) (ap st.place d ∙ t_stands.placed) ∙ ap (λ (o : Option ℕ). book (gen (m.next b)) (cond (is_home o b) IsBound IsOut)) root_c ∙ ap (λ (c : Bool). book (gen (m.next b)) (cond c IsBound IsOut)) (eq-eqb (home bind.tag) b (sym d)) ∙ ap (λ (y : ℕ). book y IsBound) (ap (λ (y : ℕ). gen (m.next y)) d ∙ ap gen t_stands.now)))
+        (λ d. upd_else (book_at v.server) (home bind.tag) b (book (age bind.tag) IsBound) d ∙ (serves_of (Waiting bind) e).books b i ∙ sym (book_same (Waiting bind) Idle st sc (st.place b) (gen (m.next b)) b (λ s1 q. same_home b d s1 q) (λ q. absurd (none_held l m st (Waiting bind) gc refl b q))))
+      where
+        -- no other buffer stands on the slot's chain
+        same_home : (b : ℕ) → b ≢ home bind.tag → (s1 : ℕ) → st.place b ≡ Chained s1 → is_home (root_in Idle sc s1) b ≡ is_home (root_in (Waiting bind) st s1) b
+        same_home b d s1 q = dite (ℕ_discrete s1 bind.slot)
+            (λ z. absurd (let c = ru.core.chained b s1 q in let a1 = tag_within st s1 c.0 c.1 c.2 in let n1 = ap (λ (y : ℕ). length (st.log y)) z in let n2 = gc.here.0.alone in let z0 : c.0 ≡ 0 = omega arith in
+            d (sym c.4 ∙ ap home (let y : Some c.1 ≡ Some bind.tag = sym c.2 ∙ ap (tag_at st s1) z0 ∙ ap (λ (a : ℕ). tag_at st a 0) z ∙ gc.here.0.tag in cc))))
+            (λ z. sym (ap (λ (c : Bool). is_home (or_else (cond c (Some None) None) (tag_at st s1 (st.gone s1))) b) (ne_eqb bind.slot s1 (λ y. z (sym y)))))
+
+    -- the slot that gets its name had none
+    no_name : (j : ℕ) (k : List ℕ) → nth st.bindings j ≡ Some (bind.slot, k) → ⊥
+    no_name j k q = true≢false (sym (ru.bound bind.slot k (nth_among st.bindings j (bind.slot, k) q)).1 ∙ gc.here.0.unnamed)
+
+    once_more : SlotsOnce st.bindings → SlotsOnce (st.bindings ++ (bind.slot, bind.key) ∷ [])
+    once_more f i j s k1 k2 q g = ⊎_elim
+        (λ a. ⊎_elim (λ b. f i j s k1 k2 a b) (λ b. absurd (no_name i k1 (a ∙ ap (λ (x : ℕ). Some (x, k1)) (sym (ap (λ (x : ℕ × List ℕ). x.0) b.1))))) (nth_snoc st.bindings (bind.slot, bind.key) (s, k2) j g))
+        (λ a. ⊎_elim (λ b. absurd (no_name j k2 (b ∙ ap (λ (x : ℕ). Some (x, k2)) (sym (ap (λ (x : ℕ × List ℕ). x.0) a.1))))) (λ b. a.0 ∙ sym b.0) (nth_snoc st.bindings (bind.slot, bind.key) (s, k2) j g))
+        (nth_snoc st.bindings (bind.slot, bind.key) (s, k1) i q)
+
+    pub store_count_whole : IsServed l m0 used mc (renewed vs id (entered v bind)) st h
+    store_count_whole = let p = w.help in let sv = serves_of (Waiting bind) e in let a0 = gc.here.0 in let c = ru.core in (
       sc,
-      h,
-      whole l m0 used m vs st h w id v at role (StoreCount s k t) mc sc
+      whole l m0 used m vs st h w id v at role (entered v bind) refl refl refl mc sc
           record {
             core = record {
               spotted = c.spotted;
@@ -331,17 +404,17 @@ module _ (l : Pool) (m0 : Map) (used : List ℕ) (m : Mem) (vs : List View) (id 
               bare = c.bare;
               led = c.led;
               root = c.root;
-              froot = λ s1. ⊎_elim inl (λ x. dite (ℕ_discrete s1 s) (λ d. absurd (cc (ap m.froot d, x.empty, gc.here.1))) (λ d. inr record { empty = x.empty; unnamed = named_else s1 d ∙ x.unnamed; alone = x.alone; dead = x.dead })) (c.froot s1);
+              froot = λ s1. ⊎_elim inl (λ x. dite (ℕ_discrete s1 bind.slot) (λ d. absurd (cc (ap m.froot d, x.empty, gc.here.1))) (λ d. inr record { empty = x.empty; unnamed = named_else s1 d ∙ x.unnamed; alone = x.alone; dead = x.dead })) (c.froot s1);
               loose = c.loose;
               held = c.held;
               chained = c.chained;
             };
-            tale = tale_copy st m0 used h ru.tale st.place st.gone st.lead st.flead (upd st.named s true) (st.bindings ++ (s, k) ∷ []) Idle st.slot_named;
+            tale = tale_copy st m0 used h ru.tale st.place st.gone st.lead st.flead (upd st.named bind.slot true) (st.bindings ++ (bind.slot, bind.key) ∷ []) Idle st.slot_named;
             bodies = ru.bodies;
             spent = λ y q. q;
-            bound = λ s1 k1 q. ⊎_elim (λ b. let z = ru.bound s1 k1 b in (z.0, dite (ℕ_discrete s1 s) (λ d. ap sc.named d ∙ named_now) (λ d. named_else s1 d ∙ z.1))) (λ b. let z : s ≡ s1 = ap (λ (x : ℕ × List ℕ). x.0) b in let z1 : k ≡ k1 = ap (λ (x : ℕ × List ℕ). x.1) b in (ap st.keys (sym z) ∙ a0.key ∙ ap Some z1, ap sc.named (sym z) ∙ named_now)) (within_two (s1, k1) (s, k) st.bindings q);
+            bound = λ s1 k1 q. ⊎_elim (λ b. let z = ru.bound s1 k1 b in (z.0, dite (ℕ_discrete s1 bind.slot) (λ d. ap sc.named d ∙ named_now) (λ d. named_else s1 d ∙ z.1))) (λ b. let z : bind.slot ≡ s1 = ap (λ (x : ℕ × List ℕ). x.0) b in let z1 : bind.key ≡ k1 = ap (λ (x : ℕ × List ℕ). x.1) b in (ap st.keys (sym z) ∙ a0.key ∙ ap Some z1, ap sc.named (sym z) ∙ named_now)) (within_two (s1, k1) (bind.slot, bind.key) st.bindings q);
             keyed = ru.keyed;
-            grows = grow_refl m mc st sc h (λ a. refl) (λ a. refl) (λ a. refl) (λ a. refl) ((s, k) ∷ [], refl) (omega arith);
+            grows = grow_refl m mc st sc h (λ a. refl) (λ a. refl) (λ a. refl) (λ a. refl) ((bind.slot, bind.key) ∷ [], refl) (omega arith);
             leaves = λ j b f. record { place = f; next = refl; body = λ y. refl; fbody = λ y. refl };
             help = record {
               ranged = let a = p.ranged in record { tags = a.tags; own = a.own; below = a.below; ready = a.ready; worn = a.worn; fits = a.fits };
@@ -355,20 +428,23 @@ module _ (l : Pool) (m0 : Map) (used : List ℕ) (m : Mem) (vs : List View) (id 
                 nameless = λ s1 q. named_else s1 (λ z. absurd (cc (ap st.keys z, q, a0.key))) ∙ a.nameless s1 q;
               };
               naming = let a = p.naming in record {
-                counted = ap suc a.counted ∙ sym (let z : length (st.bindings ++ (s, k) ∷ []) ≡ suc (length st.bindings) = omega (arith, length-append st.bindings ((s, k) ∷ [])) in z);
+                counted = ap suc a.counted ∙ sym (let z : length (st.bindings ++ (bind.slot, bind.key) ∷ []) ≡ suc (length st.bindings) = omega (arith, length-append st.bindings ((bind.slot, bind.key) ∷ [])) in z);
                 found = a.found;
-                listed = λ s1 k1 q f. dite (ℕ_discrete s1 s) (λ d. let z : k1 ≡ k = cc (ap st.keys d, q, a0.key) in rw (d, z) (within_last (s, k) st.bindings)) (λ d. within_prefix (s1, k1) st.bindings ((s, k) ∷ []) (a.listed s1 k1 q (sym (named_else s1 d) ∙ f)));
+                listed = λ s1 k1 q f. dite (ℕ_discrete s1 bind.slot) (λ d. let z : k1 ≡ bind.key = cc (ap st.keys d, q, a0.key) in rw (d, z) (within_last (bind.slot, bind.key) st.bindings)) (λ d. within_prefix (s1, k1) st.bindings ((bind.slot, bind.key) ∷ []) (a.listed s1 k1 q (sym (named_else s1 d) ∙ f)));
                 waiting = λ s1 k1 q f. a.waiting s1 k1 q (sym (named_else s1 (unnamed_else s1 f)) ∙ f);
+                once = once_more a.once;
               };
               stage = record {
                 settled = λ s1 q. gc.settled s1 (λ z. absurd cc);
                 holds = λ b q. gc.holds b q;
-                names = λ s1 k1 q. inl (dite (ℕ_discrete s1 s) (λ d. ap sc.named d ∙ named_now) (λ d. named_else s1 d ∙ ⊎_elim (λ x. x) (λ x. absurd (d (let z : Some s ≡ Some s1 = x in cc))) (gc.names s1 k1 q)));
+                names = λ s1 k1 q. inl (dite (ℕ_discrete s1 bind.slot) (λ d. ap sc.named d ∙ named_now) (λ d. named_else s1 d ∙ ⊎_elim (λ x. x) (λ x. absurd (d (let z : Some bind.slot ≡ Some s1 = x in cc))) (gc.names s1 k1 q)));
                 here = tt;
               };
               short = p.short;
             };
             fgens = λ b. omega arith;
           }
-          record { task_is = refl; directory = sv.directory ∙ sym (append-nil (st.bindings ++ (s, k) ∷ [])); roots = sv.roots; books = λ b i. books_still l m st sc (Waiting s k t) Idle v.server gc refl sv (λ s1. refl) b i },
+          (same_known mc sc h id v (entered v bind).server)
+          record { task_is = refl; directory = sv.directory ∙ sym (append-nil (st.bindings ++ (bind.slot, bind.key) ∷ [])); roots = roots_c; books = books_c },
+      λ b i f. f,
     )

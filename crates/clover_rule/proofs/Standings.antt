@@ -1,14 +1,17 @@
 -- Facts on standing versions.
-use Rattle.std.proofs.Common.{◌≡◌, ℕ, suc, ◌<◌, ◌≤◌, length, Bool, true, false, ltb, refl, ap, arith}
+use Rattle.std.proofs.Common.{◌≡◌, ℕ, suc, ◌<◌, ◌≤◌, length, Bool, true, false, ltb, refl, sym, ap, ◌∙◌, arith}
 use native.Mathlib.Decide.{dec_le}
 use mathlib.Core.Logic.{dite}
 use Rattle.std.specs.Prelude.{Option, Some, None}
 use Rattle.std.proofs.lemmas.Bool.{le-ltb}
+use Rattle.clover_words.specs.declared.pool.Pool.{Pool}
 use Rattle.clover_words.specs.Tag.{home, age}
 use Rattle.clover_rule.specs.History.{Version}
 use Rattle.clover_rule.specs.Lists.{nth}
 use Rattle.clover_rule.specs.Memory.{Next, word, gen, link, Mem}
+use Rattle.clover_rule.specs.Server.{IsExchanged}
 use Rattle.clover_rule.specs.Story.{Story, tag_in_version, tag_at, only, Core}
+use Rattle.clover_rule.specs.declared.view.Recycling.{Recycling}
 use Rattle.clover_rule.proofs.Tools.{nth_within, nth_past}
 
 -- a tag at a place, of the version there
@@ -53,3 +56,7 @@ one_buffer m st c s i t s' i' t' e g e' g' h =
     let x = c.spotted s i t e in
     let y = c.spotted s' i' t' e' in
     (cc, cc, same)
+
+-- the content of an exchanged root version is of its tag
+pub exchanged_tag : (l : Pool) (m : Mem) (st : Story) (cycle : Recycling) (a : IsExchanged l m st cycle) → a.body.0.tag ≡ cycle.root
+exchanged_tag l m st cycle a = let z : Some a.body.0.tag ≡ Some cycle.root = sym (ap tag_in_version a.body.1) ∙ a.old.2 in cc

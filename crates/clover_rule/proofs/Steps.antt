@@ -13,7 +13,7 @@ use Rattle.clover_rule.specs.Views.{IsLink, Past, IsCopied, Owned, OwnCalls, Vie
 use Rattle.clover_rule.specs.declared.view.Content.{Content}
 use Rattle.clover_rule.specs.declared.view.Link.{Link}
 use Rattle.clover_rule.specs.declared.view.Role.{Role}
-use Rattle.clover_rule.specs.declared.view.Role.TheVariants.{Client, Serving, Granting, Noting, Joined}
+use Rattle.clover_rule.specs.declared.view.Role.TheVariants.{Client, Serving, Granting, Noting, Joined, Restarting}
 use Rattle.clover_rule.specs.declared.view.View.{View}
 use Rattle.clover_rule.proofs.Standings.{tag_there}
 
@@ -104,6 +104,7 @@ module _ (m : Mem) (st : Story) (h : List Entry) (m' : Mem) (st' : Story) (h' : 
       called Granting cs o d = tt
       called Noting cs o d = tt
       called Joined cs o d = tt
+      called Restarting cs o d = tt
 
 -- the views after one was renewed
 pub nth_set : {A : Type 0} (vs : List A) (i j : ℕ) (v w : A) → nth (set vs i v) j ≡ Some w → ((j ≡ i) × (v ≡ w)) ⊎ ((j ≢ i) × (nth vs j ≡ Some w))

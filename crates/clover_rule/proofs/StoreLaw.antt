@@ -19,7 +19,7 @@ use Rattle.clover_rule.specs.declared.view.Task.TheVariants.{Idle, Storing, Root
 use Rattle.clover_rule.specs.declared.view.View.{View}
 use Rattle.clover_words.specs.declared.pool.Pool.{Pool}
 use Rattle.clover_rule.proofs.Tools.{upd_same, upd_else, other_place}
-use Rattle.clover_rule.proofs.Standings.{same_tag}
+use Rattle.clover_rule.proofs.Standings.{exchanged_tag, same_tag}
 use Rattle.clover_rule.proofs.Steps.{each_map, each_within, prefix_self, Grows, view_kept, nth_set, role_was, longest_was}
 use Rattle.std.specs.Prelude.{◌&&◌}
 use Rattle.clover_rule.proofs.ServerTools.{core_copy}
@@ -112,7 +112,7 @@ module _ (l : Pool) (m0 : Map) (used : List ℕ) (m : Mem) (vs : List View) (st 
 
   here : (T : Task) → AtStage l m st T → AtStage l m1 st T
   here Idle a = tt
-  here (Storing s1 k1 t1 n1) a = record {
+  here (Storing bind n1) a = record {
     place = a.place;
     now = a.now;
     safe = a.safe;
@@ -122,25 +122,41 @@ module _ (l : Pool) (m0 : Map) (used : List ℕ) (m : Mem) (vs : List View) (st 
     unnamed = a.unnamed;
     absent = a.absent;
     valid = a.valid;
-    body = λ q. ap (λ (f : ℕ → ℕ). f 0) (body_else (home t1) (λ d. absurd (cc (ap st.place d, a.place, owned.0)))) ∙ a.body q;
+    body = λ q. ap (λ (f : ℕ → ℕ). f 0) (body_else (home bind.tag) (λ d. absurd (cc (ap st.place d, a.place, owned.0)))) ∙ a.body q;
     fbody = a.fbody;
     key = a.key;
     fkey = a.fkey;
   }
-  here (Rooted s1 k1 t1) a = (record { key = a.0.key; unnamed = a.0.unnamed; alone = a.0.alone; tag = a.0.tag; gone = a.0.gone }, a.1)
-  here (Waiting s1 k1 t1) a = (record { key = a.0.key; unnamed = a.0.unnamed; alone = a.0.alone; tag = a.0.tag; gone = a.0.gone }, a.1)
-  here (Loaded s1 r1 t1) a = a
-  here (Raised s1 r1 t1) a = a
-  here (Led s1 r1 t1) a = a
-  here (Both s1 r1 t1) a = a
-  here (Exchanged s1 r1 t1) a = record { place = a.place; now = a.now; safe = a.safe; root = a.root; old = a.old; inside = a.inside; young = a.young }
+  here (Rooted bind) a = (record { key = a.0.key; unnamed = a.0.unnamed; alone = a.0.alone; tag = a.0.tag; gone = a.0.gone }, a.1)
+  here (Waiting bind) a = (record { key = a.0.key; unnamed = a.0.unnamed; alone = a.0.alone; tag = a.0.tag; gone = a.0.gone }, a.1)
+  here (Loaded cycle) a = a
+  here (Raised cycle) a = a
+  here (Led cycle) a = a
+  here (Both cycle) a = a
+  here (Exchanged cycle) a = record {
+    place = a.place;
+    now = a.now;
+    safe = a.safe;
+    root = a.root;
+    old = a.old;
+    body = (
+      a.body.0,
+      a.body.1,
+      λ i y q.
+          let z = a.body.2 i y q in
+          let still : m1.body (home a.body.0.tag) ≡ m.body (home a.body.0.tag) = body_else (home a.body.0.tag) (λ d. absurd (cc (ap (λ (b : ℕ). st.place (home b)) (exchanged_tag l m st cycle a), a.place, ap st.place d, owned.0))) in
+          (ap (λ (f : ℕ → ℕ). f i) still ∙ z.0, z.1),
+    );
+    inside = a.inside;
+    young = a.young;
+  }
 
   pub store_whole : Whole l m0 used m1 (renewed vs id v') st h
   store_whole = let p = w.help in client_whole l m0 used m vs st h w id v v' at n role refl m1 st h rule'
       record {
         ranged = let a = p.ranged in record { tags = a.tags; own = a.own; below = a.below; ready = a.ready; worn = a.worn; fits = a.fits };
         keyed = let a = p.keyed in record { valid = a.valid; current = a.current; flushed = a.flushed; bare = a.bare; nameless = a.nameless; filled = a.filled; slots = a.slots };
-        naming = let a = p.naming in record { counted = a.counted; found = a.found; listed = a.listed; waiting = a.waiting };
+        naming = let a = p.naming in record { counted = a.counted; found = a.found; listed = a.listed; waiting = a.waiting; once = a.once };
         stage = record { settled = p.stage.settled; holds = p.stage.holds; names = p.stage.names; here = here st.task p.stage.here };
         short = p.short;
       }

@@ -1,8 +1,8 @@
 -- What a number says beside itself: a bound slot has a root, and a tag that is found unlinked is the tail of its key.
-use Rattle.std.proofs.Common.{◌≡◌, ℕ, zero, suc, ◌≤◌, List, [], ◌∷◌, ◌++◌, length, drop, refl, sym, ap, ◌∙◌, inl, inr, ⊎_elim, arith, subst}
+use Rattle.std.proofs.Common.{◌≡◌, ℕ, zero, suc, ◌≤◌, List, [], ◌∷◌, ◌++◌, length, length-append, drop, refl, sym, ap, ◌∙◌, inl, inr, ⊎_elim, arith, subst}
 use Rattle.std.specs.Prelude.{Option, Some, None}
 use Rattle.clover_words.specs.declared.pool.Pool.{Pool}
-use Rattle.clover_words.specs.declared.word.Word.TheVariants.{Next as NextOf}
+use Rattle.clover_words.specs.declared.word.Word.TheVariants.{Next as NextOf, Count}
 use Rattle.clover_words.specs.declared.word.Side.TheVariants.{Current}
 use Rattle.clover_words.specs.Place.{IsWithin, copy_in}
 use Rattle.clover_words.specs.Meta.{tombstone}
@@ -18,16 +18,20 @@ use Rattle.clover_rule.specs.Image.{tags}
 use Rattle.clover_rule.specs.Lists.{nth, Within}
 use Rattle.clover_rule.specs.Meets.{Meets}
 use Rattle.clover_rule.specs.Memory.{Mem, word, gen}
-use Rattle.clover_rule.specs.Parts.{Walk}
-use Rattle.clover_rule.specs.Steps.{Step, Asks, LoadNext, DecideNext, RaiseNext, LinkNext, StoreContent, FlushContent, LoadContent, ReadRoot, ReadShort, StoreShort, ReadCount, AbsentCount, found}
+use Rattle.clover_rule.specs.Chains.{Walk}
+use Rattle.clover_rule.specs.Asks.{Asks}
+use Rattle.clover_rule.specs.Learned.{found}
+use Rattle.clover_rule.specs.Steps.{Step, ReadCount, AbsentCount, LoadNext, DecideNext, LinkNext, ReadRoot, ReadVersion, PassRoot, FreeRoot, StoreCount}
 use Rattle.clover_rule.specs.Story.{Story, tag_at, tag_in_version}
 use Rattle.clover_rule.specs.Told.{IsMetaWord, AreOneVersion, Says}
 use Rattle.clover_rule.specs.Views.{IsCopied}
 use Rattle.clover_rule.specs.Words.{mem_of, next_of}
 use Rattle.clover_rule.specs.declared.view.View.{View}
 use Rattle.clover_rule.proofs.Decide.{tail_durable, slot_bound, last, version, copied_word}
+use Rattle.clover_rule.proofs.Bindings.{few_bindings}
 use Rattle.clover_rule.proofs.Derived.{chains}
 use Rattle.clover_rule.proofs.Keeping.{inside_of, read_next, read_root}
+use Rattle.clover_rule.proofs.ServerKeeps.{version_says, pass_says, free_says, count_says}
 use Rattle.clover_rule.proofs.Standings.{tag_past}
 use Rattle.clover_rule.proofs.Steps.{each_within, within_prefix}
 use Rattle.clover_rule.proofs.Ties.{next_again}
@@ -101,16 +105,26 @@ module _ (p : Pool) (first : Tagged) (used : List ℕ) (ws : List ℕ) (vs : Lis
       go f d = ⊎_elim (λ whole. head p y d.1.value (r.whole.help.ranged.fits s d.0 d.1 d.2) whole)
           (λ gone. let past = (r.whole.basis.core.passed s d.0 t (ap tag_in_version d.2 ∙ ap Some d.3) gone).later in let g = ap gen f in absurd (omega arith)) d.4
 
+  -- the count is at least the names that the actor knows, and at most the slots
+  counts_known : (length v.pass.names ≤ copy_in p ws Count Current) × (copy_in p ws Count Current ≤ p.slots)
+  counts_known =
+      let b = r.whole.basis in
+      let ok = b.views id v at in
+      let n = r.whole.help.naming in
+      let c : copy_in p ws Count Current ≡ length st.bindings = n.counted in
+      let e = ap length ok.names.1 in
+      let few = few_bindings p.slots st.bindings n.once (λ q w. r.whole.help.keyed.slots q.0 q.1 (b.bound q.0 q.1 w).0) in
+      (omega (arith, length-append v.pass.names ok.names.0), omega arith)
+
   pub says : (a : Step) → Asks p a v → Says p ws a v (found p a ws)
   says (LoadNext s t) asks = λ e y q. meta_is s t y asks.0 e q
   says (DecideNext s t c y) asks = λ e. (tail_is s t (named c) asks.0 asks.1.tail asks.1.name e, one_version s t (named c) asks.0 asks.1.tail asks.1.name e)
-  says (RaiseNext l) asks = tt
   says (LinkNext s u t c) asks = λ e. tail_is s u (named c) asks.0 asks.1.tail asks.1.name e
-  says (StoreContent t j x) asks = tt
-  says (FlushContent t j x) asks = tt
-  says (LoadContent s t j) asks = tt
   says (ReadRoot s) asks = λ k name. let t = root_is s k name in (t.0, sym (read_root p ws s asks.0) ∙ t.1)
-  says (ReadShort s) asks = tt
-  says (StoreShort s t) asks = tt
-  says ReadCount asks = tt
-  says (AbsentCount c) asks = tt
+  says ReadCount asks = counts_known
+  says (AbsentCount c) asks = counts_known
+  says (ReadVersion s q) (hw, (i, e)) = version_says p first used ws vs st h r id v at s q hw i e
+  says (PassRoot c) (hw, i) = pass_says p first used ws vs st h r id v at c hw i
+  says (FreeRoot c) (hw, i) = free_says p first used ws vs st h r id v at c hw i
+  says (StoreCount b n) (hw, (i, e)) = count_says p first used ws vs st h r id v at b n i
+  says a asks = tt

@@ -1,6 +1,6 @@
 -- What the rule says of an actor, what a step tells it, and the law over a table.
-use Rattle.std.proofs.Common.{◌≡◌, ℕ, zero, suc, ◌<◌, ◌≤◌, List, [], ◌∷◌, Bool, refl, sym, ap, ◌∙◌, ⊎_elim, arith, subst}
-use Rattle.std.specs.Prelude.{Option, Some, None, slice_set}
+use Rattle.std.proofs.Common.{◌≡◌, ℕ, zero, suc, ◌<◌, ◌≤◌, List, [], ◌∷◌, Bool, refl, sym, ap, ◌∙◌, ⊎_elim, arith, subst, cond, eqb, eqb-true, true, false}
+use Rattle.std.specs.Prelude.{nat_lt, slice_index, Option, Some, None, slice_set}
 use mathlib.Core.Option.{some, some-injective, some-ne-none}
 use lib.ListN.{get_elem?}
 use Rattle.atomic_table.specs.Table.{keeps as stay}
@@ -8,47 +8,40 @@ use Rattle.clover_words.specs.declared.pool.Pool.{Pool}
 use Rattle.clover_words.specs.declared.word.Word.TheVariants.{Next as NextOf, Root, Short}
 use Rattle.clover_words.specs.declared.word.Side.{Side}
 use Rattle.clover_words.specs.declared.word.Side.TheVariants.{Current, Flushed}
-use Rattle.clover_words.specs.Place.{IsWithin, HasSide, copy_in}
+use Rattle.clover_words.specs.Place.{address_of, IsWithin, copy_in}
 use Rattle.clover_words.specs.Tag.{home}
 use Rattle.clover_words.specs.Version.{buffer_at, content_at}
 use Rattle.clover_map.specs.declared.call.Entry.{Entry}
 use Rattle.clover_map.specs.Tagged.{Tagged}
 use Rattle.clover_rule.specs.Content.{InRange, IsKey}
 use Rattle.clover_rule.specs.History.{shows}
-use Rattle.clover_rule.specs.Lists.{Within, nth}
+use Rattle.clover_rule.specs.Lists.{Each, Within, nth}
 use Rattle.clover_rule.specs.Meets.{Meets, IsMet}
 use Rattle.clover_rule.specs.Memory.{Next, Mem, gen, link}
-use Rattle.clover_rule.specs.Server.{Ready}
-use Rattle.clover_rule.specs.Steps.{Step, Asks, LoadNext, DecideNext, RaiseNext, LinkNext, StoreContent, FlushContent, LoadContent, ReadRoot, ReadShort, StoreShort, ReadCount, AbsentCount, word_of, side_of, next_view, next_history, found, words_after_step}
+use Rattle.clover_rule.specs.Server.{Ready, AtStage, or_else, root_in, waiting_name}
+use Rattle.clover_rule.specs.Asks.{Asks}
+use Rattle.clover_rule.specs.Learned.{next_view, next_history, found, words_after_step}
+use Rattle.clover_rule.specs.Steps.{Step, LoadNext, DecideNext, RaiseNext, LinkNext, StoreContent, FlushContent, LoadContent, ReadRoot, ReadShort, StoreShort, ReadCount, AbsentCount, ReadVersion, FlushLink, StoreRoot, FlushRoot, PassRoot, FreeRoot, StoreTombstone, FlushTombstone, StoreKey, FlushKey, BindRoot, FlushBoundRoot, StoreCount, Restart, word_of, side_in, restart_word, restart_operation}
 use Rattle.clover_rule.specs.Story.{Story, Durable, tag_at}
 use Rattle.clover_rule.specs.Told.{Facts, IsShown, ToldAt, Told, TableLaw}
 use Rattle.clover_rule.specs.Words.{mem_of}
+use Rattle.clover_rule.specs.declared.view.RestartStore.{RestartStore}
+use Rattle.clover_rule.specs.declared.view.RestartStore.TheVariants.{ClearRoot, ClearFlushedRoot, Lift, LiftFlushed, SetCount}
 use Rattle.clover_rule.specs.declared.view.View.{View}
+use Rattle.clover_rule.specs.declared.view.Task.{Task}
+use Rattle.clover_rule.specs.declared.view.Task.TheVariants.{Idle, Storing, Rooted, Waiting, Loaded, Raised, Led, Both, Exchanged}
+use Rattle.clover_rule.proofs.ServerTools.{free_place}
+use Rattle.clover_rule.proofs.Hands.{each_both}
 use Rattle.clover_rule.proofs.Steps.{each_map, each_of, within_prefix, set_here}
 use Rattle.clover_rule.proofs.Standings.{tag_within}
 use Rattle.clover_rule.proofs.TaggedMaps.{legal_history}
 use Rattle.clover_rule.proofs.Derived.{current_past}
 use Rattle.clover_rule.proofs.Keeping.{read_next, read_fnext, read_root, read_short, inside_of}
-use Rattle.clover_rule.proofs.Keeps.{keeps}
+use Rattle.clover_rule.proofs.AllKeeps.{keeps}
 use Rattle.clover_rule.proofs.Tails.{says}
 use Rattle.clover_rule.proofs.Soundness.{cut_sound, flushed_image, flushed_is}
 use Rattle.clover_map.specs.Legal as Runs
-use Rattle.clover_rule.proofs.Ties.{content_side}
-
--- the rule's side of each step
-pub step_side : (a : Step) → HasSide (word_of a) (side_of a)
-step_side (LoadNext s t) = tt
-step_side (DecideNext s t c r) = tt
-step_side (RaiseNext l) = tt
-step_side (LinkNext s u t c) = tt
-step_side (StoreContent t j x) = content_side (home t) j Current
-step_side (FlushContent t j x) = content_side (home t) j Flushed
-step_side (LoadContent s t j) = content_side (home t) j Current
-step_side (ReadRoot s) = tt
-step_side (ReadShort s) = tt
-step_side (StoreShort s t) = tt
-step_side ReadCount = tt
-step_side (AbsentCount c) = tt
+use Rattle.clover_rule.proofs.Ties.{guard_true, test_below}
 
 pub nth_elem : {A : Type 0} (l : List A) (i : ℕ) (a : A) → get_elem? l i ≡ some a → nth l i ≡ Some a
 nth_elem [] i a e = absurd (some-ne-none a (sym e))
@@ -74,6 +67,47 @@ module _ (p : Pool) (first : Tagged) (used : List ℕ) (ws : List ℕ) (vs : Lis
   root_in_range : (s t : ℕ) → Durable st s t → InRange p t
   root_in_range s t d = r.whole.help.ranged.tags s d.0 t d.1
 
+  -- a root of the directory is in range, whatever the task
+  root_ranged : (T : Task) → AtStage p m st T → (s t : ℕ) → root_in T st s ≡ Some t → (s < p.slots) × InRange p t
+  root_ranged T a s t e = by T a e
+    where
+      here : tag_at st s (st.gone s) ≡ Some t → (s < p.slots) × InRange p t
+      here f = (slot_in s (st.gone s) t f, r.whole.help.ranged.tags s (st.gone s) t f)
+
+      none_or : (b : Bool) → or_else (cond b (Some None) None) (tag_at st s (st.gone s)) ≡ Some t → (s < p.slots) × InRange p t
+      none_or true f = absurd (let z : ◌≡◌ {A = Option ℕ} None (Some t) = f in cc)
+      none_or false f = here f
+
+      by : (T : Task) → AtStage p m st T → root_in T st s ≡ Some t → (s < p.slots) × InRange p t
+      by Idle a f = here f
+      by (Storing bind n1) a f = here f
+      by (Rooted bind) a f = none_or (eqb bind.slot s) f
+      by (Waiting bind) a f = none_or (eqb bind.slot s) f
+      by (Loaded cycle) a f = here f
+      by (Raised cycle) a f = here f
+      by (Led cycle) a f = here f
+      by (Both cycle) a f = here f
+      by (Exchanged cycle) a f = pick (eqb cycle.slot s) refl f
+        where
+          pick : (b : Bool) → eqb cycle.slot s ≡ b → or_else (cond b (Some (Some cycle.root)) None) (tag_at st s (st.gone s)) ≡ Some t → (s < p.slots) × InRange p t
+          pick true q f = let z : cycle.root ≡ t = cc in let y : cycle.slot ≡ s = eqb-true cycle.slot s q in (subst (λ (x : ℕ). x < p.slots) y (slot_in cycle.slot a.old.0 cycle.root a.old.2), subst (InRange p) z (a.inside, a.young))
+          pick false q f = here f
+
+  -- a bound slot is one of the pool, and its key is one
+  bound_in : (s : ℕ) (k : List ℕ) → st.keys s ≡ Some k → (s < p.slots) × IsKey k
+  bound_in s k e = (r.whole.help.keyed.slots s k e, r.whole.help.keyed.valid s k e)
+
+  waiting_in : (T : Task) → AtStage p m st T → Each (λ (q : ℕ × List ℕ). (q.0 < p.slots) × IsKey q.1) (waiting_name T)
+  waiting_in (Rooted bind) a = (bound_in bind.slot bind.key a.0.key, tt)
+  waiting_in (Waiting bind) a = (bound_in bind.slot bind.key a.0.key, tt)
+  waiting_in Idle a = tt
+  waiting_in (Storing bind n) a = tt
+  waiting_in (Loaded cycle) a = tt
+  waiting_in (Raised cycle) a = tt
+  waiting_in (Led cycle) a = tt
+  waiting_in (Both cycle) a = tt
+  waiting_in (Exchanged cycle) a = tt
+
   module _ (id : ℕ) (v : View) (at : nth vs id ≡ Some v) where
     pub facts : Facts p v h
     facts =
@@ -88,9 +122,12 @@ module _ (p : Pool) (first : Tagged) (used : List ℕ) (ws : List ℕ) (vs : Lis
           apart = ok.apart;
           durable = each_map (λ q d. (slot_in q.0 d.0 q.1 d.1, root_in_range q.0 q.1 d)) v.pass.durable ok.durable;
           links = each_map (λ l d. (slot_in l.slot d.0 l.from d.1, r.whole.help.ranged.tags l.slot d.0 l.from d.1, r.whole.help.ranged.tags l.slot (suc d.0) l.to d.2)) v.pass.links ok.links;
-          names = each_of (λ (q : ℕ × List ℕ). (q.0 < p.slots) × IsKey q.1) v.pass.names (λ q w.
-              let b = r.whole.basis.bound q.0 q.1 (subst (Within q) (sym ok.names.1) (within_prefix q v.pass.names ok.names.0 w)) in
-              (r.whole.help.keyed.slots q.0 q.1 b.0, r.whole.help.keyed.valid q.0 q.1 b.0));
+          names = each_of (λ (q : ℕ × List ℕ). (q.0 < p.slots) × IsKey q.1) v.pass.names (λ q w. bound_in q.0 q.1 (r.whole.basis.bound q.0 q.1 (subst (Within q) (sym ok.names.1) (within_prefix q v.pass.names ok.names.0 w))).0);
+          server = λ ro. let sv = r.whole.serves id v at ro in record {
+            directory = subst (Each (λ (q : ℕ × List ℕ). (q.0 < p.slots) × IsKey q.1)) (sym sv.directory) (each_both (λ (q : ℕ × List ℕ). (q.0 < p.slots) × IsKey q.1) st.bindings (waiting_name st.task) (each_of (λ (q : ℕ × List ℕ). (q.0 < p.slots) × IsKey q.1) st.bindings (λ q w. bound_in q.0 q.1 (r.whole.basis.bound q.0 q.1 w).0)) (waiting_in st.task r.whole.help.stage.here));
+            roots = λ s t e. root_ranged st.task r.whole.help.stage.here s t (sym (sv.roots s) ∙ e);
+            free = λ b g i e. let f = free_place st.task st (st.place b) (gen (m.next b)) b g (sym (sv.books b i) ∙ e) in let z = (r.whole.help.ranged.ready b (subst Ready (sym f.0) tt)).1 in let y = f.1 in omega arith;
+          };
         }
 
   -- what a copy of a word shows
@@ -107,6 +144,18 @@ module _ (p : Pool) (first : Tagged) (used : List ℕ) (ws : List ℕ) (vs : Lis
   content_shown b zero x = tt
   content_shown b (suc j) x = tt
 
+  -- a root that is decoded leads to a tag in range, whichever copy it is
+  root_shown : (s : ℕ) → s < p.slots → (side : Side) → IsShown p (Root s) (copy_in p ws (Root s) side)
+  root_shown s hw Current = (r.decodes (Root s) Current hw tt, λ t e. let f : m.root s ≡ Some t = read_root p ws s hw ∙ e in r.whole.help.ranged.tags s (st.lead s) t (sym (r.whole.basis.core.root s) ∙ f))
+  root_shown s hw Flushed = (r.decodes (Root s) Flushed hw tt, λ t e. (cut_sound p (shows first) used m vs st h r.whole (flushed_image m) (flushed_is m)).root s t (guard_true (nat_lt s p.slots) _ _ None (test_below s p.slots hw) refl ∙ e))
+
+  restart_shown : (x : RestartStore) → IsWithin p (restart_word x) → IsShown p (restart_word x) (slice_index ws (address_of p (restart_word x) (side_in (restart_operation x))))
+  restart_shown (ClearRoot s) hw = root_shown s hw Current
+  restart_shown (ClearFlushedRoot s) hw = root_shown s hw Flushed
+  restart_shown (Lift b g) hw = next_shown b hw Current
+  restart_shown (LiftFlushed b g) hw = next_shown b hw Flushed
+  restart_shown (SetCount n) hw = tt
+
   pub number_shown : (a : Step) → IsWithin p (word_of a) → IsShown p (word_of a) (found p a ws)
   number_shown (LoadNext s t) hw = next_shown (home t) hw Current
   number_shown (DecideNext s t c y) hw = next_shown (home t) hw Current
@@ -115,14 +164,25 @@ module _ (p : Pool) (first : Tagged) (used : List ℕ) (ws : List ℕ) (vs : Lis
   number_shown (StoreContent t j x) hw = content_shown (home t) j (found p (StoreContent t j x) ws)
   number_shown (FlushContent t j x) hw = content_shown (home t) j (found p (FlushContent t j x) ws)
   number_shown (LoadContent s t j) hw = content_shown (home t) j (found p (LoadContent s t j) ws)
-  number_shown (ReadRoot s) hw = (r.decodes (Root s) Current hw tt, λ t e. root_here s t (read_root p ws s hw ∙ e))
-    where
-      root_here : (s t : ℕ) → m.root s ≡ Some t → InRange p t
-      root_here s t e = r.whole.help.ranged.tags s (st.lead s) t (sym (r.whole.basis.core.root s) ∙ e)
+  number_shown (ReadRoot s) hw = root_shown s hw Current
   number_shown (ReadShort s) hw = (r.decodes (Short s) Current hw tt, λ t e. root_in_range s t (r.whole.help.short s t (read_short p ws s hw ∙ e)))
   number_shown (StoreShort s u) hw = (r.decodes (Short s) Current hw tt, λ t e. root_in_range s t (r.whole.help.short s t (read_short p ws s hw ∙ e)))
   number_shown ReadCount hw = tt
   number_shown (AbsentCount c) hw = tt
+  number_shown (ReadVersion s q) hw = next_shown (home q) hw Current
+  number_shown (FlushLink c) hw = next_shown (home c.root) hw Flushed
+  number_shown (StoreRoot c) hw = root_shown c.slot hw Current
+  number_shown (FlushRoot c) hw = root_shown c.slot hw Flushed
+  number_shown (PassRoot c) hw = next_shown (home c.root) hw Current
+  number_shown (FreeRoot c) hw = next_shown (home c.root) hw Flushed
+  number_shown (StoreTombstone b) hw = tt
+  number_shown (FlushTombstone b) hw = tt
+  number_shown (StoreKey b j x) hw = tt
+  number_shown (FlushKey b j x) hw = tt
+  number_shown (BindRoot b) hw = root_shown b.slot hw Current
+  number_shown (FlushBoundRoot b) hw = root_shown b.slot hw Flushed
+  number_shown (StoreCount b n) hw = tt
+  number_shown (Restart x) hw = restart_shown x hw
 
 -- what a step tells, where these are the words and the history
 pub told_at : (p : Pool) (first : Tagged) (used : List ℕ) (ws : List ℕ) (vs : List View) (st : Story) (h : List Entry) → Meets p first used ws vs st h → (id : ℕ) (v : View) → nth vs id ≡ Some v → (a : Step) (b : Bool) → Asks p a v → ToldAt p ws h a b v (found p a ws) (next_view b a h v (found p a ws))

@@ -143,16 +143,16 @@ module _ (p : Pool) (ws : List ℕ) (w : Word) (s0 : Side) (n : ℕ) (hw : IsWit
   new = slice_set ws (address_of p w s0) n
 
   -- the written copy is of another kind of word, or of the other side
-  abbrev Off : ℕ → Side → Type 0
+  abbrev pub Off : ℕ → Side → Type 0
   Off k t = (kind_of w ≢ k) ⊎ (t ≢ s0)
 
   copy_off : (v : Word) (t : Side) (k : ℕ) → kind_of v ≡ k → Off k t → IsWithin p v → HasSide v t → copy_in p new v t ≡ copy_in p ws v t
   copy_off v t k e f h i = copy_kept p ws w s0 v t n hw hs h i (λ q z. ⊎_elim {C = ⊥} (λ g. g (ap kind_of (sym q) ∙ e)) (λ g. g z) f)
 
-  next_kept : Off 0 Current → (b : ℕ) → (mem_of p new).next b ≡ (mem_of p ws).next b
+  pub next_kept : Off 0 Current → (b : ℕ) → (mem_of p new).next b ≡ (mem_of p ws).next b
   next_kept off b = guard (inside p b) _ _ (word 0 None) (λ h. ap next_of (copy_off (NextOf (buffer_at b)) Current 0 refl off (buffer_in p b h) tt))
 
-  fnext_kept : Off 0 Flushed → (b : ℕ) → (mem_of p new).fnext b ≡ (mem_of p ws).fnext b
+  pub fnext_kept : Off 0 Flushed → (b : ℕ) → (mem_of p new).fnext b ≡ (mem_of p ws).fnext b
   fnext_kept off b = guard (inside p b) _ _ (word 0 None) (λ h. ap next_of (copy_off (NextOf (buffer_at b)) Flushed 0 refl off (buffer_in p b h) tt))
 
   body_kept : Off 1 Current → (b k : ℕ) → (mem_of p new).body b k ≡ (mem_of p ws).body b k

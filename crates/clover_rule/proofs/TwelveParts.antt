@@ -1,5 +1,5 @@
 -- The twelve parts follow from the helping facts.
-use Rattle.std.proofs.Common.{◌≡◌, ℕ, zero, suc, ◌+◌, ◌<◌, ◌≤◌, ◌≢◌, ◌⊎◌, List, [], ◌∷◌, ◌++◌, length, drop, Bool, true, false, cond, eqb, ltb, refl, sym, ap, ◌∙◌, inl, inr, ⊎_elim, arith, subst, eq-eqb, ne_eqb, eqb-true, true≢false}
+use Rattle.std.proofs.Common.{◌≡◌, ℕ, zero, suc, ◌+◌, ◌<◌, ◌≤◌, ◌≢◌, ◌⊎◌, List, [], ◌∷◌, length, drop, Bool, true, false, cond, eqb, ltb, refl, sym, ap, ◌∙◌, inl, inr, ⊎_elim, arith, subst, eq-eqb, ne_eqb, eqb-true, true≢false}
 use native.Mathlib.Decide.{ℕ_discrete, dec_le}
 use mathlib.Core.Logic.{dite}
 use Rattle.std.specs.Prelude.{Option, Some, None}
@@ -18,26 +18,33 @@ use Rattle.clover_rule.specs.Image.{tags}
 use Rattle.clover_rule.specs.Lists.{nth, Within, Each}
 use Rattle.clover_rule.specs.Meets.{Meets}
 use Rattle.clover_rule.specs.Memory.{Next, word, gen, link, order, Mem}
-use Rattle.clover_rule.specs.Parts.{Falls}
-use Rattle.clover_rule.specs.Rule.{held_by, BuffersInOnePlace, ChainsAndContents, Rule, LinksAndRootsFlushed, NextWordsRise, StocksAtRest, AtRest, DurableTagsKnown, TargetsStand, CopiesAreWhole, ShortcutsKnown, NamesAndCount, tail_pair, HistoryAndMap, ViewsAndHistory}
-use Rattle.clover_rule.specs.Server.{IsWaiting, waiting_name, moving, holding, AtStage, root_in, is_home, book_of}
+use Rattle.clover_rule.specs.Chains.{Falls, RootFlushed, ChainsAndContents, LinksAndRootsFlushed, NextWordsRise}
+use Rattle.clover_rule.specs.Holding.{held_by, recycled_by}
+use Rattle.clover_rule.specs.Buffers.{BuffersInOnePlace, StocksAtRest, AtRest}
+use Rattle.clover_rule.specs.Known.{DurableTagsKnown, TargetsStand, CopiesAreWhole, ShortcutsKnown}
+use Rattle.clover_rule.specs.Names.{NamesAndCount}
+use Rattle.clover_rule.specs.Histories.{tail_pair, HistoryAndMap, ViewsAndHistory}
+use Rattle.clover_rule.specs.Rule.{Rule}
+use Rattle.clover_rule.specs.Server.{IsWaiting, IsExchanged, waiting_name, moving, unnamed, holding, AtStage, root_in, is_home, book_of}
 use Rattle.clover_rule.specs.Story.{Waits, Loose, tag_in_version, only, Place, Chained, Stocked, Free, Worn, Taken, Story, tag_at, Core}
 use Rattle.clover_rule.specs.Views.{Owned, book, Spent, Past, IsLink, Holds}
 use Rattle.clover_rule.specs.Words.{mem_of}
 use Rattle.clover_rule.specs.declared.view.BufferState.TheVariants.{Free as IsFree, Worn as IsWorn, Bound as IsBound, Out as IsOut}
 use Rattle.clover_rule.specs.declared.view.Link.{Link}
 use Rattle.clover_rule.specs.declared.view.Shown.{Shown}
+use Rattle.clover_rule.specs.declared.view.NewBinding.{NewBinding}
+use Rattle.clover_rule.specs.declared.view.Recycling.{Recycling}
 use Rattle.clover_rule.specs.declared.view.Task.{Task}
 use Rattle.clover_rule.specs.declared.view.Task.TheVariants.{Idle, Storing, Rooted, Waiting, Loaded, Raised, Led, Both, Exchanged}
 use Rattle.clover_rule.specs.declared.view.View.{View}
-use Rattle.clover_rule.proofs.Tools.{nth_past}
-use Rattle.clover_rule.proofs.Standings.{tag_there, tag_within, tag_past, one_buffer, word_is}
+use Rattle.clover_rule.proofs.Bindings.{few_bindings, nth_among}
+use Rattle.clover_rule.proofs.Standings.{exchanged_tag, tag_there, tag_within, tag_past, one_buffer, word_is}
 use Rattle.clover_rule.proofs.Steps.{each_map, each_within}
 use Rattle.clover_rule.proofs.Histories.{leads_commits, ends_more}
 use Rattle.clover_rule.proofs.Snocs.{within_nth, within_commits, within_back}
 use Rattle.clover_rule.proofs.TaggedMaps.{legal_history}
 use Rattle.clover_rule.proofs.Keys.{key_discrete}
-use Rattle.clover_rule.proofs.ServerTools.{free_place}
+use Rattle.clover_rule.proofs.ServerTools.{held_out, free_place}
 use Rattle.clover_rule.proofs.Derived.{chain_of, recycled_of, drop_within, on_chain, is_held, known, target, flushed_links, chains, current_past, past_there, values, values_fall, tag_of, linked_to, chosen_of}
 
 abbrev pub value_in : Option Version → Option Value
@@ -93,6 +100,10 @@ module _ (p : Pool) (first : Tagged) (used : List ℕ) (ws : List ℕ) (vs : Lis
       go : Dec (st.lead s ≡ st.gone s) → (st.lead s ≡ suc (st.gone s)) × (tag_at st s (st.gone s) ≡ Some t)
       go (yes d) = absurd (let z : ◌≡◌ {A = Option ℕ} None (Some t) = sym (ap (λ (b : Bool). cond b None (tag_at st s (st.gone s))) (eq-eqb (st.lead s) (st.gone s) d)) ∙ e in cc)
       go (no n) = (let d = c.led s in omega arith, sym (ap (λ (b : Bool). cond b None (tag_at st s (st.gone s))) (ne_eqb (st.lead s) (st.gone s) n)) ∙ e)
+
+  cond_root : (cycle : Recycling) (s y : ℕ) (b : Bool) → cond b (Some cycle.root) None ≡ Some y → cycle.root ≡ y
+  cond_root cycle s y true e = same_Some cycle.root y e
+  cond_root cycle s y false e = absurd (let z : ◌≡◌ {A = Option ℕ} None (Some y) = e in cc)
 
   -- a place in the words of the rule: a recycled version is the server's
   moved : Place → ℕ → Place
@@ -156,15 +167,7 @@ module _ (p : Pool) (first : Tagged) (used : List ℕ) (ws : List ℕ) (vs : Lis
   worn_place T (Stocked i) g b a e = absurd cc
   worn_place T Free g b a e = absurd cc
   worn_place T Worn g b a e = refl
-  worn_place (Exchanged s y t) Taken g b a e = absurd cc
-  worn_place Idle Taken g b a e = absurd cc
-  worn_place (Storing s k t n) Taken g b a e = absurd cc
-  worn_place (Rooted s k t) Taken g b a e = absurd cc
-  worn_place (Waiting s k t) Taken g b a e = absurd cc
-  worn_place (Loaded s k t) Taken g b a e = absurd cc
-  worn_place (Raised s k t) Taken g b a e = absurd cc
-  worn_place (Led s k t) Taken g b a e = absurd cc
-  worn_place (Both s k t) Taken g b a e = absurd cc
+  worn_place T Taken g b a e = absurd (held_out T g a IsWorn e (λ z. absurd cc) (λ z. absurd cc))
 
   led_place : (s y t b : ℕ) → tag_at st s (st.gone s) ≡ Some y → st.lead s ≡ suc (st.gone s) → home y ≡ b → place_at b ≡ Taken
   unfolding moved
@@ -174,15 +177,15 @@ module _ (p : Pool) (first : Tagged) (used : List ℕ) (ws : List ℕ) (vs : Lis
 
   taken_here : (T : Task) → AtStage p m st T → (b : ℕ) → held_by T ≡ Some b → place_at b ≡ Taken
   unfolding moved
-  taken_here (Storing s k t n) a b e = let q = same_Some (home t) b e in ap (λ (z : Place). moved z b) (ap st.place (sym q) ∙ a.place)
-  taken_here (Led s y t) a b e = led_place s y t b a.0.root a.2 (same_Some (home y) b e)
-  taken_here (Both s y t) a b e = led_place s y t b a.0.root a.2 (same_Some (home y) b e)
-  taken_here (Exchanged s y t) a b e = let q = same_Some (home y) b e in ap (λ (z : Place). moved z b) (ap st.place (sym q) ∙ a.place)
+  taken_here (Storing bind n) a b e = let q = same_Some (home bind.tag) b e in ap (λ (z : Place). moved z b) (ap st.place (sym q) ∙ a.place)
+  taken_here (Led cycle) a b e = led_place cycle.slot cycle.root cycle.next b a.0.root a.2 (same_Some (home cycle.root) b e)
+  taken_here (Both cycle) a b e = led_place cycle.slot cycle.root cycle.next b a.0.root a.2 (same_Some (home cycle.root) b e)
+  taken_here (Exchanged cycle) a b e = let q = same_Some (home cycle.root) b e in ap (λ (z : Place). moved z b) (ap st.place (sym q) ∙ a.place)
   taken_here Idle a b e = absurd cc
-  taken_here (Rooted s k t) a b e = absurd cc
-  taken_here (Waiting s k t) a b e = absurd cc
-  taken_here (Loaded s k t) a b e = absurd cc
-  taken_here (Raised s k t) a b e = absurd cc
+  taken_here (Rooted bind) a b e = absurd cc
+  taken_here (Waiting bind) a b e = absurd cc
+  taken_here (Loaded cycle) a b e = absurd cc
+  taken_here (Raised cycle) a b e = absurd cc
 
   -- and back: what a place says is so
   unmoved : (q : Place) (b : ℕ) (x : Place) → moved q b ≡ x → ((s : ℕ) → x ≢ Chained s) → x ≢ Taken → q ≡ x
@@ -204,44 +207,63 @@ module _ (p : Pool) (first : Tagged) (used : List ℕ) (ws : List ℕ) (vs : Lis
   worn_now T g b = refl
 
   held_same : (T : Task) (b : ℕ) → holding T ≡ Some b → held_by T ≡ Some b
-  held_same (Storing s k t n) b e = e
-  held_same (Exchanged s y t) b e = e
+  held_same (Storing bind n) b e = e
+  held_same (Exchanged cycle) b e = e
   held_same Idle b e = absurd cc
-  held_same (Rooted s k t) b e = absurd cc
-  held_same (Waiting s k t) b e = absurd cc
-  held_same (Loaded s y t) b e = absurd cc
-  held_same (Raised s y t) b e = absurd cc
-  held_same (Led s y t) b e = absurd cc
-  held_same (Both s y t) b e = absurd cc
+  held_same (Rooted bind) b e = absurd cc
+  held_same (Waiting bind) b e = absurd cc
+  held_same (Loaded cycle) b e = absurd cc
+  held_same (Raised cycle) b e = absurd cc
+  held_same (Led cycle) b e = absurd cc
+  held_same (Both cycle) b e = absurd cc
 
   -- the slot whose root is on its way is the task's
   not_settled : (s : ℕ) → st.lead s ≡ suc (st.gone s) → (moving st.task ≢ Some s) → ⊥
   not_settled s l n = let z = (r.whole.help.stage.settled s n).0 in omega arith
 
-  moved_same : (s1 y1 s y : ℕ) → tag_at st s1 (st.gone s1) ≡ Some y1 → recycled_of st s ≡ Some y → moving st.task ≡ Some s1 → ◌≡◌ {A = Option ℕ} (Some (home y1)) (Some (home y))
-  moved_same s1 y1 s y g f q = go (ℕ_discrete s1 s)
+  -- the version whose slot's root is on its way is the task's version under recycling
+  on_its_way : (cycle : Recycling) → moving st.task ≡ Some cycle.slot → tag_at st cycle.slot (st.gone cycle.slot) ≡ Some cycle.root → (s y : ℕ) → recycled_of st s ≡ Some y → cond (eqb cycle.slot s) (Some cycle.root) None ≡ Some y
+  on_its_way cycle q e s y f = go (ℕ_discrete cycle.slot s)
     where
-      go : Dec (s1 ≡ s) → ◌≡◌ {A = Option ℕ} (Some (home y1)) (Some (home y))
-      go (yes d) = ap (λ (z : ℕ). Some (home z)) (let z : Some y1 ≡ Some y = sym g ∙ ap (λ (i : ℕ). tag_at st i (st.gone i)) d ∙ (recycled_at s y f).1 in cc)
-      go (no n) = absurd (not_settled s (recycled_at s y f).0 (λ z. n (let x : Some s1 ≡ Some s = sym q ∙ z in cc)))
+      go : Dec (cycle.slot ≡ s) → cond (eqb cycle.slot s) (Some cycle.root) None ≡ Some y
+      go (yes d) = ap (λ (z : Bool). cond z (Some cycle.root) None) (eq-eqb cycle.slot s d) ∙ sym e ∙ ap (λ (i : ℕ). tag_at st i (st.gone i)) d ∙ (recycled_at s y f).1
+      go (no n) = absurd (not_settled s (recycled_at s y f).0 (λ z. n (let x : Some cycle.slot ≡ Some s = sym q ∙ z in cc)))
 
-  leaving_task : (T : Task) → st.task ≡ T → AtStage p m st T → (s y : ℕ) → recycled_of st s ≡ Some y → held_by T ≡ Some (home y)
-  leaving_task (Led s1 y1 t) e a s y f = moved_same s1 y1 s y a.0.root f (ap moving e)
-  leaving_task (Both s1 y1 t) e a s y f = moved_same s1 y1 s y a.0.root f (ap moving e)
-  leaving_task Idle e a s y f = absurd (not_settled s (recycled_at s y f).0 (λ q. let z : ◌≡◌ {A = Option ℕ} None (Some s) = sym (ap moving e) ∙ q in cc))
-  leaving_task (Storing s1 k t n) e a s y f = absurd (not_settled s (recycled_at s y f).0 (λ q. let z : ◌≡◌ {A = Option ℕ} None (Some s) = sym (ap moving e) ∙ q in cc))
-  leaving_task (Rooted s1 k t) e a s y f = absurd (not_settled s (recycled_at s y f).0 (λ q. let z : ◌≡◌ {A = Option ℕ} None (Some s) = sym (ap moving e) ∙ q in cc))
-  leaving_task (Waiting s1 k t) e a s y f = absurd (not_settled s (recycled_at s y f).0 (λ q. let z : ◌≡◌ {A = Option ℕ} None (Some s) = sym (ap moving e) ∙ q in cc))
-  leaving_task (Loaded s1 y1 t) e a s y f = absurd (not_settled s (recycled_at s y f).0 (λ q. let z : ◌≡◌ {A = Option ℕ} None (Some s) = sym (ap moving e) ∙ q in cc))
-  leaving_task (Raised s1 y1 t) e a s y f = absurd (not_settled s (recycled_at s y f).0 (λ q. let z : ◌≡◌ {A = Option ℕ} None (Some s) = sym (ap moving e) ∙ q in cc))
-  leaving_task (Exchanged s1 y1 t) e a s y f = absurd (not_settled s (recycled_at s y f).0 (λ q. let z : ◌≡◌ {A = Option ℕ} None (Some s) = sym (ap moving e) ∙ q in cc))
+  not_moving : (s y : ℕ) → recycled_of st s ≡ Some y → moving st.task ≡ None → ⊥
+  not_moving s y f q = not_settled s (recycled_at s y f).0 (λ z. let x : ◌≡◌ {A = Option ℕ} None (Some s) = sym q ∙ z in cc)
+
+  task_recycles : (T : Task) → st.task ≡ T → AtStage p m st T → (s y : ℕ) → recycled_of st s ≡ Some y → recycled_by T s ≡ Some y
+  task_recycles (Led cycle) e a s y f = on_its_way cycle (ap moving e) a.0.root s y f
+  task_recycles (Both cycle) e a s y f = on_its_way cycle (ap moving e) a.0.root s y f
+  task_recycles Idle e a s y f = absurd (not_moving s y f (ap moving e))
+  task_recycles (Storing bind n) e a s y f = absurd (not_moving s y f (ap moving e))
+  task_recycles (Rooted bind) e a s y f = absurd (not_moving s y f (ap moving e))
+  task_recycles (Waiting bind) e a s y f = absurd (not_moving s y f (ap moving e))
+  task_recycles (Loaded cycle) e a s y f = absurd (not_moving s y f (ap moving e))
+  task_recycles (Raised cycle) e a s y f = absurd (not_moving s y f (ap moving e))
+  task_recycles (Exchanged cycle) e a s y f = absurd (not_moving s y f (ap moving e))
+
+  leaves_by_task : (s y : ℕ) → recycled_of st s ≡ Some y → recycled_by st.task s ≡ Some y
+  leaves_by_task s y f = task_recycles st.task refl r.whole.help.stage.here s y f
+
+  -- and the task holds its buffer
+  recycled_held : (T : Task) (s y : ℕ) → recycled_by T s ≡ Some y → held_by T ≡ Some (home y)
+  recycled_held (Led cycle) s y e = ap (λ (z : ℕ). Some (home z)) (cond_root cycle s y (eqb cycle.slot s) e)
+  recycled_held (Both cycle) s y e = ap (λ (z : ℕ). Some (home z)) (cond_root cycle s y (eqb cycle.slot s) e)
+  recycled_held (Exchanged cycle) s y e = ap (λ (z : ℕ). Some (home z)) (cond_root cycle s y (eqb cycle.slot s) e)
+  recycled_held Idle s y e = absurd cc
+  recycled_held (Storing bind n) s y e = absurd cc
+  recycled_held (Rooted bind) s y e = absurd cc
+  recycled_held (Waiting bind) s y e = absurd cc
+  recycled_held (Loaded cycle) s y e = absurd cc
+  recycled_held (Raised cycle) s y e = absurd cc
 
   taken_back : (b : ℕ) → place_at b ≡ Taken → held_by st.task ≡ Some b
   unfolding moved
   taken_back b e = go (st.place b) refl e
     where
       test : (s : ℕ) (x : Bool) → is_home (recycled_of st s) b ≡ x → cond x Taken (Chained s) ≡ Taken → held_by st.task ≡ Some b
-      test s true q f = let z = is_home_some (recycled_of st s) b q in leaving_task st.task refl r.whole.help.stage.here s z.0 z.1 ∙ ap (λ (y : ℕ). Some y) z.2
+      test s true q f = let z = is_home_some (recycled_of st s) b q in recycled_held st.task s z.0 (leaves_by_task s z.0 z.1) ∙ ap (λ (y : ℕ). Some y) z.2
       test s false q f = absurd (let z : Chained s ≡ Taken = f in cc)
 
       go : (q : Place) → st.place b ≡ q → moved q b ≡ Taken → held_by st.task ≡ Some b
@@ -251,7 +273,7 @@ module _ (p : Pool) (first : Tagged) (used : List ℕ) (ws : List ℕ) (vs : Lis
       go Worn f g = absurd (let z : Worn ≡ Taken = g in cc)
       go Taken f g = held_same st.task b (r.whole.help.stage.holds b f)
 
-  part_1 : BuffersInOnePlace p vs (chain_of st) place_at
+  part_1 : BuffersInOnePlace p vs (chain_of st) st.task place_at
   unfolding moved
   part_1 = record {
     chained = chained_here;
@@ -262,8 +284,8 @@ module _ (p : Pool) (first : Tagged) (used : List ℕ) (ws : List ℕ) (vs : Lis
     is_worn = λ v sv b i e. let s = r.whole.serves sv.0 v sv.1 sv.2 in (gen (m.next b), s.books b i ∙ ap (λ (q : Place). book_of st.task st q (gen (m.next b)) b) (unmoved (st.place b) b Worn e (λ z. λ y. absurd cc) (λ z. absurd cc)) ∙ worn_now st.task (gen (m.next b)) b);
     free = λ v sv b g i e. let s = r.whole.serves sv.0 v sv.1 sv.2 in ap (λ (z : Place). moved z b) (free_place st.task st (st.place b) (gen (m.next b)) b g (sym (s.books b i) ∙ e)).0;
     worn = λ v sv b g i e. let s = r.whole.serves sv.0 v sv.1 sv.2 in ap (λ (z : Place). moved z b) (worn_place st.task (st.place b) (gen (m.next b)) b g (sym (s.books b i) ∙ e));
-    is_taken = λ v sv b e. let s = r.whole.serves sv.0 v sv.1 sv.2 in ap held_by s.task_is ∙ taken_back b e;
-    taken = λ v sv b e. let s = r.whole.serves sv.0 v sv.1 sv.2 in taken_here st.task r.whole.help.stage.here b (sym (ap held_by s.task_is) ∙ e);
+    is_taken = taken_back;
+    taken = λ b e. taken_here st.task r.whole.help.stage.here b e;
   }
 
   holds_at : (s i t : ℕ) → tag_at st s i ≡ Some t → st.gone s ≤ i → Holds m (record { tag = t; value = value_by st t })
@@ -291,11 +313,24 @@ module _ (p : Pool) (first : Tagged) (used : List ℕ) (ws : List ℕ) (vs : Lis
           (λ d. let i = within_nth w (st.log (st.slot_named (key_of e))) (in_log e w a b (st.slot_named (key_of e)) (q ∙ ap Some d)) in value_at (st.slot_named (key_of e)) i.0 w i.1)
           (λ n. absurd (unbound (λ s z. let f = r.whole.help.naming.found s (key_of e) z in n (let y : Some j ≡ Some (key_of e) = sym q ∙ ap st.keys f ∙ z in cc))))
 
-  part_2 : ChainsAndContents m (chain_of st) (recycled_of st) (value_by st) h
+  -- the task's version under recycling has its content in both copies
+  leaving_here : (T : Task) → AtStage p m st T → (s t : ℕ) → recycled_by T s ≡ Some t → Holds m (record { tag = t; value = value_by st t })
+  leaving_here (Led cycle) a s t e = subst (λ (y : ℕ). Holds m (record { tag = y; value = value_by st y })) (cond_root cycle s t (eqb cycle.slot s) e) (holds_at cycle.slot (st.gone cycle.slot) cycle.root a.0.root (omega arith))
+  leaving_here (Both cycle) a s t e = subst (λ (y : ℕ). Holds m (record { tag = y; value = value_by st y })) (cond_root cycle s t (eqb cycle.slot s) e) (holds_at cycle.slot (st.gone cycle.slot) cycle.root a.0.root (omega arith))
+  leaving_here (Exchanged cycle) a s t e = subst (λ (y : ℕ). Holds m (record { tag = y; value = value_by st y })) (exchanged_tag p m st cycle a ∙ cond_root cycle s t (eqb cycle.slot s) e)
+      (λ j y q. a.body.2 j y (ap (λ (o : Option Value). nth (content o) j) (sym (value_at cycle.slot a.old.0 a.body.0 a.body.1)) ∙ q))
+  leaving_here Idle a s t e = absurd cc
+  leaving_here (Storing bind n) a s t e = absurd cc
+  leaving_here (Rooted bind) a s t e = absurd cc
+  leaving_here (Waiting bind) a s t e = absurd cc
+  leaving_here (Loaded cycle) a s t e = absurd cc
+  leaving_here (Raised cycle) a s t e = absurd cc
+
+  part_2 : ChainsAndContents m (chain_of st) st.task (value_by st) h
   part_2 = record {
     chains = chains m st c;
     contents = λ s t w. let x = chain_at s t w in holds_at s x.at t x.tag x.stands;
-    leaving = λ s t e. let x = recycled_at s t e in holds_at s (st.gone s) t x.1 (omega arith);
+    leaving = leaving_here st.task r.whole.help.stage.here;
     committed = committed_here;
   }
 
@@ -350,18 +385,18 @@ module _ (p : Pool) (first : Tagged) (used : List ℕ) (ws : List ℕ) (vs : Lis
       bare e f = ap link e ∙ f
 
       held_here : (T : Task) → AtStage p m st T → holding T ≡ Some b → (link (m.fnext b) ≡ None) ⊎ ((l : Link) × IsLink st l × (home l.from ≡ b) × (age l.from ≡ gen (m.fnext b)) × (link (m.fnext b) ≡ Some l.to))
-      held_here (Storing s k t n) a e = let q = same_Some (home t) b e in inl (ap (λ (z : ℕ). link (m.fnext z)) (sym q) ∙ ap link a.safe)
-      held_here (Exchanged s y t) a e = exchanged_link s y t a (same_Some (home y) b e)
+      held_here (Storing bind n) a e = let q = same_Some (home bind.tag) b e in inl (ap (λ (z : ℕ). link (m.fnext z)) (sym q) ∙ ap link a.safe)
+      held_here (Exchanged cycle) a e = exchanged_link cycle a (same_Some (home cycle.root) b e)
         where
-          exchanged_link : (s y t : ℕ) → AtStage p m st (Exchanged s y t) → home y ≡ b → (link (m.fnext b) ≡ None) ⊎ ((l : Link) × IsLink st l × (home l.from ≡ b) × (age l.from ≡ gen (m.fnext b)) × (link (m.fnext b) ≡ Some l.to))
-          exchanged_link s y t a q = inr (record { slot = s; from = y; to = t }, (a.old.0, a.old.2, ap (tag_at st s) a.old.1 ∙ a.root), q, sym (ap (λ (z : ℕ). gen (m.fnext z)) (sym q) ∙ ap gen a.safe), ap (λ (z : ℕ). link (m.fnext z)) (sym q) ∙ ap link a.safe)
+          exchanged_link : (c1 : Recycling) → IsExchanged p m st c1 → home c1.root ≡ b → (link (m.fnext b) ≡ None) ⊎ ((l : Link) × IsLink st l × (home l.from ≡ b) × (age l.from ≡ gen (m.fnext b)) × (link (m.fnext b) ≡ Some l.to))
+          exchanged_link c1 a q = inr (record { slot = c1.slot; from = c1.root; to = c1.next }, (a.old.0, a.old.2, ap (tag_at st c1.slot) a.old.1 ∙ a.root), q, sym (ap (λ (z : ℕ). gen (m.fnext z)) (sym q) ∙ ap gen a.safe), ap (λ (z : ℕ). link (m.fnext z)) (sym q) ∙ ap link a.safe)
       held_here Idle a e = absurd cc
-      held_here (Rooted s k t) a e = absurd cc
-      held_here (Waiting s k t) a e = absurd cc
-      held_here (Loaded s k t) a e = absurd cc
-      held_here (Raised s k t) a e = absurd cc
-      held_here (Led s k t) a e = absurd cc
-      held_here (Both s k t) a e = absurd cc
+      held_here (Rooted bind) a e = absurd cc
+      held_here (Waiting bind) a e = absurd cc
+      held_here (Loaded cycle) a e = absurd cc
+      held_here (Raised cycle) a e = absurd cc
+      held_here (Led cycle) a e = absurd cc
+      held_here (Both cycle) a e = absurd cc
 
       by_place : (q : Place) → st.place b ≡ q → (link (m.fnext b) ≡ None) ⊎ ((l : Link) × IsLink st l × (home l.from ≡ b) × (age l.from ≡ gen (m.fnext b)) × (link (m.fnext b) ≡ Some l.to))
       by_place (Chained s) e = let x = c.chained b s e in at s x.0 x.1 x.2 x.3 x.4 (ltb (suc x.0) (st.sure s)) (ap m.fnext (sym x.4) ∙ (c.standing s x.0 x.1 x.2 x.3).safe) (tag_at st s (suc x.0)) refl
@@ -379,40 +414,72 @@ module _ (p : Pool) (first : Tagged) (used : List ℕ) (ws : List ℕ) (vs : Lis
     seen = λ v w. let x = within_there vs v w in each_map {P = λ (q : Shown). Past m st q.buffer (word q.own q.link)} {Q = λ (q : Shown). q.buffer ≡ b → Within (word q.own q.link) (values st b (gen (m.next b)))} (λ q d e. past_there m st c b (word q.own q.link) (subst (λ (z : ℕ). Past m st z (word q.own q.link)) e d)) v.pass.words (r.whole.basis.views x.0 v x.1).words;
   }
 
-  part_4 : LinksAndRootsFlushed m (chain_of st) (recycled_of st) (value_by st)
-  part_4 = record { links = flushed_links m st c; roots = λ s. go s (c.froot s) }
-    where
-      moving_root : (s : ℕ) → m.froot s ≡ tag_at st s (st.flead s) → st.flead s < st.lead s → (o : Option ℕ) → tag_at st s (st.flead s) ≡ o → (q : Option ℕ) → tag_at st s (st.lead s) ≡ q
-          → (m.froot s ≡ m.root s) ⊎ ((m.froot s ≡ None) × (t : ℕ) × (chain_of st s ≡ t ∷ []) × (value_by st t ≡ None)) ⊎ ((y t : ℕ) × (recycled_of st s ≡ Some y) × (m.froot s ≡ Some y) × (m.root s ≡ Some t) × (m.fnext (home y) ≡ word (age y) (Some t)))
-      moving_root s e g None f q k = inl (e ∙ f ∙ sym (c.root s ∙ past_none q k))
-        where
-          past_none : (q : Option ℕ) → tag_at st s (st.lead s) ≡ q → tag_at st s (st.lead s) ≡ None
-          past_none None k = k
-          past_none (Some t) k = absurd (let a = tag_past st s (st.flead s) f in let b = tag_within st s (st.lead s) t k in omega arith)
-      moving_root s e g (Some y) f None k = absurd (let a = tag_past st s (st.lead s) k in let b = tag_within st s (st.flead s) y f in let d = c.rooted s (omega arith) in let n = c.sure_most s in omega arith)
-      moving_root s e g (Some y) f (Some t) k =
-          let d = c.led s in
-          let ge : st.flead s ≡ st.gone s = omega arith in
-          let le : st.lead s ≡ suc (st.flead s) = omega arith in
-          let a = tag_within st s (st.flead s) y f in
-          let sure : suc (st.flead s) < st.sure s = let x = c.rooted s (omega arith) in omega arith in
-          let x = (c.standing s (st.flead s) y f (omega arith)).safe in
-          inr (inr (
-            y,
-            t,
-            is_held m st c s (st.flead s) y f (omega arith) (omega arith),
-            e ∙ f,
-            c.root s ∙ k,
-            x ∙ ap (λ (b : Bool). word (age y) (only b (tag_at st s (suc (st.flead s))))) (lt-ltb (suc (st.flead s)) (st.sure s) sure) ∙ ap (word (age y)) (ap (tag_at st s) (sym le) ∙ k),
-          ))
+  -- how the flushed copy of a slot's root is
+  abbrev FlushedRoot : ℕ → Type 0
+  FlushedRoot s = RootFlushed m (chain_of st) st.task (value_by st) s
 
-      go : (s : ℕ) → (m.froot s ≡ tag_at st s (st.flead s)) ⊎ Waits m st s → (m.froot s ≡ m.root s) ⊎ ((m.froot s ≡ None) × (t : ℕ) × (chain_of st s ≡ t ∷ []) × (value_by st t ≡ None)) ⊎ ((y t : ℕ) × (recycled_of st s ≡ Some y) × (m.froot s ≡ Some y) × (m.root s ≡ Some t) × (m.fnext (home y) ≡ word (age y) (Some t)))
-      go s (inl e) = dite (ℕ_discrete (st.flead s) (st.lead s)) (λ d. inl (e ∙ ap (tag_at st s) d ∙ sym (c.root s))) (λ n. let d = c.led s in moving_root s e (omega arith) (tag_at st s (st.flead s)) refl (tag_at st s (st.lead s)) refl)
-      go s (inr w) = inr (inl (waits s w (nth (st.log s) 0) refl))
+  -- the task that has stored this slot's root alone
+  rooted_by : (s : ℕ) → Waits m st s → (T : Task) → st.task ≡ T → AtStage p m st T → unnamed T ≡ Some s → FlushedRoot s
+  rooted_by s w (Rooted bind) e a q =
+      let same : bind.slot ≡ s = same_Some bind.slot s q in
+      let x = tag_there st bind.slot 0 bind.tag a.0.tag in
+      let lead : st.lead s ≡ 0 = let b = c.rooted s (let y = w.alone in omega arith) in let d = c.sure_most s in let y = w.alone in omega arith in
+      RootFlushed.rooted bind e same w.empty
+      (ap (λ (n : ℕ). tags (drop n (st.log s))) lead ∙ single (st.log s) bind.tag w.alone (ap (λ (i : ℕ). tag_at st i 0) (sym same) ∙ a.0.tag))
+      (ap (value_by st) (sym x.2) ∙ value_at bind.slot 0 x.0 x.1 ∙ w.dead 0 x.0 (ap (λ (i : ℕ). nth (st.log i) 0) (sym same) ∙ x.1))
+  rooted_by s w (Waiting bind) e a q = absurd (let same : bind.slot ≡ s = same_Some bind.slot s q in let z : ◌≡◌ {A = Option ℕ} None (Some bind.tag) = sym w.empty ∙ ap m.froot (sym same) ∙ a.1 in cc)
+  rooted_by s w Idle e a q = absurd cc
+  rooted_by s w (Storing bind n) e a q = absurd cc
+  rooted_by s w (Loaded cycle) e a q = absurd cc
+  rooted_by s w (Raised cycle) e a q = absurd cc
+  rooted_by s w (Led cycle) e a q = absurd cc
+  rooted_by s w (Both cycle) e a q = absurd cc
+  rooted_by s w (Exchanged cycle) e a q = absurd cc
+
+  waits_key : (s : ℕ) → Waits m st s → (x : Option (List ℕ)) → st.keys s ≡ x → (k : List ℕ) × (st.keys s ≡ Some k)
+  waits_key s w (Some k) q = (k, q)
+  waits_key s w None q = absurd (let a = r.whole.help.keyed.bare s q in let b = w.alone in omega arith)
+
+  waits_root : (s : ℕ) → Waits m st s → FlushedRoot s
+  waits_root s w =
+      let k = waits_key s w (st.keys s) refl in
+      let u : unnamed st.task ≡ Some s = ⊎_elim (λ a. absurd (true≢false (sym a ∙ w.unnamed))) (λ a. a) (r.whole.help.stage.names s k.0 k.1) in
+      rooted_by s w st.task refl r.whole.help.stage.here u
+
+  -- the task that has stored this slot's new root, but not its flushed copy
+  led_by : (s : ℕ) → m.froot s ≡ tag_at st s (st.flead s) → st.flead s < st.lead s → (T : Task) → st.task ≡ T → AtStage p m st T → moving T ≡ Some s → FlushedRoot s
+  led_by s f l (Led cycle) e a q =
+      let same : cycle.slot ≡ s = same_Some cycle.slot s q in
+      let lead : st.lead s ≡ suc (st.gone s) = ap st.lead (sym same) ∙ a.2 ∙ ap (λ (i : ℕ). suc (st.gone i)) same in
+      let flead : st.flead s ≡ st.gone s = ap st.flead (sym same) ∙ a.3 ∙ ap st.gone same in
+      let root : tag_at st s (st.gone s) ≡ Some cycle.root = ap (λ (i : ℕ). tag_at st i (st.gone i)) (sym same) ∙ a.0.root in
+      let next : tag_at st s (suc (st.gone s)) ≡ Some cycle.next = ap (λ (i : ℕ). tag_at st i (suc (st.gone i))) (sym same) ∙ a.0.next in
+      let sure : suc (st.gone s) < st.sure s = subst (λ (i : ℕ). suc (st.gone i) < st.sure i) same a.1 in
+      RootFlushed.led cycle e same (f ∙ ap (tag_at st s) flead ∙ root) (c.root s ∙ ap (tag_at st s) lead ∙ next)
+      ((c.standing s (st.gone s) cycle.root root (omega arith)).safe ∙ ap (λ (b : Bool). word (age cycle.root) (only b (tag_at st s (suc (st.gone s))))) (lt-ltb (suc (st.gone s)) (st.sure s) sure) ∙ ap (word (age cycle.root)) next)
+  led_by s f l (Both cycle) e a q = absurd (let same : cycle.slot ≡ s = same_Some cycle.slot s q in let y = ap st.lead (sym same) ∙ a.2 ∙ sym a.3 ∙ ap st.flead same in omega arith)
+  led_by s f l Idle e a q = absurd cc
+  led_by s f l (Storing bind n) e a q = absurd cc
+  led_by s f l (Rooted bind) e a q = absurd cc
+  led_by s f l (Waiting bind) e a q = absurd cc
+  led_by s f l (Loaded cycle) e a q = absurd cc
+  led_by s f l (Raised cycle) e a q = absurd cc
+  led_by s f l (Exchanged cycle) e a q = absurd cc
+
+  part_4 : LinksAndRootsFlushed m (chain_of st) st.task (value_by st)
+  part_4 = record { links = flushed_links m st c; roots = λ s. ⊎_elim (λ e. go s e (ℕ_discrete (st.flead s) (st.lead s)) (task_moves s)) (waits_root s) (c.froot s) }
+    where
+      task_moves : (s : ℕ) → Dec (moving st.task ≡ Some s)
+      task_moves s = same_option (moving st.task)
         where
-          waits : (s : ℕ) → Waits m st s → (o : Option Version) → nth (st.log s) 0 ≡ o → (m.froot s ≡ None) × (t : ℕ) × (chain_of st s ≡ t ∷ []) × (value_by st t ≡ None)
-          waits s w None e = absurd (let a = nth_past (st.log s) 0 e in let b = w.alone in omega arith)
-          waits s w (Some x) e = (w.empty, x.tag, ap (λ (n : ℕ). tags (drop n (st.log s))) (let a = c.rooted s (let b = w.alone in omega arith) in let b = c.sure_most s in let d = w.alone in let z : st.lead s ≡ 0 = omega arith in z) ∙ single (st.log s) x.tag w.alone (ap tag_in_version e), value_at s 0 x e ∙ w.dead 0 x e)
+          same_option : (o : Option ℕ) → Dec (o ≡ Some s)
+          same_option None = no (λ z. let y : ◌≡◌ {A = Option ℕ} None (Some s) = z in cc)
+          same_option (Some x) = dite (ℕ_discrete x s) (λ d. yes (ap Some d)) (λ n. no (λ z. n (same_Some x s z)))
+
+      go : (s : ℕ) → m.froot s ≡ tag_at st s (st.flead s) → Dec (st.flead s ≡ st.lead s) → Dec (moving st.task ≡ Some s) → FlushedRoot s
+      go s e (yes d) k = RootFlushed.same (e ∙ ap (tag_at st s) d ∙ sym (c.root s))
+      go s e (no n) (yes k) = led_by s e (let d = c.led s in omega arith) st.task refl r.whole.help.stage.here k
+      go s e (no n) (no k) = absurd (let z = r.whole.help.stage.settled s k in n (z.1 ∙ sym z.0))
 
   rest_word : (b g : ℕ) → Loose (st.place b) → gen (m.next b) ≡ g → AtRest m b g
   rest_word b g l e = let o = c.loose b l in let n : m.next b ≡ word g None = word_is (m.next b) g None e o.0 in (n, o.1 ∙ n)
@@ -423,22 +490,25 @@ module _ (p : Pool) (first : Tagged) (used : List ℕ) (ws : List ℕ) (vs : Lis
     free = λ v sv b g i e. let s = r.whole.serves sv.0 v sv.1 sv.2 in let f = free_place st.task st (st.place b) (gen (m.next b)) b g (sym (s.books b i) ∙ e) in rest_word b g (subst Loose (sym f.0) tt) f.1;
   }
 
-  part_6 : DurableTagsKnown m vs (chain_of st) (recycled_of st)
-  part_6 v w = let x = within_there vs v w in each_map (λ q d. known m st c q.0 q.1 d) v.pass.durable (r.whole.basis.views x.0 v x.1).durable
+  part_6 : DurableTagsKnown m vs (chain_of st) st.task
+  part_6 v w = let x = within_there vs v w in each_map (λ q d. known m st c st.task leaves_by_task q.0 q.1 d) v.pass.durable (r.whole.basis.views x.0 v x.1).durable
 
-  part_7 : TargetsStand m vs (chain_of st) (recycled_of st)
-  part_7 v w = let x = within_there vs v w in each_map (λ l d. target m st c l d) v.pass.links (r.whole.basis.views x.0 v x.1).links
+  part_7 : TargetsStand m vs (chain_of st) st.task
+  part_7 v w = let x = within_there vs v w in each_map (λ l d. target m st c st.task leaves_by_task l d) v.pass.links (r.whole.basis.views x.0 v x.1).links
 
   part_8 : CopiesAreWhole m vs (value_by st)
   part_8 v w = let x = within_there vs v w in each_map (λ q d. ⊎_elim
       (λ f. inr (λ y e. f y (ap (λ (o : Option Value). nth (content o) q.1.place) (sym (ap (value_by st) (sym d.3) ∙ value_at q.0 d.0 d.1 d.2)) ∙ e)))
       (λ g. inl (c.passed q.0 d.0 q.1.tag (ap tag_in_version d.2 ∙ ap Some d.3) g).later) d.4) v.pass.copied (r.whole.basis.views x.0 v x.1).copied
 
-  part_9 : ShortcutsKnown m (chain_of st) (recycled_of st)
-  part_9 s t e = known m st c s t (r.whole.help.short s t e)
+  part_9 : ShortcutsKnown m (chain_of st) st.task
+  part_9 s t e = known m st c st.task leaves_by_task s t (r.whole.help.short s t e)
 
-  binding_waits : (s : ℕ) (k : List ℕ) (t : ℕ) → IsWaiting m st s k t → (moving st.task ≢ Some s) → Each (λ (q : ℕ × List ℕ). (Within q st.bindings → ⊥) × ((u : ℕ) × (chain_of st q.0 ≡ u ∷ []) × (value_by st u ≡ None))) ((s, k) ∷ [])
-  binding_waits s k t a n =
+  binding_waits : (bind : NewBinding) → IsWaiting m st bind → (moving st.task ≢ Some bind.slot) → Each (λ (q : ℕ × List ℕ). (Within q st.bindings → ⊥) × ((u : ℕ) × (chain_of st q.0 ≡ u ∷ []) × (value_by st u ≡ None))) ((bind.slot, bind.key) ∷ [])
+  binding_waits bind a n =
+      let s : ℕ = bind.slot in
+      let k : List ℕ = bind.key in
+      let t : ℕ = bind.tag in
       let z = r.whole.help.stage.settled s n in
       let lead : st.lead s ≡ 0 = z.0 ∙ a.gone in
       let w = tag_there st s 0 t a.tag in (
@@ -454,25 +524,31 @@ module _ (p : Pool) (first : Tagged) (used : List ℕ) (ws : List ℕ) (vs : Lis
       )
 
   waiting_here : (T : Task) → st.task ≡ T → AtStage p m st T → Each (λ (q : ℕ × List ℕ). (Within q st.bindings → ⊥) × ((u : ℕ) × (chain_of st q.0 ≡ u ∷ []) × (value_by st u ≡ None))) (waiting_name T)
-  waiting_here (Rooted s k t) e a = binding_waits s k t a.0 (λ q. absurd (let z : ◌≡◌ {A = Option ℕ} None (Some s) = ap moving (sym e) ∙ q in cc))
-  waiting_here (Waiting s k t) e a = binding_waits s k t a.0 (λ q. absurd (let z : ◌≡◌ {A = Option ℕ} None (Some s) = ap moving (sym e) ∙ q in cc))
+  waiting_here (Rooted bind) e a = binding_waits bind a.0 (λ q. absurd (let z : ◌≡◌ {A = Option ℕ} None (Some bind.slot) = ap moving (sym e) ∙ q in cc))
+  waiting_here (Waiting bind) e a = binding_waits bind a.0 (λ q. absurd (let z : ◌≡◌ {A = Option ℕ} None (Some bind.slot) = ap moving (sym e) ∙ q in cc))
   waiting_here Idle e a = tt
-  waiting_here (Storing s k t n) e a = tt
-  waiting_here (Loaded s y t) e a = tt
-  waiting_here (Raised s y t) e a = tt
-  waiting_here (Led s y t) e a = tt
-  waiting_here (Both s y t) e a = tt
-  waiting_here (Exchanged s y t) e a = tt
+  waiting_here (Storing bind n) e a = tt
+  waiting_here (Loaded cycle) e a = tt
+  waiting_here (Raised cycle) e a = tt
+  waiting_here (Led cycle) e a = tt
+  waiting_here (Both cycle) e a = tt
+  waiting_here (Exchanged cycle) e a = tt
 
-  part_10 : NamesAndCount m vs (chain_of st) (value_by st) st.bindings
+  part_10 : NamesAndCount p m vs (chain_of st) st.task (value_by st) st.bindings
   part_10 = record {
     count = r.whole.help.naming.counted;
-    directory = λ v sv. let s = r.whole.serves sv.0 v sv.1 sv.2 in s.directory ∙ ap (λ (T : Task). st.bindings ++ waiting_name T) (sym s.task_is);
+    slots_once = r.whole.help.naming.once;
+    keys_once = λ i j s s1 k e f. let a = bound_at i s k e in let b = bound_at j s1 k f in r.whole.help.naming.once i j s k k e (f ∙ ap (λ (x : ℕ). Some (x, k)) (r.whole.basis.keyed s1 s k b a));
+    few = let a = few_bindings p.slots st.bindings r.whole.help.naming.once (λ q w. r.whole.help.keyed.slots q.0 q.1 (r.whole.basis.bound q.0 q.1 w).0) in let b = r.whole.help.naming.counted in omega arith;
+    directory = λ v sv. (r.whole.serves sv.0 v sv.1 sv.2).directory;
     names = λ v w. let x = within_there vs v w in (r.whole.basis.views x.0 v x.1).names;
     added = λ v w. let x = within_there vs v w in (r.whole.basis.views x.0 v x.1).added;
     most = λ v w. let x = within_there vs v w in (r.whole.basis.views x.0 v x.1).most;
-    waiting = λ v sv. let s = r.whole.serves sv.0 v sv.1 sv.2 in subst (λ (T : Task). Each (λ (q : ℕ × List ℕ). (Within q st.bindings → ⊥) × ((u : ℕ) × (chain_of st q.0 ≡ u ∷ []) × (value_by st u ≡ None))) (waiting_name T)) (sym s.task_is) (waiting_here st.task refl r.whole.help.stage.here);
+    waiting = waiting_here st.task refl r.whole.help.stage.here;
   }
+    where
+      bound_at : (i s : ℕ) (k : List ℕ) → nth st.bindings i ≡ Some (s, k) → st.keys s ≡ Some k
+      bound_at i s k e = (r.whole.basis.bound s k (nth_among st.bindings i (s, k) e)).0
 
   map_bound : (s : ℕ) (k : List ℕ) → st.keys s ≡ Some k → leads (shows first) h k ≡ tail_pair (value_by st) (chain_of st s)
   map_bound s k e =
@@ -491,13 +567,28 @@ module _ (p : Pool) (first : Tagged) (used : List ℕ) (ws : List ℕ) (vs : Lis
   part_11 : HistoryAndMap p first used m vs (chain_of st) (value_by st) st.keys h
   part_11 = let l = legal_history first used h r.whole.basis.tale.legal in record {
     legal = l.2;
-    map = (l.0, l.1, (λ s k e. ap (λ (f : Map). f k) l.3 ∙ map_bound s k e), (λ k f. ap (λ (g : Map). g k) l.3 ∙ map_unbound k f));
+    keys_are = record {
+      rooted = λ s t e. key_here s t (sym (c.root s) ∙ e) (st.keys s) refl;
+      bound = λ s k e. root_here s k e (m.root s) refl;
+      valid = r.whole.help.keyed.valid;
+      spelled = r.whole.help.keyed.current;
+      once = r.whole.basis.keyed;
+    };
+    map = record { map = l.0; leads = l.1; bound = λ s k e. ap (λ (f : Map). f k) l.3 ∙ map_bound s k e; unbound = λ k f. ap (λ (g : Map). g k) l.3 ∙ map_unbound k f };
     old = each_map (λ t d. let b = r.whole.help.ranged.below (home t) in let a = d.1 in omega arith) (used_by used h) r.whole.safe;
     unstocked = λ v w. let x = within_there vs v w in each_map (λ t sp q. not_stocked x.0 t sp v.pass.stock (r.whole.basis.views x.0 v x.1).stocked q) (used_by used h) r.whole.basis.spent;
     unfree = λ v sv. let s = r.whole.serves sv.0 v sv.1 sv.2 in each_map (λ t sp i e. let f = free_place st.task st (st.place (home t)) (gen (m.next (home t))) (home t) (age t) (sym (s.books (home t) i) ∙ e) in
         ⊎_elim {C = ⊥} (λ a. let b = f.1 in omega arith) (λ a. let z : Free ≡ Chained a.0 = sym f.0 ∙ a.1 in cc) sp) (used_by used h) r.whole.basis.spent;
   }
     where
+      key_here : (s t : ℕ) → tag_at st s (st.lead s) ≡ Some t → (x : Option (List ℕ)) → st.keys s ≡ x → (k : List ℕ) × (st.keys s ≡ Some k)
+      key_here s t e (Some k) q = (k, q)
+      key_here s t e None q = absurd (let a = r.whole.help.keyed.bare s q in let b = tag_within st s (st.lead s) t e in omega arith)
+
+      root_here : (s : ℕ) (k : List ℕ) → st.keys s ≡ Some k → (o : Option ℕ) → m.root s ≡ o → (t : ℕ) × (m.root s ≡ Some t)
+      root_here s k e (Some t) q = (t, q)
+      root_here s k e None q = absurd (let a = tag_past st s (st.lead s) (sym (c.root s) ∙ q) in let b = c.rooted s (r.whole.help.keyed.filled s k e) in let d = c.sure_most s in omega arith)
+
       not_stocked : (i t : ℕ) → Spent m st t → (us : List ℕ) → Each (Owned m st i) us → Within t us → ⊥
       not_stocked i t sp us o w = (not_owned i t t sp (each_within (Owned m st i) t us o w) refl)
 
@@ -520,11 +611,13 @@ module _ (p : Pool) (first : Tagged) (used : List ℕ) (ws : List ℕ) (vs : Lis
   pub rule_holds : Rule p first used ws vs h
   rule_holds = record {
     chain = chain_of st;
-    recycled = recycled_of st;
     value = value_by st;
     place = place_at;
     bindings = st.bindings;
     keys = st.keys;
+    task = st.task;
+    task_is = λ v sv. (r.whole.serves sv.0 v sv.1 sv.2).task_is;
+    one_run = λ v w. let x = within_there vs v w in r.same x.0 v x.1;
     buffers_in_one_place = part_1;
     chains_and_contents = part_2;
     next_words_rise = part_3;

@@ -19,7 +19,7 @@ use Rattle.clover_rule.specs.Content.{content, value_meta, Spells}
 use Rattle.clover_rule.specs.History.{named}
 use Rattle.clover_rule.specs.Lists.{nth, Within}
 use Rattle.clover_rule.specs.Memory.{Mem}
-use Rattle.clover_rule.specs.Parts.{Walk}
+use Rattle.clover_rule.specs.Chains.{Walk}
 use Rattle.clover_rule.specs.Steps.{value_of}
 use Rattle.clover_rule.specs.Words.{mem_of}
 use Rattle.clover_rule.specs.declared.access.Access.{Access}

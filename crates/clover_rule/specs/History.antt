@@ -146,10 +146,3 @@ Unread lost (e ∷ h) = (lost_in lost (commit_of e) ≡ true → Silent (key_of 
 abbrev pub Last : (ℕ → Bool) → List Entry → Type 0
 Last lost [] = Unit {0}
 Last lost (e ∷ h) = (lost_in lost (commit_of e) ≡ true → commits (key_of e) h ≡ []) × Last lost h
-
-pub record Survives (m : Map) (used : List ℕ) (told : ℕ → Type 0) (h rest : List Entry) : Type 0 where
-  pub lost : ℕ → Bool
-  pub is : rest ≡ kept lost h
-  pub last : Last lost h
-  pub untold : (t : ℕ) → lost t ≡ true → told t → ⊥
-  pub legal : Legal m used rest

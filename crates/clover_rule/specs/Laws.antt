@@ -1,18 +1,21 @@
 -- The laws that the crate's functions promise.
-use Rattle.std.specs.Prelude.{◌≡◌, ℕ, List, slice_set, Bool, Some}
+use Rattle.std.specs.Prelude.{◌≡◌, ℕ, ◌<◌, ◌⊎◌, List, slice_set, Bool, Some}
 use Rattle.clover_words.specs.declared.pool.Pool.{Pool}
 use Rattle.clover_words.specs.Place.{address_of}
 use Rattle.clover_map.specs.declared.call.Entry.{Entry}
 use Rattle.clover_map.specs.Tagged.{Tagged}
 use Rattle.atomic_table.specs.Table.{Me, Allows}
 use Rattle.clover_rule.specs.Accesses.{CameBack, words_after_act}
-use Rattle.clover_rule.specs.ServerSteps.{ServerStep, ServerLaw}
 use Rattle.clover_rule.specs.Lists.{nth}
 use Rattle.clover_rule.specs.Meets.{Meets}
+use Rattle.clover_rule.specs.Memory.{Next, order}
 use Rattle.clover_rule.specs.Rule.{Rule, longest}
-use Rattle.clover_rule.specs.Steps.{Step, Asks, word_of, side_of, becomes, act_of, found, words_after_step, next_view, next_history}
+use Rattle.clover_rule.specs.Asks.{Asks}
+use Rattle.clover_rule.specs.Learned.{found, words_after_step, next_view, next_history}
+use Rattle.clover_rule.specs.Steps.{Step, word_of, side_of, becomes, act_of}
 use Rattle.clover_rule.specs.Story.{Story}
 use Rattle.clover_rule.specs.Told.{Told, TableHolds}
+use Rattle.clover_rule.specs.Words.{mem_of}
 use Rattle.clover_rule.specs.declared.view.View.{View}
 
 -- The twelve parts follow from the helping facts.
@@ -38,9 +41,14 @@ abbrev pub TableStepLaw : Type 0
 TableStepLaw = (p : Pool) (first : Tagged) (used : List ℕ) (slots id : ℕ) (me : Me (Unit {0}) View) (a : Step) (b : Bool) → Asks p a me.0
     → Allows {S = Unit {0}} (TableHolds p first used) slots id me (address_of p (word_of a) (side_of a)) (becomes a) (λ x you. Told p a b me.0 x you.0 × (you.1 ≡ me.1))
 
--- Each step of the server's binding and recycling keeps the helping facts over the decoded words.
-abbrev pub ServerStepLaw : Type 0
-ServerStepLaw = (p : Pool) (a : ServerStep) → ServerLaw p a
+-- a next word stays as it is or rises
+abbrev pub Rises : Next → Next → Type 0
+Rises n n' = (n' ≡ n) ⊎ (order n < order n')
+
+-- No step lets a copy of a next word fall.
+abbrev pub RiseLaw : Type 0
+RiseLaw = (p : Pool) (first : Tagged) (used ws : List ℕ) (vs : List View) (h : List Entry) (id : ℕ) (v : View) (a : Step) → Rule p first used ws vs h → nth vs id ≡ Some v → Asks p a v
+    → (b : ℕ) → Rises ((mem_of p ws).next b) ((mem_of p (words_after_step p a ws)).next b) × Rises ((mem_of p ws).fnext b) ((mem_of p (words_after_step p a ws)).fnext b)
 
 -- The access of a step comes back with what the words give, and leaves what the step leaves.
 abbrev pub AccessLaw : Type 0

@@ -1,5 +1,5 @@
 -- The helping facts over the words of a pool: they carry the rule from step to step.
-use Rattle.std.specs.Prelude.{◌≡◌, ℕ, List, length}
+use Rattle.std.specs.Prelude.{◌≡◌, ℕ, List, [], length}
 use Rattle.clover_words.specs.declared.pool.Pool.{Pool}
 use Rattle.clover_words.specs.declared.word.Word.{Word}
 use Rattle.clover_words.specs.declared.word.Word.TheVariants.{Next as NextOf, Root, Short}
@@ -43,6 +43,8 @@ pub record Meets (p : Pool) (first : Tagged) (used : List ℕ) (ws : List ℕ) (
   pub sized : length ws ≡ pool_words p
   pub decodes : Decodes p ws
   pub same : (i : ℕ) (v : View) → nth vs i ≡ Some v → OfRun p first used v
+  -- nobody has a store of a restart to make
+  pub still : (i : ℕ) (v : View) → nth vs i ≡ Some v → v.plan ≡ []
   -- a buffer whose place is a stock is in that stock
   pub stocks : InStocks vs st
   pub whole : Whole p (shows first) used (mem_of p ws) vs st h

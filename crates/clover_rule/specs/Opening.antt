@@ -6,7 +6,7 @@ use Rattle.clover_rule.specs.Image.{Image}
 use Rattle.clover_rule.specs.Lists.{IsPrefix, Each, nth, Within}
 use Rattle.clover_rule.specs.Memory.{Mem, gen, link}
 use Rattle.clover_rule.specs.Sound.{Sound, versions_of}
-use Rattle.clover_rule.specs.Views.{Apart}
+use Rattle.clover_rule.specs.Views.{Apart, SlotsOnce}
 use Rattle.clover_rule.specs.declared.view.View.{View}
 use Rattle.std.specs.Prelude.{◌≡◌, ℕ, ◌<◌, ◌≤◌, ◌≢◌, ◌⊎◌, List, [], length, true, Option, Some, None}
 use Rattle.clover_words.specs.declared.pool.Pool.{Pool}
@@ -32,6 +32,7 @@ pub record Opens (l : Pool) (im : Image) (sound : Sound l im) (m0 : Map) (used :
   pub bindings : List (ℕ × List ℕ)
   pub listed : (s : ℕ) (k : List ℕ) → keys s ≡ Some k → Within (s, k) bindings
   pub bound : (s : ℕ) (k : List ℕ) → Within (s, k) bindings → keys s ≡ Some k
+  pub once : SlotsOnce bindings
   pub count : m.count ≡ length bindings
   pub slot_named : List ℕ → ℕ
   pub found : (s : ℕ) (k : List ℕ) → keys s ≡ Some k → slot_named k ≡ s
@@ -61,3 +62,4 @@ pub record Starts (m : Mem) (bindings : List (ℕ × List ℕ)) (owner : ℕ →
   pub added : v.pass.added ≡ []
   pub calls : v.pass.calls ≡ []
   pub history : v.pass.history ≡ []
+  pub plan : v.plan ≡ []

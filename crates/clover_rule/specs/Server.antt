@@ -9,8 +9,10 @@ use Rattle.clover_rule.specs.History.{Version, Map, used_by}
 use Rattle.clover_rule.specs.Lists.{Each, nth, Within}
 use Rattle.clover_rule.specs.Memory.{Mem, word, gen}
 use Rattle.clover_rule.specs.Story.{Place, Chained, Stocked, Free, Worn, Taken, Story, tag_at, Durable}
-use Rattle.clover_rule.specs.Views.{book_at, root_at, Book, book, Basis, Naming}
+use Rattle.clover_rule.specs.Views.{book_at, root_at, Book, book, Basis, Holds, Naming}
 use Rattle.clover_rule.specs.declared.view.BufferState.TheVariants.{Free as IsFree, Worn as IsWorn, Bound as IsBound, Out as IsOut}
+use Rattle.clover_rule.specs.declared.view.NewBinding.{NewBinding}
+use Rattle.clover_rule.specs.declared.view.Recycling.{Recycling}
 use Rattle.clover_rule.specs.declared.view.Role.TheVariants.{Client, Serving}
 use Rattle.clover_rule.specs.declared.view.Server.{Server}
 use Rattle.clover_rule.specs.declared.view.Task.{Task}
@@ -45,67 +47,74 @@ Settled st s = (st.lead s ≡ st.gone s) × (st.flead s ≡ st.gone s)
 
 -- the slot whose two root copies are on their way, the slot that waits for its count, and the buffer that the task holds
 abbrev pub moving : Task → Option ℕ
-moving (Led s r t) = Some s
-moving (Both s r t) = Some s
+moving (Led c) = Some c.slot
+moving (Both c) = Some c.slot
 moving _ = None
 
 abbrev pub unnamed : Task → Option ℕ
-unnamed (Rooted s k t) = Some s
-unnamed (Waiting s k t) = Some s
+unnamed (Rooted b) = Some b.slot
+unnamed (Waiting b) = Some b.slot
 unnamed _ = None
 
 abbrev pub holding : Task → Option ℕ
-holding (Storing s k t n) = Some (home t)
-holding (Exchanged s r t) = Some (home r)
+holding (Storing b n) = Some (home b.tag)
+holding (Exchanged c) = Some (home c.root)
 holding _ = None
 
 -- a binding of which n stores were made, none of them the root's
-pub record IsStoring (l : Pool) (m : Mem) (st : Story) (s : ℕ) (k : List ℕ) (t n : ℕ) : Type 0 where
-  pub place : st.place (home t) ≡ Taken
-  pub now : m.next (home t) ≡ word (age t) None
-  pub safe : m.fnext (home t) ≡ word (age t) None
-  pub range : InRange l t
-  pub slot : s < l.slots
-  pub bare : st.keys s ≡ None
-  pub unnamed : st.named s ≡ false
-  pub absent : (s1 : ℕ) → st.keys s1 ≢ Some k
-  pub valid : IsKey k
-  pub body : 1 ≤ n → m.body (home t) 0 ≡ tombstone
-  pub fbody : 2 ≤ n → m.fbody (home t) 0 ≡ tombstone
-  pub key : (j x : ℕ) → nth (spelling k) j ≡ Some x → 3 + j ≤ n → m.key s j ≡ x
-  pub fkey : (j x : ℕ) → nth (spelling k) j ≡ Some x → 3 + j + length (spelling k) ≤ n → m.fkey s j ≡ x
+pub record IsStoring (l : Pool) (m : Mem) (st : Story) (b : NewBinding) (n : ℕ) : Type 0 where
+  pub place : st.place (home b.tag) ≡ Taken
+  pub now : m.next (home b.tag) ≡ word (age b.tag) None
+  pub safe : m.fnext (home b.tag) ≡ word (age b.tag) None
+  pub range : InRange l b.tag
+  pub slot : b.slot < l.slots
+  pub bare : st.keys b.slot ≡ None
+  pub unnamed : st.named b.slot ≡ false
+  pub absent : (s : ℕ) → st.keys s ≢ Some b.key
+  pub valid : IsKey b.key
+  pub body : 1 ≤ n → m.body (home b.tag) 0 ≡ tombstone
+  pub fbody : 2 ≤ n → m.fbody (home b.tag) 0 ≡ tombstone
+  pub key : (j x : ℕ) → nth (spelling b.key) j ≡ Some x → 3 + j ≤ n → m.key b.slot j ≡ x
+  pub fkey : (j x : ℕ) → nth (spelling b.key) j ≡ Some x → 3 + j + length (spelling b.key) ≤ n → m.fkey b.slot j ≡ x
 
-pub record IsWaiting (m : Mem) (st : Story) (s : ℕ) (k : List ℕ) (t : ℕ) : Type 0 where
-  pub key : st.keys s ≡ Some k
-  pub unnamed : st.named s ≡ false
-  pub alone : length (st.log s) ≡ 1
-  pub tag : tag_at st s 0 ≡ Some t
-  pub gone : st.gone s ≡ 0
+-- a binding whose root is stored: its slot has the tombstone alone, and no name yet
+pub record IsWaiting (m : Mem) (st : Story) (b : NewBinding) : Type 0 where
+  pub key : st.keys b.slot ≡ Some b.key
+  pub unnamed : st.named b.slot ≡ false
+  pub alone : length (st.log b.slot) ≡ 1
+  pub tag : tag_at st b.slot 0 ≡ Some b.tag
+  pub gone : st.gone b.slot ≡ 0
 
-pub record IsRecycling (st : Story) (s r t : ℕ) : Type 0 where
-  pub root : tag_at st s (st.gone s) ≡ Some r
-  pub next : tag_at st s (suc (st.gone s)) ≡ Some t
+-- a recycling whose old root still stands: the next version is the one behind it
+pub record IsRecycling (st : Story) (c : Recycling) : Type 0 where
+  pub root : tag_at st c.slot (st.gone c.slot) ≡ Some c.root
+  pub next : tag_at st c.slot (suc (st.gone c.slot)) ≡ Some c.next
 
-pub record IsExchanged (l : Pool) (m : Mem) (st : Story) (s r t : ℕ) : Type 0 where
-  pub place : st.place (home r) ≡ Taken
-  pub now : m.next (home r) ≡ word (suc (age r)) None
-  pub safe : m.fnext (home r) ≡ word (age r) (Some t)
-  pub old : (i : ℕ) × (suc i ≡ st.gone s) × (tag_at st s i ≡ Some r)
-  pub root : tag_at st s (st.gone s) ≡ Some t
-  pub inside : inside l (home r) ≡ true
-  pub young : age r < l.wear
+-- a recycling whose old root is gone: only the flushed copy of its next word is still its link
+pub record IsExchanged (l : Pool) (m : Mem) (st : Story) (c : Recycling) : Type 0 where
+  pub place : st.place (home c.root) ≡ Taken
+  pub now : m.next (home c.root) ≡ word (suc (age c.root)) None
+  pub safe : m.fnext (home c.root) ≡ word (age c.root) (Some c.next)
+  pub old : (i : ℕ) × (suc i ≡ st.gone c.slot) × (tag_at st c.slot i ≡ Some c.root)
+  pub root : tag_at st c.slot (st.gone c.slot) ≡ Some c.next
+  -- both copies of its content stand still
+  pub body : (w : Version) × (nth (st.log c.slot) old.0 ≡ Some w) × Holds m w
+  pub inside : inside l (home c.root) ≡ true
+  pub young : age c.root < l.wear
 
+-- what words and story say of an unfinished task
 abbrev pub AtStage : Pool → Mem → Story → Task → Type 0
 AtStage l m st Idle = Unit {0}
-AtStage l m st (Storing s k t n) = IsStoring l m st s k t n
-AtStage l m st (Rooted s k t) = IsWaiting m st s k t × (m.froot s ≡ None)
-AtStage l m st (Waiting s k t) = IsWaiting m st s k t × (m.froot s ≡ Some t)
-AtStage l m st (Loaded s r t) = IsRecycling st s r t
-AtStage l m st (Raised s r t) = IsRecycling st s r t × (suc (st.gone s) < st.sure s)
-AtStage l m st (Led s r t) = IsRecycling st s r t × (suc (st.gone s) < st.sure s) × (st.lead s ≡ suc (st.gone s)) × (st.flead s ≡ st.gone s)
-AtStage l m st (Both s r t) = IsRecycling st s r t × (suc (st.gone s) < st.sure s) × (st.lead s ≡ suc (st.gone s)) × (st.flead s ≡ suc (st.gone s))
-AtStage l m st (Exchanged s r t) = IsExchanged l m st s r t
+AtStage l m st (Storing b n) = IsStoring l m st b n
+AtStage l m st (Rooted b) = IsWaiting m st b × (m.froot b.slot ≡ None)
+AtStage l m st (Waiting b) = IsWaiting m st b × (m.froot b.slot ≡ Some b.tag)
+AtStage l m st (Loaded c) = IsRecycling st c
+AtStage l m st (Raised c) = IsRecycling st c × (suc (st.gone c.slot) < st.sure c.slot)
+AtStage l m st (Led c) = IsRecycling st c × (suc (st.gone c.slot) < st.sure c.slot) × (st.lead c.slot ≡ suc (st.gone c.slot)) × (st.flead c.slot ≡ st.gone c.slot)
+AtStage l m st (Both c) = IsRecycling st c × (suc (st.gone c.slot) < st.sure c.slot) × (st.lead c.slot ≡ suc (st.gone c.slot)) × (st.flead c.slot ≡ suc (st.gone c.slot))
+AtStage l m st (Exchanged c) = IsExchanged l m st c
 
+-- no other slot's root is on its way, no other buffer is held, and no other slot waits for its name
 pub record Stage (l : Pool) (m : Mem) (st : Story) (task : Task) : Type 0 where
   pub settled : (s : ℕ) → moving task ≢ Some s → Settled st s
   pub holds : (b : ℕ) → st.place b ≡ Taken → holding task ≡ Some b
@@ -120,14 +129,29 @@ pub record Help (l : Pool) (m : Mem) (st : Story) : Type 0 where
   pub stage : Stage l m st st.task
   pub short : (s t : ℕ) → m.short s ≡ Some t → Durable st s t
 
+-- where the server's directory lags behind the story, which root it has: none of a slot that is being bound, the old one of a recycling
+abbrev pub lagging : Task → ℕ → Option (Option ℕ)
+lagging (Rooted b) s = cond (eqb b.slot s) (Some None) None
+lagging (Waiting b) s = cond (eqb b.slot s) (Some None) None
+lagging (Exchanged c) s = cond (eqb c.slot s) (Some (Some c.root)) None
+lagging _ s = None
+
+abbrev pub or_else : {A : Type 0} → Option A → A → A
+or_else None x = x
+or_else (Some y) x = y
+
 -- the root of a slot in the server's directory
 abbrev pub root_in : Task → Story → ℕ → Option ℕ
-root_in (Exchanged s r t) st s1 = cond (eqb s s1) (Some r) (tag_at st s1 (st.gone s1))
-root_in _ st s1 = tag_at st s1 (st.gone s1)
+root_in task st s = or_else (lagging task s) (tag_at st s (st.gone s))
 
 abbrev pub is_home : Option ℕ → ℕ → Bool
 is_home None b = false
 is_home (Some t) b = eqb (home t) b
+
+-- what the books say of the buffer that the task holds
+abbrev pub held_book : Task → ℕ → Book
+held_book (Exchanged c) g = book (age c.root) IsBound
+held_book _ g = book g IsOut
 
 -- what the books say of a buffer at a place
 abbrev pub book_of : Task → Story → Place → ℕ → ℕ → Book
@@ -135,12 +159,12 @@ book_of task st (Chained s) g b = book g (cond (is_home (root_in task st s) b) I
 book_of task st (Stocked i) g b = book g IsOut
 book_of task st Free g b = book g IsFree
 book_of task st Worn g b = book g IsWorn
-book_of (Exchanged s r t) st Taken g b = book (age r) IsBound
-book_of _ st Taken g b = book g IsOut
+book_of task st Taken g b = held_book task g
 
+-- the binding that the directory has and the names have not
 abbrev pub waiting_name : Task → List (ℕ × List ℕ)
-waiting_name (Rooted s k t) = (s, k) ∷ []
-waiting_name (Waiting s k t) = (s, k) ∷ []
+waiting_name (Rooted b) = (b.slot, b.key) ∷ []
+waiting_name (Waiting b) = (b.slot, b.key) ∷ []
 waiting_name _ = []
 
 -- the server's view is what the story says
@@ -160,6 +184,3 @@ pub record Whole (l : Pool) (m0 : Map) (used : List ℕ) (m : Mem) (vs : List Vi
   -- each client is one of those that the server made
   pub made : (i j n : ℕ) (v w : View) → nth vs i ≡ Some v → nth vs j ≡ Some w → v.pass.role ≡ Serving → w.pass.role ≡ Client n → Within n v.server.clients
   pub entered : (i : ℕ) (v : View) → nth vs i ≡ Some v → v.pass.role ≡ Serving → Each (λ (e : Entry). Within e.client v.server.clients) h
-
-abbrev pub IsWhole : Pool → Map → List ℕ → Mem → List View → Type 0
-IsWhole l m0 used m vs = (st : Story) × (h : List Entry) × Whole l m0 used m vs st h

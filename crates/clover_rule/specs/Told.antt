@@ -1,27 +1,43 @@
 -- What a step tells its actor: facts on its own view and the history, before and after.
-use Rattle.std.specs.Prelude.{◌≡◌, ℕ, ◌<◌, ◌≤◌, ◌⊎◌, List, Bool, Option, Some}
+use Prim.Native.Nat.{suc}
+use Rattle.std.specs.Prelude.{◌≡◌, ◌≢◌, ℕ, ◌<◌, ◌≤◌, ◌⊎◌, List, length, Bool, true, Option, Some, None}
 use Rattle.clover_words.specs.declared.pool.Pool.{Pool}
 use Rattle.clover_words.specs.declared.word.Word.{Word}
 use Rattle.clover_words.specs.declared.word.Word.TheVariants.{Next as NextOf, Root, Short}
 use Rattle.clover_words.specs.Place.{address_of}
 use Rattle.clover_words.specs.Meta.{tombstone}
-use Rattle.clover_words.specs.Version.{unlinked}
+use Rattle.clover_words.specs.Tag.{age, home}
+use Rattle.clover_words.specs.Version.{unlinked, linked}
 use Rattle.clover_map.specs.declared.bytes.Value.{Value}
 use Rattle.clover_map.specs.declared.call.Entry.{Entry}
 use Rattle.clover_map.specs.Tagged.{Tagged}
 use Rattle.clover_map.specs.Legal.{Legal}
 use Rattle.atomic_table.specs.Table.{State, Me, Allows}
 use Rattle.clover_rule.specs.Accesses.{IsTail}
-use Rattle.clover_rule.specs.Content.{InRange, IsKey, Fits, content, value_meta}
+use Rattle.clover_rule.specs.Asks.{Asks}
+use Rattle.clover_rule.specs.Content.{Spells, inside, InRange, IsKey, Fits, content, value_meta}
+use Rattle.clover_rule.specs.Cut.{IsCut, image_of}
 use Rattle.clover_rule.specs.History.{named}
+use Rattle.clover_rule.specs.Image.{Chain}
+use Rattle.clover_rule.specs.Learned.{found, next_view, next_history, words_after_step}
 use Rattle.clover_rule.specs.Lists.{Each, IsPrefix, Within, nth}
 use Rattle.clover_rule.specs.Meets.{IsCode, IsMet}
-use Rattle.clover_rule.specs.Memory.{gen, link}
-use Rattle.clover_rule.specs.Steps.{Step, LoadNext, ReadRoot, DecideNext, LinkNext, Asks, word_of, side_of, becomes, found, next_view, next_history}
-use Rattle.clover_rule.specs.Views.{OwnCalls, Apart}
+use Rattle.clover_rule.specs.Memory.{Mem, gen, link, word}
+use Rattle.clover_rule.specs.Steps.{Step, LoadNext, ReadRoot, DecideNext, LinkNext, ReadCount, AbsentCount, ReadVersion, PassRoot, FreeRoot, StoreCount, word_of, side_of, becomes}
+use Rattle.clover_rule.specs.Views.{OwnCalls, Apart, root_at, book_at, book}
 use Rattle.clover_rule.specs.Words.{next_of, root_of, mem_of}
+use Rattle.clover_rule.specs.declared.view.BufferState.TheVariants.{Free as IsFree}
 use Rattle.clover_rule.specs.declared.view.Link.{Link}
+use Rattle.clover_rule.specs.declared.view.NewBinding.{NewBinding}
+use Rattle.clover_rule.specs.declared.view.Role.TheVariants.{Serving}
+use Rattle.clover_rule.specs.declared.view.Server.{Server}
 use Rattle.clover_rule.specs.declared.view.View.{View}
+
+-- what the server holds is in the pool, and a free buffer has a generation to serve
+pub record ServerFacts (p : Pool) (sv : Server) : Type 0 where
+  pub directory : Each (λ (q : ℕ × List ℕ). (q.0 < p.slots) × IsKey q.1) sv.directory
+  pub roots : (s t : ℕ) → root_at sv s ≡ Some t → (s < p.slots) × InRange p t
+  pub free : (b g : ℕ) → inside p b ≡ true → book_at sv b ≡ book g IsFree → g < p.wear
 
 -- what the rule says of one actor
 pub record Facts (p : Pool) (v : View) (h : List Entry) : Type 0 where
@@ -36,6 +52,7 @@ pub record Facts (p : Pool) (v : View) (h : List Entry) : Type 0 where
   pub durable : Each (λ (q : ℕ × ℕ). (q.0 < p.slots) × InRange p q.1) v.pass.durable
   pub links : Each (λ (l : Link). (l.slot < p.slots) × InRange p l.from × InRange p l.to) v.pass.links
   pub names : Each (λ (q : ℕ × List ℕ). (q.0 < p.slots) × IsKey q.1) v.pass.names
+  pub server : v.pass.role ≡ Serving → ServerFacts p v.server
 
 -- a number that the word may have: it decodes, and names a tag of the pool or none
 abbrev pub IsShown : Pool → Word → ℕ → Type 0
@@ -54,12 +71,33 @@ pub record AreOneVersion (p : Pool) (s t : ℕ) (v : View) : Type 0 where
   pub fits : Fits p value
   pub words : (j y z : ℕ) → Within (s, record { tag = t; place = j; word = y }) v.pass.copied → nth (content value) j ≡ Some z → z ≡ y
 
--- what else it says: a named slot has a root; a meta word that was copied of a tag is a version's where the tag is found unlinked; a tag that a deciding step finds unlinked is the tail of its call's key in the words of that moment, and what was copied of it is one version's
+-- the buffer stands on no chain of any image of these words
+abbrev pub OnNoChain : Pool → List ℕ → ℕ → Type 0
+OnNoChain p ws b = (im : List ℕ) → IsCut p ws im → (s : ℕ) (ts : List ℕ) → Chain (image_of p im) ((image_of p im).root s) ts → (t : ℕ) → Within t ts → home t ≢ b
+
+-- a recycled tag: its buffer is flushed at the next generation, unlinked, and stands on no chain of any image
+pub record IsGivenBack (p : Pool) (ws : List ℕ) (t : ℕ) : Type 0 where
+  pub flushed : (mem_of p ws).fnext (home t) ≡ word (suc (age t)) None
+  pub gone : OnNoChain p ws (home t)
+
+-- a binding whose key words, root and tombstone are flushed
+pub record IsDurableBinding (m : Mem) (b : NewBinding) : Type 0 where
+  pub key : Spells (m.fkey b.slot) b.key
+  pub root : m.froot b.slot ≡ Some b.tag
+  pub tombstone : m.fbody (home b.tag) 0 ≡ tombstone
+
+-- What else a step says. A named slot has a root. A meta word that was copied of a tag is a version's where the tag is found unlinked. A tag that a deciding step finds unlinked is the tail of its call's key in the words of that moment, and what was copied of it is one version's. A count is at least the actor's names and at most the slots. A root version shows its own generation, and a recycling's exchange finds its link. After a recycling's last raise its old version is given back, and after a binding's last store the binding is durable.
 abbrev pub Says : Pool → List ℕ → Step → View → ℕ → Type 0
 Says p ws (LoadNext s t) v x = x ≡ unlinked t → (y : ℕ) → Within (s, record { tag = t; place = 0; word = y }) v.pass.copied → IsMetaWord p y
 Says p ws (ReadRoot s) v x = (k : List ℕ) → Within (s, k) v.pass.names → (t : ℕ) × (root_of x ≡ Some t)
 Says p ws (DecideNext s t c r) v x = x ≡ unlinked t → IsTail (mem_of p ws) (named c) t × AreOneVersion p s t v
 Says p ws (LinkNext s u t c) v x = x ≡ unlinked u → IsTail (mem_of p ws) (named c) u
+Says p ws ReadCount v x = (length v.pass.names ≤ x) × (x ≤ p.slots)
+Says p ws (AbsentCount c) v x = (length v.pass.names ≤ x) × (x ≤ p.slots)
+Says p ws (ReadVersion s r) v x = gen (next_of x) ≡ age r
+Says p ws (PassRoot c) v x = x ≡ linked c.root c.next
+Says p ws (FreeRoot c) v x = IsGivenBack p (words_after_step p (FreeRoot c) ws) c.root
+Says p ws (StoreCount b n) v x = IsDurableBinding (mem_of p (words_after_step p (StoreCount b n) ws)) b
 Says p ws a v x = Unit {0}
 
 -- where these are the words and the history, a step of the actor v found the number x and left the view w, the first of its call or a later one

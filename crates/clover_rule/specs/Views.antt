@@ -1,14 +1,13 @@
 -- What each seat's view holds, and the rule over words, views and one history.
 use Prim.Native.Nat.{suc}
-use Rattle.std.specs.Prelude.{◌≡◌, ℕ, ◌<◌, ◌≤◌, ◌≢◌, ◌⊎◌, List, [], ◌∷◌, ◌++◌, length, set, true, false, cond, eqb, Option, Some, None}
+use Rattle.std.specs.Prelude.{◌≡◌, ℕ, ◌<◌, ◌≤◌, ◌≢◌, ◌⊎◌, List, [], ◌∷◌, length, set, true, false, cond, eqb, Option, Some, None}
 use Rattle.clover_words.specs.Tag.{home, age}
 use Rattle.clover_map.specs.declared.call.Entry.{Entry}
-use Rattle.clover_rule.specs.Changes.{raised_mem}
 use Rattle.clover_rule.specs.Content.{content}
 use Rattle.clover_rule.specs.History.{Version, Map, used_by, own}
 use Rattle.clover_rule.specs.Lists.{Within, IsPrefix, IsPart, Each, nth, upd}
 use Rattle.clover_rule.specs.Memory.{Mem, Next, word, gen, link}
-use Rattle.clover_rule.specs.Story.{Place, Chained, Stocked, Free, Story, tag_at, Core, Tale, Durable}
+use Rattle.clover_rule.specs.Story.{Place, Chained, Stocked, Story, tag_at, Core, Tale, Durable}
 use Rattle.clover_rule.specs.declared.view.BookLine.{BookLine}
 use Rattle.clover_rule.specs.declared.view.BufferState.{BufferState}
 use Rattle.clover_rule.specs.declared.view.BufferState.TheVariants.{Out as IsOut}
@@ -115,9 +114,6 @@ pub record Basis (m0 : Map) (used : List ℕ) (m : Mem) (vs : List View) (st : S
   pub numbered : Numbered vs
   pub longest : (i : ℕ) × (v : View) × (nth vs i ≡ Some v) × (v.pass.history ≡ h)
 
-abbrev pub IsBasis : Map → List ℕ → Mem → List View → Type 0
-IsBasis m0 used m vs = (st : Story) × (h : List Entry) × Basis m0 used m vs st h
-
 -- one view of a list is renewed
 abbrev pub renewed : List View → ℕ → View → List View
 renewed vs i v = set vs i v
@@ -126,25 +122,14 @@ abbrev pub without : ℕ → List Content → List Content
 without t [] = []
 without t (c ∷ cs) = cond (eqb c.tag t) (without t cs) (c ∷ without t cs)
 
--- the law of the raise over a link that the seat loaded or wrote
+-- a raise over a link: its target is durable
 abbrev pub raise_view : View → Link → View
 raise_view v l = record v { pass = record v.pass { durable = (l.slot, l.to) ∷ v.pass.durable } }
-
-abbrev pub RaiseLaw : Type 0
-RaiseLaw = (m0 : Map) (used : List ℕ) (m : Mem) (vs : List View) (id : ℕ) (v : View) (l : Link)
-    → IsBasis m0 used m vs → nth vs id ≡ Some v → Within l v.pass.links
-    → IsBasis m0 used (raised_mem m l.from l.to) (renewed vs id (raise_view v l))
 
 -- the buffers of a batch change hands
 abbrev pub handed : (ℕ → Place) → List ℕ → Place → ℕ → Place
 handed f [] q = f
 handed f (t ∷ ts) q = handed (upd f (home t) q) ts q
-
--- a batch that the server may split off as a grant: free tags at their generations, of different buffers
-pub record MayGrant (m : Mem) (st : Story) (batch : List ℕ) (names : List (ℕ × List ℕ)) : Type 0 where
-  pub free : Each (λ (t : ℕ). (st.place (home t) ≡ Free) × (gen (m.next (home t)) ≡ age t)) batch
-  pub apart : Apart batch
-  pub known : IsPrefix names st.bindings
 
 abbrev pub no_server : Server
 no_server = record { books = []; directory = []; roots = []; task = Idle; unlinked = []; clients = []; joined = [] }
@@ -181,10 +166,11 @@ abbrev pub empty_pass : Pass → Role → Pass
 empty_pass v ro = start_pass v.pool v.map v.used ro
 
 abbrev pub alone : Pass → View
-alone v = record { pass = v; server = no_server }
+alone v = record { pass = v; server = no_server; plan = [] }
 
-abbrev pub split_views : List View → ℕ → View → View → List View
-split_views vs id left right = set vs id left ++ right ∷ []
+-- no slot stands twice among the bindings
+abbrev pub SlotsOnce : List (ℕ × List ℕ) → Type 0
+SlotsOnce bs = (i j s : ℕ) (k k1 : List ℕ) → nth bs i ≡ Some (s, k) → nth bs j ≡ Some (s, k1) → i ≡ j
 
 -- the bindings, the count, and the slot that has a key
 pub record Naming (m : Mem) (st : Story) (slot_named : List ℕ → ℕ) : Type 0 where
@@ -192,3 +178,4 @@ pub record Naming (m : Mem) (st : Story) (slot_named : List ℕ → ℕ) : Type 
   pub found : (s : ℕ) (k : List ℕ) → st.keys s ≡ Some k → slot_named k ≡ s
   pub listed : (s : ℕ) (k : List ℕ) → st.keys s ≡ Some k → st.named s ≡ true → Within (s, k) st.bindings
   pub waiting : (s : ℕ) (k : List ℕ) → st.keys s ≡ Some k → st.named s ≡ false → (i : ℕ) (w : Version) → nth (st.log s) i ≡ Some w → w.value ≡ None
+  pub once : SlotsOnce st.bindings

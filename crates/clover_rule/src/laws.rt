@@ -1,7 +1,7 @@
-// The laws, each a contract of a function without a body.
+// The laws, each a contract of a function with an empty body.
 ghost use Rattle.clover_rule.specs.Cut.{CutLaw};
 ghost use Rattle.clover_rule.specs.Preset.{PresetLaw};
-ghost use Rattle.clover_rule.specs.Laws.{PartsLaw, LongestLaw, StepLaw, ToldLaw, TableStepLaw, ServerStepLaw, AccessLaw};
+ghost use Rattle.clover_rule.specs.Laws.{PartsLaw, LongestLaw, StepLaw, ToldLaw, TableStepLaw, RiseLaw, AccessLaw};
 
 /// The twelve parts of the rule follow from the helping facts.
 pub fn parts_law()
@@ -18,7 +18,7 @@ pub fn longest_law()
     ensures { LongestLaw }
 {}
 
-/// Each step that a client may make keeps the rule.
+/// Each step that its actor may make keeps the rule.
 pub fn step_law()
     ensures { StepLaw }
 {}
@@ -33,9 +33,9 @@ pub fn table_step_law()
     ensures { TableStepLaw }
 {}
 
-/// Each step of the server keeps the helping facts over the decoded words.
-pub fn server_step_law()
-    ensures { ServerStepLaw }
+/// No step lets a copy of a next word fall.
+pub fn rise_law()
+    ensures { RiseLaw }
 {}
 
 /// The access of a step comes back with what the words give.

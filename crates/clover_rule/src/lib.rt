@@ -9,10 +9,11 @@ mod view;
 
 pub use access::{Access, Act, Actor};
 pub use laws::{
-    access_law, cut_law, longest_law, parts_law, preset_law, server_step_law, step_law,
-    table_step_law, told_law,
+    access_law, cut_law, longest_law, parts_law, preset_law, rise_law, step_law, table_step_law,
+    told_law,
 };
 pub use step::StepName;
 pub use view::{
-    BookLine, BufferState, Content, Link, Pass, Refusal, Role, Server, Shown, Task, View,
+    BookLine, BufferState, Content, Link, NewBinding, Pass, Recycling, Refusal, RestartStore, Role,
+    Server, Shown, Task, View,
 };

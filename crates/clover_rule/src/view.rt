@@ -18,6 +18,8 @@ pub enum Role {
     Noting,
     /// What is left of a seat that another one took in.
     Joined,
+    /// What steps alone after a power cut.
+    Restarting,
 }
 
 /// A link of a slot's chain, from one tag to the next.
@@ -68,59 +70,50 @@ pub enum Refusal {
     NoSlot,
 }
 
+/// A binding that the server makes: the key takes the slot, and the tag is its first version, a tombstone.
+pub struct NewBinding {
+    pub slot: u64,
+    pub key: Key,
+    pub tag: u64,
+}
+
+/// A recycling that the server makes: a slot's root version, and the one behind it, which becomes the root.
+pub struct Recycling {
+    pub slot: u64,
+    pub root: u64,
+    pub next: u64,
+}
+
 /// What the server has begun and not ended.
 pub enum Task {
     /// Nothing.
     Idle,
     /// A binding of which so many stores were made, none of them the root's.
-    Storing {
-        slot: u64,
-        key: Key,
-        tag: u64,
-        stored: u64,
-    },
+    Storing { binding: NewBinding, stored: u64 },
     /// A binding whose root is stored.
-    Rooted {
-        slot: u64,
-        key: Key,
-        tag: u64,
-    },
+    Rooted { binding: NewBinding },
     /// A binding whose root is flushed, and which waits for the count.
-    Waiting {
-        slot: u64,
-        key: Key,
-        tag: u64,
-    },
+    Waiting { binding: NewBinding },
     /// A recycling that loaded the link from the root version to the next one.
-    Loaded {
-        slot: u64,
-        root: u64,
-        next: u64,
-    },
+    Loaded { recycling: Recycling },
     /// A recycling whose link is flushed.
-    Raised {
-        slot: u64,
-        root: u64,
-        next: u64,
-    },
+    Raised { recycling: Recycling },
     /// A recycling whose new root is stored.
-    Led {
-        slot: u64,
-        root: u64,
-        next: u64,
-    },
+    Led { recycling: Recycling },
     /// A recycling whose new root is flushed.
-    Both {
-        slot: u64,
-        root: u64,
-        next: u64,
-    },
+    Both { recycling: Recycling },
     /// A recycling whose old root version has its next generation.
-    Exchanged {
-        slot: u64,
-        root: u64,
-        next: u64,
-    },
+    Exchanged { recycling: Recycling },
+}
+
+/// A store that a restart makes: it clears the root of a slot whose chain ends in a tombstone, lifts a buffer
+/// that stands on no chain to its next generation, and sets the count.
+pub enum RestartStore {
+    ClearRoot { slot: u64 },
+    ClearFlushedRoot { slot: u64 },
+    Lift { buffer: u64, generation: u64 },
+    LiftFlushed { buffer: u64, generation: u64 },
+    SetCount { count: u64 },
 }
 
 /// What one actor knows, the server's own part aside.
@@ -190,4 +183,6 @@ pub struct Server {
 pub struct View {
     pub pass: Pass,
     pub server: Server,
+    /// The stores that a restart has still to make, the next one first; a pool that runs has none.
+    pub plan: LinkedList<RestartStore>,
 }

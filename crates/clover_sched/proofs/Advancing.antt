@@ -4,7 +4,7 @@ use Rattle.std.proofs.Common.{◌≡◌, ◌≢◌, ℕ, List, refl, sym, ap, �
 use Rattle.clover_words.specs.declared.pool.Pool.{Pool}
 use Rattle.clover_map.specs.declared.call.Call.{Call}
 use Rattle.clover_map.specs.declared.call.Reply.{Reply}
-use Rattle.clover_rule.specs.Steps.{found, turn_of, words_after_step}
+use Rattle.clover_rule.specs.Learned.{found, turn_of, words_after_step}
 use Rattle.clover_rule.specs.declared.view.View.{View}
 use Rattle.clover_get.specs.Alone.{Moment, GoesAlone, next_step}
 use Rattle.clover_get.specs.Getting.{IsOpen, Over}

@@ -11,7 +11,7 @@ use Rattle.clover_words.specs.Tag.{home}
 use Rattle.clover_rule.specs.Content.{InRange, inside}
 use Rattle.clover_rule.specs.Lists.{Each, Within}
 use Rattle.clover_rule.specs.Memory.{Mem, link}
-use Rattle.clover_rule.specs.Parts.{Walk}
+use Rattle.clover_rule.specs.Chains.{Walk}
 use Rattle.clover_rule.specs.Words.{mem_of}
 use Rattle.clover_rule.proofs.Steps.{each_within}
 use Rattle.clover_walk.specs.Alone.{LeadsOver}

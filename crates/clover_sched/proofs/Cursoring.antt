@@ -10,7 +10,8 @@ use Rattle.clover_map.specs.declared.call.Entry.{Entry}
 use Rattle.clover_rule.specs.Knowing.{link_view}
 use Rattle.clover_rule.specs.Lists.{Within}
 use Rattle.clover_rule.specs.Memory.{Next, word, gen}
-use Rattle.clover_rule.specs.Steps.{Step, LoadNext, DecideNext, RaiseNext, LinkNext, StoreContent, FlushContent, LoadContent, ReadRoot, ReadShort, StoreShort, ReadCount, AbsentCount, learned, seen, started, decided, missed, counts, client, reply_of, rest_of}
+use Rattle.clover_rule.specs.Learned.{learned, looked, seen, started, decided, missed, counts, rest_of}
+use Rattle.clover_rule.specs.Steps.{Step, LoadNext, DecideNext, RaiseNext, LinkNext, ReadRoot, ReadShort, AbsentCount, ReadVersion, FlushLink, client, reply_of}
 use Rattle.clover_rule.specs.Words.{next_of, root_of}
 use Rattle.clover_rule.specs.declared.access.Act.TheVariants.{Load}
 use Rattle.clover_rule.specs.declared.view.View.{View}
@@ -34,6 +35,10 @@ durable_seen : (s t : ℕ) (v : View) (n : Next) → KnowsMore v (seen s t v n)
 durable_seen s t v (word a None) q h = h
 durable_seen s t v (word a (Some u)) q h = h
 
+durable_looked : (s r : ℕ) (v : View) (n : Next) → KnowsMore v (looked s r v n)
+durable_looked s r v (word a None) q h = h
+durable_looked s r v (word a (Some t)) q h = h
+
 durable_started : (s : ℕ) (v : View) (o : Option ℕ) → KnowsMore v (started s v o)
 durable_started s v None q h = h
 durable_started s v (Some t) q h = inr h
@@ -43,14 +48,12 @@ durable_learned (LoadNext s t) h v x = durable_seen s t v (next_of x)
 durable_learned (DecideNext s t c r) h v x = durable_choice (x == unlinked t) v (decided v h t c r) (seen s t v (next_of x)) (λ q i. i) (durable_seen s t v (next_of x))
 durable_learned (RaiseNext l) h v x = λ q i. inr i
 durable_learned (LinkNext s u t c) h v x = durable_choice (x == unlinked u) v (link_view v h (client v) s u t c (reply_of t c) (rest_of v.pass.stock)) (seen s u v (next_of x)) (λ q i. i) (durable_seen s u v (next_of x))
-durable_learned (StoreContent t j y) h v x = λ q i. i
-durable_learned (FlushContent t j y) h v x = λ q i. i
-durable_learned (LoadContent s t j) h v x = λ q i. i
 durable_learned (ReadRoot s) h v x = durable_started s v (root_of x)
 durable_learned (ReadShort s) h v x = durable_started s v (root_of x)
-durable_learned (StoreShort s t) h v x = λ q i. i
-durable_learned ReadCount h v x = λ q i. i
 durable_learned (AbsentCount c) h v x = durable_choice (x == length v.pass.names) v (missed v h c x) (counts v x) (λ q i. i) (λ q i. i)
+durable_learned (ReadVersion s r) h v x = durable_looked s r v (next_of x)
+durable_learned (FlushLink c) h v x = λ q i. inr i
+durable_learned a h v x = λ q i. i
 
 -- a client forgets nothing by an access
 pub knows_more : (i : ℕ) (p q : Plain) (a : Step) (b : Bool) (x : ℕ) → MadeSo i p q a b x → KnowsMore (view_at p i) (view_at q i)

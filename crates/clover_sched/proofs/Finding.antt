@@ -23,7 +23,7 @@ use Rattle.clover_rule.specs.History.{Version}
 use Rattle.clover_rule.specs.Lists.{Each, nth, Within}
 use Rattle.clover_rule.specs.Meets.{Meets}
 use Rattle.clover_rule.specs.Memory.{Mem, word, gen, link}
-use Rattle.clover_rule.specs.Parts.{Walk}
+use Rattle.clover_rule.specs.Chains.{Walk}
 use Rattle.clover_rule.specs.Story.{Story, Chained, Stocked, Durable, tag_at, tag_in_version}
 use Rattle.clover_rule.specs.Views.{Owned, ViewOk}
 use Rattle.clover_rule.specs.Words.{mem_of, next_code}

@@ -17,7 +17,8 @@ use Rattle.clover_rule.specs.Accesses.{CameBack, Decides}
 use Rattle.clover_rule.specs.Content.{InRange}
 use Rattle.clover_rule.specs.Knowing.{link_entry}
 use Rattle.clover_rule.specs.Lists.{Within}
-use Rattle.clover_rule.specs.Steps.{Step, DecideNext, act_of, found, turn_of, words_after_step, next_history, client, number_of}
+use Rattle.clover_rule.specs.Learned.{found, turn_of, words_after_step, next_history}
+use Rattle.clover_rule.specs.Steps.{Step, DecideNext, act_of, client, number_of}
 use Rattle.clover_rule.specs.declared.access.Act.{Act}
 use Rattle.clover_rule.specs.declared.view.View.{View}
 use Rattle.clover_rule.proofs.Tools.{length_snoc}

@@ -9,7 +9,9 @@ use Rattle.clover_map.specs.declared.call.Entry.{Entry}
 use Rattle.clover_map.specs.declared.call.Call.{Call}
 use Rattle.clover_rule.specs.Accesses.{CameBack, words_after_act}
 use Rattle.clover_rule.specs.History.{own as own_of}
-use Rattle.clover_rule.specs.Steps.{Step, LoadNext, DecideNext, RaiseNext, LinkNext, StoreContent, FlushContent, LoadContent, ReadRoot, ReadShort, StoreShort, ReadCount, AbsentCount, act_of, next_view, next_history, found, words_after_step, learned, seen, started, decided, missed, counts, client, reply_of, rest_of}
+use Rattle.clover_rule.specs.Learned.{next_view, next_history, found, words_after_step, learned, looked, seen, started, decided, missed, counts, rest_of}
+use Rattle.clover_rule.specs.Steps.{Step, LoadNext, DecideNext, LinkNext, ReadRoot, ReadShort, AbsentCount, ReadVersion, Operation, loads, stores, exchanges, raises, operation_of, act_on, act_of, word_of, client, reply_of}
+use Rattle.clover_words.specs.declared.word.Word.{Word}
 use Rattle.clover_rule.specs.Knowing.{link_view}
 use Rattle.clover_rule.specs.Views.{OwnCalls}
 use Rattle.clover_rule.specs.Words.{next_of, root_of}
@@ -19,7 +21,7 @@ use Rattle.clover_rule.specs.declared.access.Act.{Act}
 use Rattle.clover_rule.specs.declared.view.Role.{Role}
 use Rattle.clover_rule.specs.declared.view.Role.TheVariants.{Client as ClientRole}
 use Rattle.clover_rule.specs.declared.view.View.{View}
-use Rattle.clover_rule.proofs.Accessing.{access_law}
+use Rattle.clover_rule.proofs.Acting.{access_law}
 use Rattle.clover_port.specs.Told.{Open, Made}
 use Rattle.clover_walk.proofs.Endings.{stepped}
 use Rattle.clover_plain.specs.Plain.{Plain, Stepped, Accessed, KeptButEntries, outset, view_at, history, open_of, grown, access}
@@ -45,6 +47,10 @@ core_started : (s : ℕ) (v : View) (o : Option ℕ) → core (started s v o) �
 core_started s v None = refl
 core_started s v (Some t) = refl
 
+core_looked : (s r : ℕ) (v : View) (n : Next) → core (looked s r v n) ≡ core v
+core_looked s r v (word a None) = refl
+core_looked s r v (word a (Some t)) = refl
+
 core_choice : (k : Bool) (v w u : View) → core v ≡ core u → core w ≡ core u → core (cond k v w) ≡ core u
 core_choice true v w u e f = e
 core_choice false v w u e f = f
@@ -52,16 +58,12 @@ core_choice false v w u e f = f
 core_learned : (a : Step) (h : List Entry) (v : View) (x : ℕ) → core (learned a h v x) ≡ core v
 core_learned (LoadNext s t) h v x = core_seen s t v (next_of x)
 core_learned (DecideNext s t c r) h v x = core_choice (x == unlinked t) (decided v h t c r) (seen s t v (next_of x)) v refl (core_seen s t v (next_of x))
-core_learned (RaiseNext l) h v x = refl
 core_learned (LinkNext s u t c) h v x = core_choice (x == unlinked u) (link_view v h (client v) s u t c (reply_of t c) (rest_of v.pass.stock)) (seen s u v (next_of x)) v refl (core_seen s u v (next_of x))
-core_learned (StoreContent t j y) h v x = refl
-core_learned (FlushContent t j y) h v x = refl
-core_learned (LoadContent s t j) h v x = refl
 core_learned (ReadRoot s) h v x = core_started s v (root_of x)
 core_learned (ReadShort s) h v x = core_started s v (root_of x)
-core_learned (StoreShort s t) h v x = refl
-core_learned ReadCount h v x = refl
 core_learned (AbsentCount c) h v x = core_choice (x == length v.pass.names) (missed v h c x) (counts v x) v refl refl
+core_learned (ReadVersion s r) h v x = core_looked s r v (next_of x)
+core_learned a h v x = refl
 
 pub names_kept : (a : Step) (b : Bool) (h : List Entry) (v : View) (x : ℕ) → (next_view b a h v x).pass.names ≡ v.pass.names
 names_kept a b h v x = ap (λ (c : List (ℕ × List ℕ) × (List Act × ℕ)). c.0) (core_learned a h v x)
@@ -85,6 +87,10 @@ stock_started : (s : ℕ) (v : View) (o : Option ℕ) → (started s v o).pass.s
 stock_started s v None = refl
 stock_started s v (Some t) = refl
 
+stock_looked : (s r : ℕ) (v : View) (n : Next) → (looked s r v n).pass.stock ≡ v.pass.stock
+stock_looked s r v (word a None) = refl
+stock_looked s r v (word a (Some t)) = refl
+
 stock_choice : (k : Bool) (v w u : View) → v.pass.stock ≡ u.pass.stock → w.pass.stock ≡ u.pass.stock → (cond k v w).pass.stock ≡ u.pass.stock
 stock_choice true v w u e f = e
 stock_choice false v w u e f = f
@@ -92,16 +98,12 @@ stock_choice false v w u e f = f
 stock_learned : (a : Step) (h : List Entry) (v : View) (x : ℕ) → IsNoLink a → (learned a h v x).pass.stock ≡ v.pass.stock
 stock_learned (LoadNext s t) h v x n = stock_seen s t v (next_of x)
 stock_learned (DecideNext s t c r) h v x n = stock_choice (x == unlinked t) (decided v h t c r) (seen s t v (next_of x)) v refl (stock_seen s t v (next_of x))
-stock_learned (RaiseNext l) h v x n = refl
 stock_learned (LinkNext s u t c) h v x n = absurd n
-stock_learned (StoreContent t j y) h v x n = refl
-stock_learned (FlushContent t j y) h v x n = refl
-stock_learned (LoadContent s t j) h v x n = refl
 stock_learned (ReadRoot s) h v x n = stock_started s v (root_of x)
 stock_learned (ReadShort s) h v x n = stock_started s v (root_of x)
-stock_learned (StoreShort s t) h v x n = refl
-stock_learned ReadCount h v x n = refl
 stock_learned (AbsentCount c) h v x n = stock_choice (x == length v.pass.names) (missed v h c x) (counts v x) v refl refl
+stock_learned (ReadVersion s r) h v x n = stock_looked s r v (next_of x)
+stock_learned a h v x n = refl
 
 pub stock_kept : (a : Step) (b : Bool) (h : List Entry) (v : View) (x : ℕ) → IsNoLink a → (next_view b a h v x).pass.stock ≡ v.pass.stock
 stock_kept a b h v x n = stock_learned a h v x n
@@ -225,18 +227,13 @@ module _ (i : ℕ) (p q : Plain) (a : Step) (b : Bool) (x : ℕ) (few : p.made <
 
 -- a refused step has no number
 blank_act : (a : Step) → IsBlank (act_of a 0)
-blank_act (LoadNext s t) = refl
-blank_act (DecideNext s t c r) = refl
-blank_act (RaiseNext l) = refl
-blank_act (LinkNext s u t c) = refl
-blank_act (StoreContent t j y) = tt
-blank_act (FlushContent t j y) = tt
-blank_act (LoadContent s t j) = refl
-blank_act (ReadRoot s) = refl
-blank_act (ReadShort s) = refl
-blank_act (StoreShort s t) = tt
-blank_act ReadCount = refl
-blank_act (AbsentCount c) = refl
+blank_act a = by (operation_of a) (word_of a)
+  where
+    by : (o : Operation) (w : Word) → IsBlank (act_on o w 0)
+    by loads w = refl
+    by (stores side y) w = tt
+    by (exchanges expected new) w = refl
+    by (raises y) w = refl
 
 pub refused_so : (i : ℕ) (p q : Plain) → i < length p.views → view_at q i ≡ view_at p i → Accessed i true p q → RefusedSo i p q
 refused_so i p q below same (inl (a, b, x, s)) = absurd (no_both (view_at p i) (view_at q i) a b (history p) x (ap (λ (l : List View). get_or l i (outset q.setup)) s.views ∙ get_or-set_same p.views i _ (outset q.setup) below) same)

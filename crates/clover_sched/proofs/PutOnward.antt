@@ -7,7 +7,8 @@ use Rattle.clover_words.specs.Tag.{home}
 use Rattle.clover_words.specs.Version.{unlinked, content_at}
 use Rattle.clover_map.specs.declared.call.Entry.{Entry}
 use Rattle.clover_map.specs.declared.call.Reply.TheVariants.{Absent}
-use Rattle.clover_rule.specs.Steps.{LoadNext, DecideNext, act_of, next_view, next_history}
+use Rattle.clover_rule.specs.Learned.{next_view, next_history}
+use Rattle.clover_rule.specs.Steps.{LoadNext, DecideNext, act_of}
 use Rattle.clover_rule.specs.declared.access.Act.TheVariants.{Store}
 use Rattle.clover_rule.specs.declared.view.View.{View}
 use Rattle.clover_walk.specs.Walking.{Stand, AtShort as ToShort, AtRoot, AtTag, AtLink as OnLink, OnTail, Ended, goes_on, step_at}

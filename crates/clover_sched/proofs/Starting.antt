@@ -13,7 +13,8 @@ use Rattle.clover_map.specs.declared.call.Call.TheVariants.{Get as GetOf, Put as
 use Rattle.clover_script.specs.Lines.{takes}
 use Rattle.clover_rule.specs.Content.{InRange}
 use Rattle.clover_rule.specs.Lists.{Each}
-use Rattle.clover_rule.specs.Steps.{Step, turn_at, turn_of}
+use Rattle.clover_rule.specs.Learned.{turn_at, turn_of}
+use Rattle.clover_rule.specs.Steps.{Step}
 use Rattle.clover_rule.specs.Words.{mem_of}
 use Rattle.clover_rule.specs.declared.view.View.{View}
 use Rattle.clover_plain.specs.Preset.{tag_at}

@@ -13,12 +13,13 @@ use Rattle.clover_map.specs.declared.call.Reply.TheVariants.{Stored, Deleted, Fo
 use Rattle.clover_script.specs.declared.line.Task.{Task}
 use Rattle.clover_rule.specs.Accesses.{CameBack}
 use Rattle.clover_rule.specs.Rule.{longest}
-use Rattle.clover_rule.specs.Steps.{Step, act_of, next_history, reply_of}
+use Rattle.clover_rule.specs.Learned.{next_history}
+use Rattle.clover_rule.specs.Steps.{Step, act_of, reply_of}
 use Rattle.clover_rule.specs.declared.access.Access.{Access}
 use Rattle.clover_rule.specs.declared.access.Act.{Act}
 use Rattle.clover_rule.specs.declared.view.View.{View}
 use Rattle.clover_plain.specs.Plain.{Plain, Accessed, Kept, KeptButEntries, outset, view_at, history, access}
-use Rattle.clover_plain.proofs.Learned.{role_kept}
+use Rattle.clover_rule.proofs.Acting.{role_kept}
 use Rattle.clover_sched.specs.declared.client.ClientState.{ClientState}
 use Rattle.clover_sched.specs.declared.event.Note.{Note}
 use Rattle.clover_sched.specs.Alone.{EndsIn}

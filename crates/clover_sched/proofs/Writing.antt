@@ -19,7 +19,8 @@ use Rattle.clover_script.specs.declared.line.Task.TheVariants.{Client as ClientT
 use Rattle.clover_rule.specs.Accesses.{CameBack, Decides, wrote_link}
 use Rattle.clover_rule.specs.Content.{InRange}
 use Rattle.clover_rule.specs.Lists.{Within}
-use Rattle.clover_rule.specs.Steps.{Step, DecideNext, LinkNext, RaiseNext, StoreShort, act_of, found, turn_of, words_after_step, next_view, next_history, reply_of, client, number_of, rest_of, seen}
+use Rattle.clover_rule.specs.Learned.{found, turn_of, words_after_step, next_view, next_history, rest_of, seen}
+use Rattle.clover_rule.specs.Steps.{Step, DecideNext, LinkNext, RaiseNext, StoreShort, act_of, reply_of, client, number_of}
 use Rattle.clover_rule.specs.Words.{next_of}
 use Rattle.clover_rule.specs.Knowing.{link_entry, link_view}
 use Rattle.clover_rule.specs.declared.access.Act.{Act}
@@ -28,7 +29,7 @@ use Rattle.clover_rule.proofs.Steps.{within_last}
 use Rattle.clover_rule.proofs.Tools.{length_snoc}
 use Rattle.clover_port.specs.Told.{Open, Made}
 use Rattle.clover_plain.specs.Plain.{Plain, Accessed, KeptButEntries, view_at, history, open_of, access, outset}
-use Rattle.clover_plain.proofs.Learned.{role_kept}
+use Rattle.clover_rule.proofs.Acting.{role_kept}
 use Rattle.clover_cache.specs.Node.{Known, IsSet}
 use Rattle.clover_walk.specs.Ending.{Ended}
 use Rattle.clover_walk.specs.Walking.{key_at, budget}

@@ -8,7 +8,7 @@ use Rattle.clover_map.specs.declared.call.Call.{Call}
 use Rattle.clover_map.specs.declared.call.Call.TheVariants.{Get as GetCall, Put as PutCall, Delete as DeleteCall, Swap as SwapCall}
 use Rattle.clover_script.specs.declared.line.Task.TheVariants.{Client as ClientTask}
 use Rattle.clover_rule.specs.Lists.{Each, nth, Within}
-use Rattle.clover_rule.specs.Steps.{found, turn_of}
+use Rattle.clover_rule.specs.Learned.{found, turn_of}
 use Rattle.clover_rule.specs.Words.{mem_of}
 use Rattle.clover_rule.specs.declared.access.Access.{Access}
 use Rattle.clover_rule.specs.declared.view.View.{View}

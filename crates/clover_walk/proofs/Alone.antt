@@ -16,8 +16,9 @@ use Rattle.clover_map.specs.declared.bytes.Value.{Value}
 use Rattle.clover_rule.specs.Content.{content, inside, words_from, Fits, InRange}
 use Rattle.clover_rule.specs.Lists.{Each, nth}
 use Rattle.clover_rule.specs.Memory.{Mem, Next, word, gen, link}
-use Rattle.clover_rule.specs.Parts.{Walk}
-use Rattle.clover_rule.specs.Steps.{Step, LoadNext, RaiseNext, ReadRoot, ReadShort, word_of, side_of, becomes, found, words_after_step}
+use Rattle.clover_rule.specs.Chains.{Walk}
+use Rattle.clover_rule.specs.Learned.{found, words_after_step}
+use Rattle.clover_rule.specs.Steps.{Step, LoadNext, RaiseNext, ReadRoot, ReadShort, word_of, side_of, becomes}
 use Rattle.clover_rule.specs.Words.{next_of, mem_of}
 use Rattle.clover_rule.proofs.Keeping.{read_next, read_root, read_short}
 use Rattle.clover_rule.proofs.Spelling.{length_words}

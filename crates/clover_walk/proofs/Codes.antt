@@ -8,7 +8,7 @@ use Rattle.clover_words.specs.Next.{NextParts, IsLink, IsNext, next_word, root_w
 use Rattle.clover_words.specs.Version.{unlinked}
 use Rattle.clover_words.proofs.Versions.{age_tag}
 use Rattle.clover_rule.specs.Memory.{Next, word}
-use Rattle.clover_rule.specs.Steps.{turn_at}
+use Rattle.clover_rule.specs.Learned.{turn_at}
 use Rattle.clover_rule.specs.Told.{IsShown}
 use Rattle.clover_rule.specs.Words.{next_of, next_code, root_of}
 use Rattle.clover_rule.proofs.Codecs.{tag_option, next_of_word, tag_parts, parts_again, range_tag}

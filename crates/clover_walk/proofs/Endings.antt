@@ -13,7 +13,8 @@ use Rattle.clover_rule.specs.Knowing.{link_view}
 use Rattle.clover_rule.specs.Lists.{Within}
 use Rattle.clover_rule.specs.Memory.{Next, word}
 use Rattle.clover_words.specs.declared.word.Word.{Word}
-use Rattle.clover_rule.specs.Steps.{Step, number_of, LoadNext, DecideNext, RaiseNext, LinkNext, StoreContent, FlushContent, LoadContent, ReadRoot, ReadShort, StoreShort, ReadCount, AbsentCount, act_of, word_of, value_of, reply_of, rest_of, client, decided, seen, started, turn_at, turn_of, learned, counted}
+use Rattle.clover_rule.specs.Learned.{rest_of, decided, seen, started, turn_at, turn_of, learned, counted}
+use Rattle.clover_rule.specs.Steps.{Step, number_of, LoadNext, DecideNext, RaiseNext, LinkNext, LoadContent, ReadRoot, ReadShort, act_of, word_of, value_of, reply_of, client}
 use Rattle.clover_rule.specs.Told.{IsShown}
 use Rattle.clover_rule.specs.Words.{next_of, root_of}
 use Rattle.clover_rule.specs.declared.access.Act.{Act}
@@ -21,18 +22,11 @@ use Rattle.clover_rule.specs.declared.view.Link.{Link}
 use Rattle.clover_rule.specs.declared.view.Role.{Role}
 use Rattle.clover_rule.specs.declared.view.Role.TheVariants.{Client}
 use Rattle.clover_rule.specs.declared.view.View.{View}
+use Rattle.clover_rule.proofs.Acting.{learned_stays}
 use Rattle.clover_port.specs.Told.{Open, Made}
 use Rattle.clover_walk.specs.Walking.{Walking, Stand, OnTail, StandsOn, Holds, ShowsNext, key_at}
 
--- what every step of a client leaves of the actor's view as it was, the list of accesses and the turns before they are counted
-record Stays (v w : View) : Type 0 where
-  pub pool : w.pass.pool ≡ v.pass.pool
-  pub role : w.pass.role ≡ v.pass.role
-  pub names : w.pass.names ≡ v.pass.names
-  pub since : w.pass.since ≡ v.pass.since
-  pub turns : w.pass.turns ≡ v.pass.turns
-
--- what every step of a client says of the view after it
+-- what every step says of the view after it
 pub record Stepped (a : Step) (b : Bool) (x : ℕ) (v w : View) : Type 0 where
   pub pool : w.pass.pool ≡ v.pass.pool
   pub role : w.pass.role ≡ v.pass.role
@@ -61,35 +55,6 @@ IsPlain (DecideNext s t c r) x = x ≢ unlinked t
 IsPlain (LinkNext s u t c) x = x ≢ unlinked u
 IsPlain a x = ⊥
 
-stays_here : (v : View) → Stays v v
-stays_here v = record { pool = refl; role = refl; names = refl; since = refl; turns = refl }
-
-stays_either : (b : Bool) (v w w1 : View) → Stays v w → Stays v w1 → Stays v (cond b w w1)
-stays_either true v w w1 h h1 = h
-stays_either false v w w1 h h1 = h1
-
-seen_stays : (s t : ℕ) (v : View) (n : Next) → Stays v (seen s t v n)
-seen_stays s t v (word a None) = record { pool = refl; role = refl; names = refl; since = refl; turns = refl }
-seen_stays s t v (word a (Some u)) = record { pool = refl; role = refl; names = refl; since = refl; turns = refl }
-
-started_stays : (s : ℕ) (v : View) (o : Option ℕ) → Stays v (started s v o)
-started_stays s v None = stays_here v
-started_stays s v (Some t) = record { pool = refl; role = refl; names = refl; since = refl; turns = refl }
-
-learned_stays : (a : Step) (h : List Entry) (v : View) (x : ℕ) → Stays v (learned a h v x)
-learned_stays (LoadNext s t) h v x = seen_stays s t v (next_of x)
-learned_stays (DecideNext s t c r) h v x = stays_either (x == unlinked t) v _ _ (record { pool = refl; role = refl; names = refl; since = refl; turns = refl }) (seen_stays s t v (next_of x))
-learned_stays (RaiseNext l) h v x = record { pool = refl; role = refl; names = refl; since = refl; turns = refl }
-learned_stays (LinkNext s u t c) h v x = stays_either (x == unlinked u) v _ _ (record { pool = refl; role = refl; names = refl; since = refl; turns = refl }) (seen_stays s u v (next_of x))
-learned_stays (StoreContent t j y) h v x = record { pool = refl; role = refl; names = refl; since = refl; turns = refl }
-learned_stays (FlushContent t j y) h v x = record { pool = refl; role = refl; names = refl; since = refl; turns = refl }
-learned_stays (LoadContent s t j) h v x = record { pool = refl; role = refl; names = refl; since = refl; turns = refl }
-learned_stays (ReadRoot s) h v x = started_stays s v (root_of x)
-learned_stays (ReadShort s) h v x = started_stays s v (root_of x)
-learned_stays (StoreShort s t) h v x = stays_here v
-learned_stays ReadCount h v x = record { pool = refl; role = refl; names = refl; since = refl; turns = refl }
-learned_stays (AbsentCount c) h v x = stays_either (x == _) v _ _ (record { pool = refl; role = refl; names = refl; since = refl; turns = refl }) (record { pool = refl; role = refl; names = refl; since = refl; turns = refl })
-
 more_links : (b : Bool) (k : Link) (ls : List Link) (l : Link) → Within l ls → Within l (cond b (k ∷ ls) ls)
 more_links true k ls l h = inr h
 more_links false k ls l h = h
@@ -113,12 +78,7 @@ learned_keeps (ReadRoot s) h v x p = started_keeps s v (root_of x)
 learned_keeps (ReadShort s) h v x p = started_keeps s v (root_of x)
 learned_keeps (DecideNext s t c r) h v x p = keeps_second (x == unlinked t) v _ _ (ne_eqb x (unlinked t) p) (seen_keeps s t v (next_of x))
 learned_keeps (LinkNext s u t c) h v x p = keeps_second (x == unlinked u) v _ _ (ne_eqb x (unlinked u) p) (seen_keeps s u v (next_of x))
-learned_keeps (StoreContent t j y) h v x p = absurd p
-learned_keeps (FlushContent t j y) h v x p = absurd p
-learned_keeps (LoadContent s t j) h v x p = absurd p
-learned_keeps (StoreShort s t) h v x p = absurd p
-learned_keeps ReadCount h v x p = absurd p
-learned_keeps (AbsentCount c) h v x p = absurd p
+learned_keeps a h v x p = absurd p
 
 module _ (p : Pool) (a : Step) (b : Bool) (v : View) (before : Option Open) (x : ℕ) (w : View) (after : Option Open) (made : Made p a b v before x w after) where
   -- each access adds its act to those of the call, and its turn

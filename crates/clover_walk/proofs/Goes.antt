@@ -9,7 +9,9 @@ use Rattle.clover_words.specs.Version.{unlinked, buffer_at}
 use Rattle.clover_port.specs.Told.{Open, Made}
 use Rattle.clover_rule.specs.Lists.{Within}
 use Rattle.clover_rule.specs.Content.{InRange}
-use Rattle.clover_rule.specs.Steps.{Step, Asks, LoadNext, act_of, word_of, turn_of, turn_at, seen, started, counted, number_of}
+use Rattle.clover_rule.specs.Asks.{Asks}
+use Rattle.clover_rule.specs.Learned.{turn_of, turn_at, seen, started, counted}
+use Rattle.clover_rule.specs.Steps.{Step, LoadNext, act_of, word_of, number_of}
 use Rattle.clover_rule.specs.Told.{IsShown}
 use Rattle.clover_rule.specs.Words.{root_of, next_of}
 use Rattle.clover_rule.specs.declared.view.Role.{Role}

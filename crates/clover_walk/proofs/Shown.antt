@@ -4,7 +4,7 @@ use Rattle.std.specs.Prelude.{Option, Some, None}
 use Rattle.clover_words.specs.Tag.{TagParts, tag_number, age}
 use Rattle.clover_words.specs.Version.{unlinked}
 use Rattle.clover_rule.specs.Memory.{Next, word}
-use Rattle.clover_rule.specs.Steps.{turn_at}
+use Rattle.clover_rule.specs.Learned.{turn_at}
 use Rattle.clover_rule.specs.Words.{next_of}
 use Rattle.clover_rule.specs.declared.view.View.{View}
 use Rattle.clover_walk.specs.Walking.{Walking, AtShort, AtRoot, AtLink, OnTail, Ended, Shows, placed, turned, hops, followed, next_start, begins, budget}

@@ -13,8 +13,9 @@ use Rattle.clover_map.specs.declared.bytes.Value.{Value}
 use Rattle.clover_rule.specs.Content.{InRange, Fits, content}
 use Rattle.clover_rule.specs.Lists.{Each, nth}
 use Rattle.clover_rule.specs.Memory.{Mem, gen}
-use Rattle.clover_rule.specs.Parts.{Walk}
-use Rattle.clover_rule.specs.Steps.{Step, RaiseNext, found, words_after_step}
+use Rattle.clover_rule.specs.Chains.{Walk}
+use Rattle.clover_rule.specs.Learned.{found, words_after_step}
+use Rattle.clover_rule.specs.Steps.{Step, RaiseNext}
 use Rattle.clover_rule.specs.Words.{mem_of}
 use Rattle.clover_walk.specs.Walking.{Walking, AtTag, OnTail, IsOnWay, budget, made_walk, walk_step, goes_on}
 use Rattle.clover_walk.specs.declared.start.Start.{Start}

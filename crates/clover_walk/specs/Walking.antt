@@ -8,7 +8,8 @@ use Rattle.clover_words.specs.Version.{buffer_at}
 use Rattle.clover_rule.specs.Content.{InRange}
 use Rattle.clover_rule.specs.Lists.{Within}
 use Rattle.clover_rule.specs.Memory.{Next, word}
-use Rattle.clover_rule.specs.Steps.{Step, ReadShort, ReadRoot, LoadNext, RaiseNext, IsClient, turn_at}
+use Rattle.clover_rule.specs.Learned.{turn_at}
+use Rattle.clover_rule.specs.Steps.{Step, ReadShort, ReadRoot, LoadNext, RaiseNext, IsClient}
 use Rattle.clover_rule.specs.Told.{IsShown}
 use Rattle.clover_rule.specs.Words.{next_of, root_of}
 use Rattle.clover_rule.specs.declared.view.View.{View}

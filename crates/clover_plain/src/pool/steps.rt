@@ -1,7 +1,8 @@
 // One access of an actor: the word is read and written, the actor's seat gets its next view, and the access is
 // counted and listed.
 ghost use Rattle.std.specs.Prelude.{◌≡◌, ◌≤◌, ◌<◌, ◌+◌, ◌-◌, ◌&&◌, ℕ, Bool, true, false, length, Some, vec_len, vec_capacity};
-ghost use Rattle.clover_rule.specs.Steps.{Asks, act_of};
+ghost use Rattle.clover_rule.specs.Asks.{Asks};
+ghost use Rattle.clover_rule.specs.Steps.{act_of};
 ghost use Rattle.clover_rule.specs.Meant.{IsLoad, IsStore, IsExchange, IsRaise};
 ghost use Rattle.clover_port.specs.Told.{Made};
 ghost use Rattle.clover_plain.specs.Plain.{Stepped, Refused, view_at, open_of, counted};

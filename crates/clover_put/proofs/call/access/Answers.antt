@@ -1,5 +1,6 @@
 use Rattle.std.proofs.Common.{sym, subst}
-use Rattle.clover_rule.specs.Steps.{Step, Asks}
+use Rattle.clover_rule.specs.Asks.{Asks}
+use Rattle.clover_rule.specs.Steps.{Step}
 use Rattle.clover_put.proofs.Goes.{put_asks}
 use Rattle.clover_put.proofs.call.access.Goals as goal
 

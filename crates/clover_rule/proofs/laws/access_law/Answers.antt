@@ -1,5 +1,5 @@
 use Rattle.clover_rule.proofs.laws.access_law.Goals as goal
-use Rattle.clover_rule.proofs.Accessing as Accessing
+use Rattle.clover_rule.proofs.Acting as Acting
 
 pub returns : goal.returns
-returns c = Accessing.access_law
+returns c = Acting.access_law

@@ -1,13 +1,16 @@
 use Rattle.std.proofs.Common.{◌≡◌, ◌<◌, ℕ, length, Bool, true, false, ◌&&◌, refl, sym, ap, ◌∙◌, subst}
 use Rattle.std.specs.Prelude.{Some}
 use Rattle.clover_words.specs.declared.pool.Pool.{Pool}
-use Rattle.clover_rule.specs.Steps.{Step, Asks, words_after_step}
+use Rattle.clover_rule.specs.Asks.{Asks}
+use Rattle.clover_rule.specs.Learned.{words_after_step}
+use Rattle.clover_rule.specs.Steps.{Step}
 use Rattle.clover_rule.specs.declared.access.Act.{Act}
 use Rattle.clover_rule.specs.declared.access.Act.TheVariants.{Load}
 use Rattle.clover_port.specs.Told.{Made}
 use Rattle.clover_plain.specs.Kept.{meaning}
 use Rattle.clover_plain.specs.Plain.{Plain, Running, Stands, Stepped, grown, outset, open_of, view_at}
-use Rattle.clover_plain.proofs.Acting.{words_as, found_as, within_as, access_as}
+use Rattle.clover_rule.proofs.Acting.{words_as, found_as, within_as}
+use Rattle.clover_plain.proofs.Acting.{access_as}
 use Rattle.clover_plain.proofs.Stepping.{running, made, nth_default}
 use Rattle.clover_plain.proofs.pool.PlainPool.load.Goals as goal
 use Rattle.clover_plain.proofs.pool.PlainPool.load.Goals.{After-note}

@@ -1,5 +1,5 @@
 use Rattle.clover_rule.specs.Rule.{longest}
-use Rattle.clover_rule.specs.Steps.{next_view}
+use Rattle.clover_rule.specs.Learned.{next_view}
 use Rattle.clover_plain.specs.Kept.{views_of}
 use Rattle.clover_plain.proofs.pool.PlainPool.load.Given as goal
 

@@ -1,0 +1,70 @@
+-- What else each image of a cut has: a worn buffer is unlinked, and used tags are in the pool, below the wear and not above the image.
+use Rattle.std.proofs.Common.{◌≡◌, ℕ, suc, ◌<◌, ◌≤◌, ◌⊎◌, List, [], ◌∷◌, Bool, true, false, refl, sym, ap, ◌∙◌, inl, inr, ⊎_elim, arith, subst}
+use Rattle.std.specs.Prelude.{Option, Some, None}
+use Rattle.std.proofs.lemmas.Option.{same_Some}
+use Rattle.clover_words.specs.declared.pool.Pool.{Pool}
+use Rattle.clover_words.specs.Tag.{home, age}
+use Rattle.clover_map.specs.declared.call.Entry.{Entry}
+use Rattle.clover_rule.specs.Content.{inside}
+use Rattle.clover_rule.specs.History.{Map, used_by}
+use Rattle.clover_rule.specs.Image.{Image, IsImage}
+use Rattle.clover_rule.specs.Lists.{Each}
+use Rattle.clover_rule.specs.Memory.{Mem, Next, word, gen, link}
+use Rattle.clover_rule.specs.Server.{AtStage, Stage, holding, Whole}
+use Rattle.clover_rule.specs.Story.{Place, Chained, Stocked, Free, Worn, Taken, Loose, Story, Core}
+use Rattle.clover_rule.specs.Views.{Spent}
+use Rattle.clover_rule.specs.declared.view.Task.{Task}
+use Rattle.clover_rule.specs.declared.view.Task.TheVariants.{Idle, Storing, Rooted, Waiting, Loaded, Raised, Led, Both, Exchanged}
+use Rattle.clover_rule.specs.declared.view.View.{View}
+use Rattle.clover_rule.proofs.Restarts.{cut_used}
+
+each_pair : {A : Type 0} (P Q R : A → Type 0) (xs : List A) → ((x : A) → P x → Q x → R x) → Each P xs → Each Q xs → Each R xs
+each_pair P Q R [] f a b = tt
+each_pair P Q R (x ∷ xs) f a b = (f x a.0 b.0, each_pair P Q R xs f a.1 b.1)
+
+module _ (l : Pool) (m0 : Map) (used : List ℕ) (m : Mem) (vs : List View) (st : Story) (h : List Entry) (w : Whole l m0 used m vs st h) where
+  abbrev c : Core m st
+  c = w.basis.core
+
+  -- neither copy of a next word is at the wear and linked
+  abbrev AtRest : Next → Type 0
+  AtRest x = gen x ≡ l.wear → link x ≡ None
+
+  at_place : (b : ℕ) (q : Place) → st.place b ≡ q → AtRest (m.next b) × AtRest (m.fnext b)
+  at_place b (Chained s) e =
+      let a = c.chained b s e in let x = c.standing s a.0 a.1 a.2 a.3 in let y = (w.help.ranged.tags s a.0 a.1 a.2).1 in
+      let g : gen (m.next b) ≡ age a.1 = ap gen (ap m.next (sym a.4) ∙ x.now) in
+      let f : gen (m.fnext b) ≡ age a.1 = ap gen (ap m.fnext (sym a.4) ∙ x.safe) in
+      (λ z. absurd (omega arith), λ z. absurd (omega arith))
+  at_place b (Stocked i) e = let o = c.loose b (subst Loose (sym e) tt) in (λ z. o.0, λ z. ap link o.1 ∙ o.0)
+  at_place b Free e = let o = c.loose b (subst Loose (sym e) tt) in (λ z. o.0, λ z. ap link o.1 ∙ o.0)
+  at_place b Worn e = let o = c.loose b (subst Loose (sym e) tt) in (λ z. o.0, λ z. ap link o.1 ∙ o.0)
+  at_place b Taken e = held st.task w.help.stage
+    where
+      held : (T : Task) → Stage l m st T → AtRest (m.next b) × AtRest (m.fnext b)
+      held T g = by T (g.holds b e) g.here
+        where
+          by : (T : Task) → holding T ≡ Some b → AtStage l m st T → AtRest (m.next b) × AtRest (m.fnext b)
+          by (Storing bind n) z a = let q = same_Some (home bind.tag) b z in (λ u. ap link (ap m.next (sym q) ∙ a.now), λ u. ap link (ap m.fnext (sym q) ∙ a.safe))
+          by (Exchanged cycle) z a = let q = same_Some (home cycle.root) b z in let g : gen (m.fnext b) ≡ age cycle.root = ap gen (ap m.fnext (sym q) ∙ a.safe) in let d = a.young in (λ u. ap link (ap m.next (sym q) ∙ a.now), λ u. absurd (omega arith))
+          by Idle z a = absurd cc
+          by (Rooted bind) z a = absurd cc
+          by (Waiting bind) z a = absurd cc
+          by (Loaded cycle) z a = absurd cc
+          by (Raised cycle) z a = absurd cc
+          by (Led cycle) z a = absurd cc
+          by (Both cycle) z a = absurd cc
+
+  module _ (outside : (b : ℕ) → inside l b ≡ false → m.next b ≡ word 0 None) (im : Image) (is : IsImage m im) where
+    pub cut_rested : (b : ℕ) → gen (im.next b) ≡ l.wear → link (im.next b) ≡ None
+    cut_rested b e = let r = at_place b (st.place b) refl in ⊎_elim (λ q. ap link q ∙ r.0 (sym (ap gen q) ∙ e)) (λ q. ap link q ∙ r.1 (sym (ap gen q) ∙ e)) (is.next b)
+
+    in_pool : (t : ℕ) → Spent m st t → inside l (home t) ≡ true
+    in_pool t s = go (inside l (home t)) refl
+      where
+        go : (x : Bool) → inside l (home t) ≡ x → inside l (home t) ≡ true
+        go true e = e
+        go false e = ⊎_elim (λ a. absurd (let z = ap gen (outside (home t) e) in omega arith)) (λ a. let d = c.chained (home t) a.0 a.1 in ap (inside l) (sym d.4) ∙ (w.help.ranged.tags a.0 d.0 d.1 d.2).0) s
+
+    pub cut_ages : Each (λ (t : ℕ). (inside l (home t) ≡ true) × (age t < l.wear) × (age t ≤ gen (im.next (home t)))) (used_by used h)
+    cut_ages = each_pair (Spent m st) _ _ (used_by used h) (λ t s a. (in_pool t s, a.0, a.1)) w.basis.spent (cut_used l m0 used m vs st h w im is)
