@@ -68,6 +68,13 @@ impl<W: Write + Drop> StdSink<W> {
     {
         StdSink { writer, faults: 0 }
     }
+
+    /// The writer.
+    pub fn writer(&self) -> &W
+        ensures { result.now ≡ self.now.inner }
+    {
+        &self.writer
+    }
 }
 
 impl<W: Write + Drop> Sink for StdSink<W> {

@@ -5,7 +5,11 @@
 #[cfg(test)]
 mod costs;
 #[cfg(test)]
+mod edge;
+#[cfg(test)]
 mod faults;
+#[cfg(test)]
+mod long;
 #[cfg(test)]
 mod orders;
 #[cfg(test)]

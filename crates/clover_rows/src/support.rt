@@ -23,6 +23,15 @@ pub(crate) fn numbers(alloc: Global, numbers: &[u64]) -> Result<NumberList, Fail
     Ok(list)
 }
 
+/// A list of these words.
+pub(crate) fn words_of(alloc: Global, words: &[&str]) -> Result<Vec<String>, Fail> {
+    let mut owned = Vec::new(alloc);
+    for word in words {
+        owned.push(String::from_str(alloc, word)?)?;
+    }
+    Ok(owned)
+}
+
 /// Runs the command of these words over a text, whose calls of these numbers fail, into a sink with
 /// this room, whose calls of these numbers fail. Answers the status and the sink.
 pub fn run(
@@ -33,10 +42,7 @@ pub fn run(
     room: usize,
     failing_puts: &[u64],
 ) -> Result<(u8, MemorySink), Fail> {
-    let mut owned = Vec::new(alloc);
-    for word in words {
-        owned.push(String::from_str(alloc, word)?)?;
-    }
+    let owned = words_of(alloc, words)?;
     let mut source = MemorySource::make(text, numbers(alloc, failing_takes)?);
     let mut sink = MemorySink::make(alloc, room, numbers(alloc, failing_puts)?)?;
     let status = clover(alloc, &owned, &mut source, &mut sink);

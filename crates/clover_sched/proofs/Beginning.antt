@@ -129,7 +129,7 @@ module _ (o : Opening) (p : Plain) (i slot : ℕ) (x : ClientState) (idle : x.un
         )
 
   module _ (u : Underway) (k : Known) (asks : k ≡ asked slot x.cursors) (call : Call) (written : ℕ) (is : IsUnder o.setup.pool v u) (new : (d : Doing) → UnderMatches u v (record { task = Some (ClientTask call written); decided = None; since = []; refusing = d.refusing; taken = d.taken }))
-      (more : spent_by u x.taken ≤ x.taken + takes call) (fits : written ≤ room o.setup) (first : Starts o (suc i) x.taken x.cursors call u) where
+      (more : spent_by u x.taken ≤ x.taken + takes call) (fits : written ≤ room o.setup) (named : Within (slot, key_of call) o.names) (first : Starts o (suc i) x.taken x.cursors call u) where
     going : Begins o p i x (after u k) (ClientTask call written) Quiet
     going = record {
       stands = record {
@@ -150,7 +150,8 @@ module _ (o : Opening) (p : Plain) (i slot : ℕ) (x : ClientState) (idle : x.un
       matches = λ d m. record { refusing = m.refusing; under = new d; taken = taken d m };
       spent = subst (λ (z : Underway). spent_by u x.taken ≤ spent_by z x.taken + takes call) (sym idle) more;
       starts = λ q. first;
-      asks = inr (slot, asks);
+      asks = λ q. (slot, named, asks);
+      away = λ not. absurd (not refl);
     }
       where
         -- a call that has just begun has committed nothing
@@ -173,24 +174,24 @@ module _ (o : Opening) (p : Plain) (i slot : ℕ) (x : ClientState) (idle : x.un
         says d none = sym (ap (λ (t : Option Task). begin_note o.setup (record d { task = t }) (suc i) (ClientTask call written)) none ∙ ap (λ (b : Bool). if b then Missing (suc i) else (if ltb (room o.setup) written then Refused (suc i) (TooLong written (room o.setup)) else Quiet)) there ∙ ap (λ (b : Bool). if b then Refused (suc i) (TooLong written (room o.setup)) else Quiet) short)
 
   module _ (k : Known) (asks : k ≡ asked slot x.cursors) where
-    begins_write : (j : Job) (value : Value) (call : Call) (written : ℕ) → IsUnder o.setup.pool v (begun_put o.setup slot known (suc i) x.taken j value call) → takes call ≡ 1 → written ≤ room o.setup → Starts o (suc i) x.taken x.cursors call (begun_put o.setup slot known (suc i) x.taken j value call)
+    begins_write : (j : Job) (value : Value) (call : Call) (written : ℕ) → IsUnder o.setup.pool v (begun_put o.setup slot known (suc i) x.taken j value call) → takes call ≡ 1 → written ≤ room o.setup → Within (slot, key_of call) o.names → Starts o (suc i) x.taken x.cursors call (begun_put o.setup slot known (suc i) x.taken j value call)
         → Begins o p i x (after (begun_put o.setup slot known (suc i) x.taken j value call) k) (ClientTask call written) Quiet
-    begins_write j value call written h one fits first = going (begun_put o.setup slot known (suc i) x.taken j value call) k asks call written h (λ d. ((written, refl), refl, nothing_since)) (omega arith) fits first
+    begins_write j value call written h one fits named first = going (begun_put o.setup slot known (suc i) x.taken j value call) k asks call written h (λ d. ((written, refl), refl, nothing_since)) (omega arith) fits named first
 
     begins : (call : Call) (written : ℕ) (u : Underway) → Within (slot, key_of call) o.names → key_at o.names slot ≡ key_of call → IsBegun o.setup slot known (suc i) x.taken call u → (takes call ≡ 1 → HasDealt o.setup (suc i) x.taken) → written ≤ room o.setup → size_of call ≤ room o.setup
         → Begins o p i x (after u k) (ClientTask call written) Quiet
     begins (GetOf key) written u named is b stock fits size =
         subst (λ (z : Underway). Begins o p i x (after z k) (ClientTask (GetOf key) written) Quiet) (sym b.1)
-        (going (Get (getting walk Seeking) b.0 (GetOf key)) k asks (GetOf key) written (get_under (GetOf key) named is b.0 refl) (λ d. ((written, refl), refl, nothing_since)) (omega arith) fits (record { slot = slot; named = named; begun = (b.0, refl); fits = size; dealt = stock }))
+        (going (Get (getting walk Seeking) b.0 (GetOf key)) k asks (GetOf key) written (get_under (GetOf key) named is b.0 refl) (λ d. ((written, refl), refl, nothing_since)) (omega arith) fits named (record { slot = slot; named = named; begun = (b.0, refl); fits = size; dealt = stock }))
     begins (PutOf key value) written u named is b stock fits size =
         subst (λ (z : Underway). Begins o p i x (after z k) (ClientTask (PutOf key value) written) Quiet) (sym b)
-        (begins_write Put value (PutOf key value) written (put_under (PutOf key value) named is Put value (stock refl) refl) refl fits (record { slot = slot; named = named; begun = refl; fits = size; dealt = stock }))
+        (begins_write Put value (PutOf key value) written (put_under (PutOf key value) named is Put value (stock refl) refl) refl fits named (record { slot = slot; named = named; begun = refl; fits = size; dealt = stock }))
     begins (DeleteOf key) written u named is b stock fits size =
         subst (λ (z : Underway). Begins o p i x (after z k) (ClientTask (DeleteOf key) written) Quiet) (sym b)
-        (begins_write Delete no_value (DeleteOf key) written (put_under (DeleteOf key) named is Delete no_value (stock refl) refl) refl fits (record { slot = slot; named = named; begun = refl; fits = size; dealt = stock }))
+        (begins_write Delete no_value (DeleteOf key) written (put_under (DeleteOf key) named is Delete no_value (stock refl) refl) refl fits named (record { slot = slot; named = named; begun = refl; fits = size; dealt = stock }))
     begins (SwapOf key expected value) written u named is b stock fits size =
         subst (λ (z : Underway). Begins o p i x (after z k) (ClientTask (SwapOf key expected value) written) Quiet) (sym b.2)
-        (begins_write (Swap b.0) value (SwapOf key expected value) written (put_under (SwapOf key expected value) named is (Swap b.0) value (stock refl) (ap (λ (t : ℕ). SwapOf key t value) (sym b.1))) refl fits (record { slot = slot; named = named; begun = (b.0, b.1, refl); fits = size; dealt = stock }))
+        (begins_write (Swap b.0) value (SwapOf key expected value) written (put_under (SwapOf key expected value) named is (Swap b.0) value (stock refl) (ap (λ (t : ℕ). SwapOf key t value) (sym b.1))) refl fits named (record { slot = slot; named = named; begun = (b.0, b.1, refl); fits = size; dealt = stock }))
 
 -- what is kept of a value is no longer than what was written of it
 task_size : (s : Setup) (call : Call) (written : ℕ) → IsTask (ClientTask call written) → written ≤ room s → size_of call ≤ room s

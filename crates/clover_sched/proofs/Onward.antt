@@ -263,11 +263,17 @@ module _ (o : Opening) (m : Parts) (rs : List Record) (at : IsAt o m rs) where
       let own = asked_own (suc i) rs (still (Begin (suc i) t) note) t refl in
       let few = was.spent in
       let more = b.spent in
-      changed i x y (Begin (suc i) t) note here refl (refl, refl, b.says (doing (suc i) rs) (idle_task i x here idle)) b.stands (b.matches (doing (suc i) rs) was.matches) (omega arith) (remembers b.asks) (goes note refl) (opened i x y t note here b running)
+      changed i x y (Begin (suc i) t) note here refl (refl, refl, b.says (doing (suc i) rs) (idle_task i x here idle)) b.stands (b.matches (doing (suc i) rs) was.matches) (omega arith) (remembers note refl) (goes note refl) (opened i x y t note here b running)
     where
-      remembers : (y.cursors ≡ x.cursors) ⊎ ((s : ℕ) × (y.cursors ≡ asked_for s x.cursors)) → Remembers o.names y.cursors (ended (suc i) rs)
-      remembers (inl same) = subst (λ (k : Known). Remembers o.names k (ended (suc i) rs)) (sym same) (at.each i x here).cursors
-      remembers (inr (s, is)) = subst (λ (k : Known). Remembers o.names k (ended (suc i) rs)) (sym is) (remembers_asked o.names s x.cursors (ended (suc i) rs) (at.each i x here).cursors)
+      same : y.cursors ≡ x.cursors → Remembers o.names y.cursors (ended (suc i) rs)
+      same e = subst (λ (k : Known). Remembers o.names k (ended (suc i) rs)) (sym e) (at.each i x here).cursors
+
+      remembers : (k : Note) → note ≡ k → Remembers o.names y.cursors (ended (suc i) rs)
+      remembers Quiet is = let s = b.asks is in subst (λ (k : Known). Remembers o.names k (ended (suc i) rs)) (sym s.2) (remembers_asked o.names s.0 x.cursors (ended (suc i) rs) (at.each i x here).cursors)
+      remembers (Answered c r) is = same (b.away (λ q. let e : Answered c r ≡ Quiet = sym is ∙ q in cc))
+      remembers (Refused c r) is = same (b.away (λ q. let e : Refused c r ≡ Quiet = sym is ∙ q in cc))
+      remembers (Busy c) is = same (b.away (λ q. let e : Busy c ≡ Quiet = sym is ∙ q in cc))
+      remembers (Missing c) is = same (b.away (λ q. let e : Missing c ≡ Quiet = sym is ∙ q in cc))
 
       d : Doing
       d = doing (suc i) rs

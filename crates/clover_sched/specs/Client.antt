@@ -200,8 +200,9 @@ pub record Begins (o : Opening) (p : Plain) (i : ℕ) (x y : ClientState) (t : T
   pub matches : (d : Doing) → Matches x (view_at p i) d → Matches y (view_at p i) (begun d t note)
   pub spent : spent y ≤ spent x + takes (call_in t)
   pub starts : note ≡ Quiet → Starts o (suc i) x.taken x.cursors (call_in t) y.under
-  -- it may have looked up a slot's cursor
-  pub asks : (y.cursors ≡ x.cursors) ⊎ ((s : ℕ) × (y.cursors ≡ asked s x.cursors))
+  -- it looked up the cursor of its key's slot, and where it began nothing none
+  pub asks : note ≡ Quiet → (s : ℕ) × Within (s, key_of (call_in t)) o.names × (y.cursors ≡ asked s x.cursors)
+  pub away : (note ≡ Quiet → ⊥) → y.cursors ≡ x.cursors
 
 -- the number of an expected tag is one
 abbrev pub ExpectsTag : Call → Type 0
