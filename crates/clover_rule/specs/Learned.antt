@@ -14,11 +14,10 @@ use Rattle.clover_rule.specs.Changes.{greatest}
 use Rattle.clover_rule.specs.Knowing.{link_entry, link_view, stored_view, flushed_view}
 use Rattle.clover_rule.specs.Memory.{Next, word}
 use Rattle.clover_rule.specs.Steps.{Step, LoadNext, DecideNext, RaiseNext, LinkNext, StoreContent, FlushContent, LoadContent, ReadRoot, ReadShort, StoreShort, ReadCount, AbsentCount, ReadVersion, FlushLink, StoreRoot, FlushRoot, PassRoot, FreeRoot, StoreTombstone, FlushTombstone, StoreKey, FlushKey, BindRoot, FlushBoundRoot, StoreCount, Restart, word_of, side_of, becomes, act_of, client, reply_of}
-use Rattle.clover_rule.specs.Views.{raise_view, shown, line}
+use Rattle.clover_rule.specs.Views.{raise_view, shown, line, free_or_worn}
 use Rattle.clover_rule.specs.Words.{next_of, root_of}
 use Rattle.clover_rule.specs.declared.access.Act.{Act}
-use Rattle.clover_rule.specs.declared.view.BufferState.{BufferState}
-use Rattle.clover_rule.specs.declared.view.BufferState.TheVariants.{Free, Worn, Bound, Out}
+use Rattle.clover_rule.specs.declared.view.BufferState.TheVariants.{Bound, Out}
 use Rattle.clover_rule.specs.declared.view.NewBinding.{NewBinding}
 use Rattle.clover_rule.specs.declared.view.Recycling.{Recycling}
 use Rattle.clover_rule.specs.declared.view.Task.{Task}
@@ -64,10 +63,6 @@ link_flushed v c = at_task (record v { pass = record v.pass { durable = (c.slot,
 -- the old root version's buffer went on to its next generation
 abbrev pub root_passed : View → Recycling → View
 root_passed v c = at_task (record v { pass = record v.pass { words = shown (home c.root) (suc (age c.root)) None ∷ v.pass.words } }) (Exchanged c)
-
--- a buffer at this generation may serve again, or has served all
-abbrev pub free_or_worn : ℕ → ℕ → BufferState
-free_or_worn wear g = cond (eqb g wear) Worn Free
 
 -- a recycling has ended: books and roots have the new root version, and the old one's buffer is free or worn
 abbrev pub root_freed : ℕ → View → Recycling → View

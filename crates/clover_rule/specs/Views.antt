@@ -10,7 +10,7 @@ use Rattle.clover_rule.specs.Memory.{Mem, Next, word, gen, link}
 use Rattle.clover_rule.specs.Story.{Place, Chained, Stocked, Story, tag_at, Core, Tale, Durable}
 use Rattle.clover_rule.specs.declared.view.BookLine.{BookLine}
 use Rattle.clover_rule.specs.declared.view.BufferState.{BufferState}
-use Rattle.clover_rule.specs.declared.view.BufferState.TheVariants.{Out as IsOut}
+use Rattle.clover_rule.specs.declared.view.BufferState.TheVariants.{Free as IsFree, Worn as IsWorn}
 use Rattle.clover_rule.specs.declared.view.Content.{Content}
 use Rattle.clover_rule.specs.declared.view.Link.{Link}
 use Rattle.clover_rule.specs.declared.view.Pass.{Pass}
@@ -26,9 +26,13 @@ use Rattle.clover_map.specs.Tagged.{Tagged}
 pub data Book : Type 0 where
   book : ℕ → BufferState → Book
 
--- what the books say of a buffer
+-- a buffer at this generation may serve again, or has served all
+abbrev pub free_or_worn : ℕ → ℕ → BufferState
+free_or_worn wear g = cond (eqb g wear) IsWorn IsFree
+
+-- what the books say of a buffer: one that no line names is free at generation 0
 abbrev pub find_book : List BookLine → ℕ → Book
-find_book [] b = book 0 IsOut
+find_book [] b = book 0 IsFree
 find_book (x ∷ xs) b = cond (eqb x.buffer b) (book x.generation x.state) (find_book xs b)
 
 abbrev pub line : ℕ → ℕ → BufferState → BookLine
