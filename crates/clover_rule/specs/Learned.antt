@@ -29,12 +29,14 @@ abbrev pub seen : ℕ → ℕ → View → Next → View
 seen s t v (word a None) = record v { pass = record v.pass { words = shown (home t) a None ∷ v.pass.words } }
 seen s t v (word a (Some u)) = record v { pass = record v.pass { words = shown (home t) a (Some u) ∷ v.pass.words; links = cond (eqb a (age t)) (record { slot = s; from = t; to = u } ∷ v.pass.links) v.pass.links } }
 
+-- a call that the tail decided, and a count that was loaded
 abbrev pub decided : View → List Entry → ℕ → Call → Reply → View
 decided v h t c r = record v { pass = record v.pass { calls = v.pass.calls ++ link_entry v (client v) c r ∷ []; history = h ++ link_entry v (client v) c r ∷ []; words = shown (home t) (age t) None ∷ v.pass.words } }
 
 abbrev pub counts : View → ℕ → View
 counts v x = record v { pass = record v.pass { most = greatest v.pass.most x } }
 
+-- a call that the count decided
 abbrev pub missed : View → List Entry → Call → ℕ → View
 missed v h c x = record v { pass = record v.pass { calls = v.pass.calls ++ link_entry v (client v) c Absent ∷ []; history = h ++ link_entry v (client v) c Absent ∷ []; most = greatest v.pass.most x } }
 
@@ -43,6 +45,7 @@ abbrev pub started : ℕ → View → Option ℕ → View
 started s v None = v
 started s v (Some t) = record v { pass = record v.pass { durable = (s, t) ∷ v.pass.durable } }
 
+-- a list without its first element
 abbrev pub rest_of : {A : Type 0} → List A → List A
 rest_of [] = []
 rest_of (x ∷ xs) = xs
@@ -126,6 +129,7 @@ next_history _ h v x = h
 abbrev pub turn_at : ℕ → ℕ → ℕ
 turn_at t x = cond (x == unlinked t) 0 1
 
+-- the turns of a step
 abbrev pub turn_of : Step → ℕ → ℕ
 turn_of (LoadNext s t) x = turn_at t x
 turn_of (DecideNext s t c r) x = turn_at t x
