@@ -13,7 +13,7 @@ use Rattle.clover_rule.specs.Image.{Image, IsImage, Chain, is_none, leads_to, mi
 use Rattle.clover_rule.specs.Lists.{Each, nth}
 use Rattle.clover_rule.specs.Memory.{gen, link, Mem}
 use Rattle.clover_rule.specs.Story.{Story, tag_in_version, tag_at, only, Core, Tale, unsure, Durable}
-use Rattle.clover_rule.proofs.Tools.{nth_within, nth_none}
+use Rattle.clover_rule.proofs.Tools.{nth_some, nth_within, nth_none}
 use Rattle.clover_rule.proofs.Histories.{kept_legal, unread_last, leads_commits, ends_more}
 use Rattle.clover_rule.proofs.Standings.{tag_there, only_none}
 
@@ -100,11 +100,6 @@ pub ends_drop : (x y : Option Held) (p : ℕ) (ws : List Version) → p < length
 ends_drop x y zero ws h = ends_some x y ws h
 ends_drop x y (suc p) [] h = absurd (omega arith)
 ends_drop x y (suc p) (w ∷ ws) h = ends_drop x (pair_of w) p ws (omega arith)
-
-nth_some : (ws : List Version) (i : ℕ) → i < length ws → (w : Version) × (nth ws i ≡ Some w)
-nth_some [] i h = absurd (omega arith)
-nth_some (w ∷ ws) zero h = (w, refl)
-nth_some (w ∷ ws) (suc i) h = nth_some ws i (omega arith)
 
 dead_pair : (w : Version) → w.value ≡ None → pair_of w ≡ None
 dead_pair w e = rw e refl

@@ -13,9 +13,9 @@ use Rattle.clover_rule.specs.History.{Map}
 use Rattle.clover_rule.specs.Lists.{nth, upd}
 use Rattle.clover_rule.specs.Memory.{Next, word, gen, Mem, greater, order}
 use Rattle.clover_rule.specs.Server.{Ready, Stage, Help, or_else, root_in, is_home, book_of, Serves, Whole}
-use Rattle.clover_rule.specs.Learned.{root_passed, root_freed, free_or_worn}
+use Rattle.clover_rule.specs.Learned.{root_passed, root_freed}
 use Rattle.clover_rule.specs.Story.{Place, Chained, Stocked, Free, Worn, Taken, Story, tag_at, Core, Standing, only}
-use Rattle.clover_rule.specs.Views.{Past, Book, book, Basis, renewed, book_at, root_at}
+use Rattle.clover_rule.specs.Views.{free_or_worn, Past, Book, book, Basis, renewed, book_at, root_at}
 use Rattle.clover_rule.specs.declared.view.BufferState.TheVariants.{Free as IsFree, Worn as IsWorn, Bound as IsBound, Out as IsOut}
 use Rattle.clover_rule.specs.declared.view.Recycling.{Recycling}
 use Rattle.clover_rule.specs.declared.view.Role.TheVariants.{Serving}

@@ -11,7 +11,8 @@ use Rattle.clover_rule.specs.Lists.{Each, nth, upd, Within}
 use Rattle.clover_rule.specs.Memory.{gen, Mem}
 use Rattle.clover_rule.specs.Server.{Ready, AtStage, Help, Serves, Whole}
 use Rattle.clover_rule.specs.Story.{Place, Chained, Stocked, Free, Worn, Taken, Loose, Story, Core}
-use Rattle.clover_rule.specs.Views.{alone, empty_pass, Owned, ViewOk, Spent, Numbered, handed}
+use Rattle.clover_rule.specs.Views.{Owned, ViewOk, Spent, Numbered, handed}
+use Rattle.clover_rule.specs.Moves.{making, client_of}
 use Rattle.clover_rule.specs.declared.view.Role.TheVariants.{Client, Serving}
 use Rattle.clover_rule.specs.declared.view.Task.{Task}
 use Rattle.clover_rule.specs.declared.view.Task.TheVariants.{Idle, Storing, Rooted, Waiting, Loaded, Raised, Led, Both, Exchanged}
@@ -132,11 +133,11 @@ module _ (l : Pool) (m0 : Map) (used : List ℕ) (m : Mem) (vs : List View) (st 
 
 -- the server splits off a new client's pass: the batch is empty
 module _ (l : Pool) (m0 : Map) (used : List ℕ) (m : Mem) (vs : List View) (st : Story) (h : List Entry) (w : Whole l m0 used m vs st h) (id : ℕ) (v : View) (at : nth vs id ≡ Some v) (role : v.pass.role ≡ Serving) (n : ℕ) (fresh : Within n v.server.clients → ⊥) where
-  abbrev pub pass_view : View
-  pass_view = alone (empty_pass v.pass (Client n))
+  abbrev pass_view : View
+  pass_view = client_of n v
 
-  abbrev pub making_view : View
-  making_view = record v { server = record v.server { clients = n ∷ v.server.clients; unlinked = [] } }
+  abbrev making_view : View
+  making_view = making n v
 
   abbrev pub views_then : List View
   views_then = set vs id making_view ++ pass_view ∷ []

@@ -9,7 +9,8 @@ use Rattle.clover_rule.specs.Lists.{Each, nth, Within, IsPrefix}
 use Rattle.clover_rule.specs.Memory.{gen, Mem}
 use Rattle.clover_rule.specs.Server.{book_of, Serves, Whole}
 use Rattle.clover_rule.specs.Story.{Place, Stocked, Story}
-use Rattle.clover_rule.specs.Views.{alone, empty_pass, Owned, Apart, ViewOk, handed}
+use Rattle.clover_rule.specs.Views.{Owned, Apart, ViewOk, handed}
+use Rattle.clover_rule.specs.Moves.{accepted, spent}
 use Rattle.clover_rule.specs.declared.view.Role.TheVariants.{Client, Granting, Joined}
 use Rattle.clover_rule.specs.declared.view.Server.{Server}
 use Rattle.clover_rule.specs.declared.view.View.{View}
@@ -21,11 +22,11 @@ use Rattle.clover_rule.proofs.Hands.{each_both, hand_whole, hand_view, hand_case
 -- a batch and names of a grant, or a refusal, are joined to a client's pass
 module _ (l : Pool) (m0 : Map) (used : List ℕ) (m : Mem) (vs : List View) (st : Story) (h : List Entry) (w : Whole l m0 used m vs st h) (id j : ℕ) (apart_seats : j ≢ id) (v y : View) (at : nth vs id ≡ Some v) (there_at : nth vs j ≡ Some y)
     (n : ℕ) (role : v.pass.role ≡ Client n) (granting : y.pass.role ≡ Granting) (fits : length v.pass.names ≡ y.pass.from) (bare : y.pass.history ≡ []) where
-  abbrev pub joining : View
-  joining = record v { pass = record v.pass { stock = v.pass.stock ++ y.pass.stock; names = v.pass.names ++ y.pass.added; refusals = v.pass.refusals ++ y.pass.refusals } }
+  abbrev joining : View
+  joining = accepted v y
 
-  abbrev pub spent_view : View
-  spent_view = alone (empty_pass v.pass Joined)
+  abbrev spent_view : View
+  spent_view = spent v
 
   abbrev pub joined_list : List View
   joined_list = set (set vs id joining) j spent_view

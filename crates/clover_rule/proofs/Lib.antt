@@ -15,8 +15,9 @@ pub mod Keeps
 pub mod AllKeeps
 pub mod Falling
 pub mod ServerKeeps
-pub mod FirstRun
-pub mod HandOver
+pub mod Opened
+pub mod Dropped
+pub mod Moving
 pub mod Keeping
 pub mod Learning
 pub mod Ties

@@ -7,8 +7,9 @@ use Rattle.clover_rule.specs.Lists.{nth}
 use Rattle.clover_rule.specs.Memory.{gen, Mem}
 use Rattle.clover_rule.specs.Server.{Ready, AtStage, Help, book_of, Whole}
 use Rattle.clover_rule.specs.Story.{Place, Chained, Stocked, Free, Worn, Taken, Loose, Story, Core}
-use Rattle.clover_rule.specs.Views.{alone, empty_pass, Owned, ViewOk, Basis}
-use Rattle.clover_rule.specs.declared.view.Role.TheVariants.{Client, Noting}
+use Rattle.clover_rule.specs.Views.{Owned, ViewOk, Basis}
+use Rattle.clover_rule.specs.Moves.{note_of}
+use Rattle.clover_rule.specs.declared.view.Role.TheVariants.{Client}
 use Rattle.clover_rule.specs.declared.view.Task.{Task}
 use Rattle.clover_rule.specs.declared.view.Task.TheVariants.{Idle, Storing, Rooted, Waiting, Loaded, Raised, Led, Both, Exchanged}
 use Rattle.clover_rule.specs.declared.view.View.{View}
@@ -154,10 +155,7 @@ module _ (l : Pool) (m0 : Map) (used : List ℕ) (m : Mem) (vs vs' : List View) 
 
 -- a note is split off a pass
 module _ (l : Pool) (m0 : Map) (used : List ℕ) (m : Mem) (vs : List View) (st : Story) (h : List Entry) (w : Whole l m0 used m vs st h) (id : ℕ) (v : View) (at : nth vs id ≡ Some v) (n : ℕ) (role : v.pass.role ≡ Client n) where
-  abbrev pub note : View
-  note = alone (record (empty_pass v.pass Noting) { names = v.pass.names; most = v.pass.most; history = v.pass.history })
-
-  pub note_whole : Whole l m0 used m (set vs id v ++ note ∷ []) st h
-  note_whole = let k = w.basis.views id v at in split_whole l m0 used m vs st h w id v v note at [] tt refl refl refl (λ e. cc) (λ c e. cc) k
+  pub note_whole : Whole l m0 used m (set vs id v ++ note_of v ∷ []) st h
+  note_whole = let k = w.basis.views id v at in split_whole l m0 used m vs st h w id v v (note_of v) at [] tt refl refl refl (λ e. cc) (λ c e. cc) k
       (record { stocked = tt; apart = tt; durable = tt; links = tt; words = tt; written = tt; flushed = tt; copied = tt; names = k.names; added = inl refl; most = k.most; history = k.history; calls = tt })
       (λ e. absurd (cc (role, e))) (λ sv e q. e)

@@ -9,7 +9,8 @@ use Rattle.clover_rule.specs.Lists.{Each, nth, Within, IsPrefix}
 use Rattle.clover_rule.specs.Memory.{Mem}
 use Rattle.clover_rule.specs.Server.{Serves, Whole}
 use Rattle.clover_rule.specs.Story.{Stocked, Story}
-use Rattle.clover_rule.specs.Views.{alone, empty_pass, OwnCalls, ViewOk}
+use Rattle.clover_rule.specs.Views.{OwnCalls, ViewOk}
+use Rattle.clover_rule.specs.Moves.{longer, noted, spent}
 use Rattle.clover_rule.specs.declared.view.Role.{Role}
 use Rattle.clover_rule.specs.declared.view.Role.TheVariants.{Serving, Noting, Joined}
 use Rattle.clover_rule.specs.declared.view.Server.{Server}
@@ -18,9 +19,6 @@ use Rattle.clover_words.specs.declared.pool.Pool.{Pool}
 use Rattle.clover_rule.proofs.Steps.{nth_set, set_here, set_away}
 use Rattle.clover_rule.proofs.Hands.{hand_whole}
 use Rattle.clover_rule.proofs.AbsentLaw.{whole_prefix}
-
-abbrev pub longer : List Entry → List Entry → List Entry
-longer a b = cond (leb (length a) (length b)) b a
 
 prefix_length : (a h : List Entry) → IsPrefix a h → length a ≤ length h
 prefix_length a h p = let q = ap length p.1 in omega (arith, length-append a p.0)
@@ -42,11 +40,11 @@ long_right a b h p q e = go (leb (length a) (length b)) refl
 -- the join of a note
 module _ (l : Pool) (m0 : Map) (used : List ℕ) (m : Mem) (vs : List View) (st : Story) (h : List Entry) (w : Whole l m0 used m vs st h) (id j : ℕ) (apart_seats : j ≢ id) (v y : View) (at : nth vs id ≡ Some v) (there_at : nth vs j ≡ Some y)
     (role : v.pass.role ≡ Serving) (noting : y.pass.role ≡ Noting) (no_stock : y.pass.stock ≡ []) where
-  abbrev pub joining : View
-  joining = record v { pass = record v.pass { history = longer v.pass.history y.pass.history } }
+  abbrev joining : View
+  joining = noted v y
 
-  abbrev pub spent_view : View
-  spent_view = alone (empty_pass v.pass Joined)
+  abbrev spent_view : View
+  spent_view = spent v
 
   abbrev pub joined_list : List View
   joined_list = set (set vs id joining) j spent_view

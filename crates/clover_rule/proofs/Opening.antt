@@ -33,7 +33,7 @@ versions_at [] f i w e = absurd cc
 versions_at (t ∷ ts) f zero w e = let z : record { tag = t; value = f zero } ≡ w = cc in (ap (λ (x : Version). Some x.tag) z, ap (λ (x : Version). x.value) (sym z))
 versions_at (t ∷ ts) f (suc i) w e = versions_at ts (λ (j : ℕ). f (suc j)) i w e
 
-versions_tag : (ts : List ℕ) (f : ℕ → Option Value) (i : ℕ) → tag_in_version (nth (versions_of ts f) i) ≡ nth ts i
+pub versions_tag : (ts : List ℕ) (f : ℕ → Option Value) (i : ℕ) → tag_in_version (nth (versions_of ts f) i) ≡ nth ts i
 versions_tag [] f i = refl
 versions_tag (t ∷ ts) f zero = refl
 versions_tag (t ∷ ts) f (suc i) = versions_tag ts (λ (j : ℕ). f (suc j)) i

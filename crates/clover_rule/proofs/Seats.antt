@@ -12,7 +12,8 @@ use Rattle.clover_rule.specs.Lists.{Each, nth, upd, Within, IsPart}
 use Rattle.clover_rule.specs.Memory.{gen, Mem}
 use Rattle.clover_rule.specs.Server.{book_of, Serves, Whole}
 use Rattle.clover_rule.specs.Story.{Place, Stocked, Free, Story}
-use Rattle.clover_rule.specs.Views.{find_book, line, alone, empty_pass, Book, book, Apart, ViewOk, handed, book_at}
+use Rattle.clover_rule.specs.Views.{find_book, line, Book, book, Apart, ViewOk, handed, book_at}
+use Rattle.clover_rule.specs.Moves.{giving, grant, lines_out}
 use Rattle.clover_rule.specs.declared.view.BookLine.{BookLine}
 use Rattle.clover_rule.specs.declared.view.BufferState.TheVariants.{Free as IsFree, Out as IsOut}
 use Rattle.clover_rule.specs.declared.view.Role.{Role}
@@ -82,25 +83,14 @@ module _ (l : Pool) (m0 : Map) (used : List ℕ) (m : Mem) (vs : List View) (st 
   abbrev k : ℕ
   k = length vs
 
-  abbrev pub grant : View
-  grant = alone (record (empty_pass v.pass Granting) { stock = batch; from = position; added = names })
-
   pub out : (ℕ → Book) → List ℕ → ℕ → Book
   out f [] = f
   out f (t ∷ ts) = out (upd f (home t) (book (age t) IsOut)) ts
 
-  -- the lines of a batch that went out
-  pub out_lines : List BookLine → List ℕ → List BookLine
-  out_lines xs [] = xs
-  out_lines xs (t ∷ ts) = out_lines (line (home t) (age t) IsOut ∷ xs) ts
-
-  out_found : (ts : List ℕ) (xs : List BookLine) (b : ℕ) → find_book (out_lines xs ts) b ≡ out (find_book xs) ts b
-  unfolding out out_lines
+  out_found : (ts : List ℕ) (xs : List BookLine) (b : ℕ) → find_book (lines_out xs ts) b ≡ out (find_book xs) ts b
+  unfolding out
   out_found [] xs b = refl
   out_found (t ∷ ts) xs b = out_found ts (line (home t) (age t) IsOut ∷ xs) b
-
-  abbrev pub granting : View
-  granting = record v { server = record v.server { books = out_lines v.server.books batch; unlinked = [] } }
 
   sv : Serves l m st st.task v.server
   sv = w.serves id v at role
@@ -118,7 +108,7 @@ module _ (l : Pool) (m0 : Map) (used : List ℕ) (m : Mem) (vs : List View) (st 
   st1 = record st { place = handed st.place batch (Stocked k) }
 
   -- the books after are those of the batch out, and else as before
-  books_then : (b : ℕ) → inside l b ≡ true → find_book (out_lines v.server.books batch) b ≡ book_of st.task st1 (st1.place b) (gen (m.next b)) b
+  books_then : (b : ℕ) → inside l b ≡ true → find_book (lines_out v.server.books batch) b ≡ book_of st.task st1 (st1.place b) (gen (m.next b)) b
   unfolding out
   books_then b i = out_found batch v.server.books b ∙ go batch ages (book_at v.server) st.place (sv.books b i)
     where
@@ -128,8 +118,8 @@ module _ (l : Pool) (m0 : Map) (used : List ℕ) (m : Mem) (vs : List View) (st 
           (dite (ℕ_discrete b (home t)) (λ d. ap (upd f (home t) (book (age t) IsOut)) d ∙ upd_same f (home t) (book (age t) IsOut) ∙ ap (λ (x : ℕ). book x IsOut) (sym (ap (λ (x : ℕ). gen (m.next x)) d ∙ a.0)) ∙ sym (ap (λ (q : Place). book_of st.task st q (gen (m.next b)) b) (ap (upd g (home t) (Stocked k)) d ∙ upd_same g (home t) (Stocked k))))
           (λ d. upd_else f (home t) b (book (age t) IsOut) d ∙ e ∙ sym (ap (λ (q : Place). book_of st.task st q (gen (m.next b)) b) (upd_else g (home t) b (Stocked k) d))))
 
-  pub grant_whole : Whole l m0 used m (set vs id granting ++ grant ∷ []) st1 h
-  grant_whole = split_whole l m0 used m vs st h w id v granting grant at batch was refl refl refl (λ e. cc) (λ c e. cc)
+  pub grant_whole : Whole l m0 used m (set vs id (giving batch v) ++ grant batch position names v ∷ []) st1 h
+  grant_whole = split_whole l m0 used m vs st h w id v (giving batch v) (grant batch position names v) at batch was refl refl refl (λ e. cc) (λ c e. cc)
       (let a = hand_view l m0 used m vs st h w batch Free k tt was id v (λ z. absurd cc) (w.basis.views id v at) in record { stocked = a.stocked; apart = a.apart; durable = a.durable; links = a.links; words = a.words; written = a.written; flushed = a.flushed; copied = a.copied; names = a.names; added = a.added; most = a.most; history = a.history; calls = a.calls })
       (record { stocked = hand_owned l m0 used m vs st h w batch Free k tt was batch was ages; apart = apart; durable = tt; links = tt; words = tt; written = tt; flushed = tt; copied = tt; names = (st.bindings, refl); added = inr part; most = omega arith; history = (h, refl); calls = tt })
       (λ e. record { task_is = sv.task_is; directory = sv.directory; roots = sv.roots; books = books_then })

@@ -19,7 +19,7 @@ use Rattle.clover_rule.specs.Asks.{IsAt, MayBegin}
 use Rattle.clover_rule.specs.Changes.{raised_mem, recycled_mem}
 use Rattle.clover_rule.specs.Content.{inside, content, spelling}
 use Rattle.clover_rule.specs.History.{Map, Version, shows}
-use Rattle.clover_rule.specs.Learned.{learned, at_task, looked, link_flushed, root_passed, root_freed, free_or_worn, begun, root_bound, entered, next_view, turn_of, counted, found, words_after_step}
+use Rattle.clover_rule.specs.Learned.{learned, at_task, looked, link_flushed, root_passed, root_freed, begun, root_bound, entered, next_view, turn_of, counted, found, words_after_step}
 use Rattle.clover_rule.specs.Lists.{nth, upd, Within}
 use Rattle.clover_rule.specs.Meets.{IsCode, IsMet, Meets}
 use Rattle.clover_rule.specs.Memory.{Mem, Next, word, gen, greater}
@@ -27,7 +27,7 @@ use Rattle.clover_rule.specs.Server.{IsWaiting, Serves, Stage, Whole, book_of, i
 use Rattle.clover_rule.specs.Steps.{Step, ReadVersion, FlushLink, StoreRoot, FlushRoot, PassRoot, FreeRoot, StoreTombstone, FlushTombstone, StoreKey, FlushKey, BindRoot, FlushBoundRoot, StoreCount, word_of, side_of, becomes, act_of, moved_on, next_word_of}
 use Rattle.clover_rule.specs.Story.{Place, Story, tag_at, tag_in_version, now_at}
 use Rattle.clover_rule.specs.Told.{IsGivenBack, IsDurableBinding}
-use Rattle.clover_rule.specs.Views.{book, book_at, renewed, root_at}
+use Rattle.clover_rule.specs.Views.{free_or_worn, book, book_at, renewed, root_at}
 use Rattle.clover_rule.specs.Words.{mem_of, next_code, next_of}
 use Rattle.clover_rule.specs.declared.view.BufferState.TheVariants.{Bound as IsBound, Free as IsFree, Out as IsOut, Worn as IsWorn}
 use Rattle.clover_rule.specs.declared.view.NewBinding.{NewBinding}

@@ -70,6 +70,7 @@ wrote_link u t = Exchange (NextOf (buffer_at (home u))) (unlinked u) (linked u t
 abbrev pub SawLive : ℕ → List Act → Type 0
 SawLive t acts = (flags size : ℕ) × (flags < 2 ^ 32) × (size ≤ 1024) × Within (Load (Meta (buffer_at (home t))) (meta_word (record { kind = IsValue; flags = flags; length = size }))) acts
 
+-- a load of a tag's meta word that gave a tombstone
 abbrev pub SawDead : ℕ → List Act → Type 0
 SawDead t acts = Within (Load (Meta (buffer_at (home t))) tombstone) acts
 

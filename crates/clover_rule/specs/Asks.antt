@@ -30,6 +30,7 @@ MayReply v s t (Swap k e x) Absent = SawTombstone v s t
 MayReply v s t (Swap k e x) (Differs u) = (u ≡ t) × (t ≢ e) × SawValue v s t
 MayReply v s t c r = ⊥
 
+-- a client that knows the tail to be durable, the slot's name, and what the reply says
 pub record MayDecide (v : View) (s t : ℕ) (c : Call) (r : Reply) : Type 0 where
   pub client : IsClient v
   pub tail : Within (s, t) v.pass.durable
@@ -84,6 +85,7 @@ pub record IsNext (v : View) (x : RestartStore) : Type 0 where
   pub rest : List RestartStore
   pub plan : v.plan ≡ x ∷ rest
 
+-- what a step asks of its actor's view alone
 abbrev pub May : Pool → Step → View → Type 0
 May p (LoadNext s t) v = IsClient v × Within (s, t) v.pass.durable
 May p (DecideNext s t c r) v = MayDecide v s t c r
@@ -112,5 +114,6 @@ May p (FlushBoundRoot b) v = IsAt v (Rooted b)
 May p (StoreCount b n) v = IsAt v (Waiting b) × (n ≡ length v.server.directory)
 May p (Restart x) v = IsNext v x
 
+-- and that its word is one of the pool
 abbrev pub Asks : Pool → Step → View → Type 0
 Asks p a v = IsWithin p (word_of a) × May p a v

@@ -7,9 +7,11 @@ use Rattle.clover_rule.specs.Story.{Story, Chained, Taken}
 use Prim.Native.Nat.{suc}
 use Rattle.std.specs.Prelude.{ℕ, [], ◌∷◌, ◌++◌, length, cond, ltb, Some, None}
 
+-- a link of t behind u
 abbrev pub linked_mem : Mem → ℕ → ℕ → Mem
 linked_mem m u t = record m { next = upd m.next (home u) (word (age u) (Some t)) }
 
+-- a version that is linked at the end of slot s
 abbrev pub linked_story : Story → ℕ → Version → Story
 linked_story st s w = record st {
   log = upd st.log s (st.log s ++ w ∷ []);
@@ -18,6 +20,7 @@ linked_story st s w = record st {
   place = upd st.place (home w.tag) (Chained s);
 }
 
+-- the greater of two numbers
 abbrev pub greatest : ℕ → ℕ → ℕ
 greatest a b = cond (ltb a b) b a
 
@@ -25,6 +28,7 @@ greatest a b = cond (ltb a b) b a
 abbrev pub raised_mem : Mem → ℕ → ℕ → Mem
 raised_mem m u t = record m { fnext = upd m.fnext (home u) (greater (m.fnext (home u)) (word (age u) (Some t))) }
 
+-- the link to the version behind place i is flushed
 abbrev pub raised_story : Story → ℕ → ℕ → Story
 raised_story st s i = record st { sure = upd st.sure s (greatest (st.sure s) (suc (suc i))) }
 
@@ -32,5 +36,6 @@ raised_story st s i = record st { sure = upd st.sure s (greatest (st.sure s) (su
 abbrev pub recycled_mem : Mem → ℕ → Mem
 recycled_mem m r = record m { next = upd m.next (home r) (word (suc (age r)) None) }
 
+-- the root version of slot s is recycled
 abbrev pub recycled_story : Story → ℕ → ℕ → Story
 recycled_story st s r = record st { gone = upd st.gone s (suc (st.gone s)); place = upd st.place (home r) Taken }

@@ -40,6 +40,7 @@ Fits p (Some v) = (v.flags < 2 ^ 32) × (length v.bytes ≤ 8 * p.words) × AreB
 unfoldable pub spelling : List ℕ → List ℕ
 spelling k = all_words (length k ∷ k)
 
+-- a key: bytes, 1 to 250 of them
 pub record IsKey (k : List ℕ) : Type 0 where
   pub some : 1 ≤ length k
   pub most : length k ≤ 250

@@ -43,9 +43,11 @@ named (Put k v) = k
 named (Delete k) = k
 named (Swap k e v) = k
 
+-- the key that an entry's call names
 abbrev pub key_of : Entry → List ℕ
 key_of e = named e.call
 
+-- the pair of a tag and a value, or none of a tombstone
 abbrev pub paired : ℕ → Option Value → Option Held
 paired t None = None
 paired t (Some v) = Some (held t v)
@@ -54,10 +56,12 @@ paired t (Some v) = Some (held t v)
 abbrev pub pair_of : Version → Option Held
 pair_of w = paired w.tag w.value
 
+-- the tag of a pair
 abbrev pub tag_in : Option Held → Option ℕ
 tag_in None = None
 tag_in (Some p) = Some p.tag
 
+-- the version that a call with this reply commits
 abbrev pub committed : Call → Reply → Option Version
 committed (Put k v) (Stored t) = Some record { tag = t; value = Some v }
 committed (Swap k e v) (Stored t) = Some record { tag = t; value = Some v }
@@ -68,6 +72,7 @@ committed _ _ = None
 abbrev pub commit_of : Entry → Option Version
 commit_of e = committed e.call e.reply
 
+-- the tag was not used
 abbrev pub Fresh : ℕ → List ℕ → Type 0
 Fresh t used = Each (λ (u : ℕ). u ≢ t) used
 
@@ -83,6 +88,7 @@ Does x used (Swap k e v) (Differs t) = (tag_in x ≡ Some t) × (t ≢ e)
 Does x used (Swap k e v) Absent = x ≡ None
 Does _ _ _ _ = ⊥
 
+-- the map, the used tags and both after an entry
 abbrev pub changed : Map → List ℕ → Option Version → Map
 changed m k None = m
 changed m k (Some w) = at_key m k (pair_of w)
@@ -94,10 +100,12 @@ grown used (Some w) = w.tag ∷ used
 abbrev pub after : Map → Entry → Map
 after m e = changed m (key_of e) (commit_of e)
 
+-- each entry is one that the map and the used tags of that moment allow
 abbrev pub Legal : Map → List ℕ → List Entry → Type 0
 Legal m used [] = Unit {0}
 Legal m used (e ∷ h) = Does (m (key_of e)) used e.call e.reply × Legal (after m e) (grown used (commit_of e)) h
 
+-- the map to which a history leads, and the tags used by then
 abbrev pub leads : Map → List Entry → Map
 leads m [] = m
 leads m (e ∷ h) = leads (after m e) h
@@ -106,10 +114,12 @@ abbrev pub used_by : List ℕ → List Entry → List ℕ
 used_by used [] = used
 used_by used (e ∷ h) = used_by (grown used (commit_of e)) h
 
+-- the entries of one client
 abbrev pub own : ℕ → List Entry → List Entry
 own c [] = []
 own c (e ∷ h) = cond (eqb e.client c) (e ∷ own c h) (own c h)
 
+-- a version at the front, if there is one
 abbrev pub joined : Option Version → List Version → List Version
 joined None ws = ws
 joined (Some w) ws = w ∷ ws
@@ -124,6 +134,7 @@ abbrev pub ends : Option Held → List Version → Option Held
 ends x [] = x
 ends x (w ∷ ws) = ends (pair_of w) ws
 
+-- the committed version is one of the lost
 abbrev pub lost_in : (ℕ → Bool) → Option Version → Bool
 lost_in lost None = false
 lost_in lost (Some w) = lost w.tag

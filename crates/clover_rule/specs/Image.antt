@@ -7,6 +7,7 @@ use Rattle.clover_rule.specs.History.{Version, Map, ends}
 use Rattle.clover_rule.specs.Memory.{Mem, Next, gen, link}
 use Rattle.clover_rule.specs.Story.{Story, tag_at, unsure}
 
+-- what a cut leaves: one copy of each durable word
 pub record Image : Type 0 where
   pub next : ℕ → Next
   pub root : ℕ → Option ℕ
@@ -27,6 +28,7 @@ Chain im None (u ∷ us) = ⊥
 Chain im (Some t) [] = ⊥
 Chain im (Some t) (u ∷ us) = (t ≡ u) × (gen (im.next (home t)) ≡ age t) × Chain im (link (im.next (home t))) us
 
+-- there is no tag
 abbrev pub is_none : Option ℕ → Bool
 is_none None = true
 is_none (Some t) = false
@@ -44,10 +46,12 @@ leads_to st im s (suc i) = through (tag_at st s i)
 abbrev pub missing : Story → Image → ℕ → Bool
 missing st im t = unsure st t && is_none (leads_to st im (st.slot_of t) (st.rank t))
 
+-- the versions that are not lost
 abbrev pub sift : (ℕ → Bool) → List Version → List Version
 sift lost [] = []
 sift lost (w ∷ ws) = cond (lost w.tag) (sift lost ws) (w ∷ sift lost ws)
 
+-- the tags of versions
 abbrev pub tags : List Version → List ℕ
 tags ws = map (λ (w : Version). w.tag) ws
 
@@ -57,6 +61,7 @@ pub record Reads (im : Image) (s : ℕ) (x : Option Held) : Type 0 where
   pub chain : Chain im (im.root s) (tags versions)
   pub last : ends None versions ≡ x
 
+-- each bound slot reads as the map says at its key
 pub record ReadsMap (st : Story) (im : Image) (m : Map) : Type 0 where
   pub bound : (s : ℕ) (k : List ℕ) → st.keys s ≡ Some k → Reads im s (m k)
   pub unbound : (k : List ℕ) → ((s : ℕ) → st.keys s ≢ Some k) → m k ≡ None

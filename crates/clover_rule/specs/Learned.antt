@@ -14,11 +14,10 @@ use Rattle.clover_rule.specs.Changes.{greatest}
 use Rattle.clover_rule.specs.Knowing.{link_entry, link_view, stored_view, flushed_view}
 use Rattle.clover_rule.specs.Memory.{Next, word}
 use Rattle.clover_rule.specs.Steps.{Step, LoadNext, DecideNext, RaiseNext, LinkNext, StoreContent, FlushContent, LoadContent, ReadRoot, ReadShort, StoreShort, ReadCount, AbsentCount, ReadVersion, FlushLink, StoreRoot, FlushRoot, PassRoot, FreeRoot, StoreTombstone, FlushTombstone, StoreKey, FlushKey, BindRoot, FlushBoundRoot, StoreCount, Restart, word_of, side_of, becomes, act_of, client, reply_of}
-use Rattle.clover_rule.specs.Views.{raise_view, shown, line}
+use Rattle.clover_rule.specs.Views.{raise_view, shown, line, free_or_worn}
 use Rattle.clover_rule.specs.Words.{next_of, root_of}
 use Rattle.clover_rule.specs.declared.access.Act.{Act}
-use Rattle.clover_rule.specs.declared.view.BufferState.{BufferState}
-use Rattle.clover_rule.specs.declared.view.BufferState.TheVariants.{Free, Worn, Bound, Out}
+use Rattle.clover_rule.specs.declared.view.BufferState.TheVariants.{Bound, Out}
 use Rattle.clover_rule.specs.declared.view.NewBinding.{NewBinding}
 use Rattle.clover_rule.specs.declared.view.Recycling.{Recycling}
 use Rattle.clover_rule.specs.declared.view.Task.{Task}
@@ -30,12 +29,14 @@ abbrev pub seen : ℕ → ℕ → View → Next → View
 seen s t v (word a None) = record v { pass = record v.pass { words = shown (home t) a None ∷ v.pass.words } }
 seen s t v (word a (Some u)) = record v { pass = record v.pass { words = shown (home t) a (Some u) ∷ v.pass.words; links = cond (eqb a (age t)) (record { slot = s; from = t; to = u } ∷ v.pass.links) v.pass.links } }
 
+-- a call that the tail decided, and a count that was loaded
 abbrev pub decided : View → List Entry → ℕ → Call → Reply → View
 decided v h t c r = record v { pass = record v.pass { calls = v.pass.calls ++ link_entry v (client v) c r ∷ []; history = h ++ link_entry v (client v) c r ∷ []; words = shown (home t) (age t) None ∷ v.pass.words } }
 
 abbrev pub counts : View → ℕ → View
 counts v x = record v { pass = record v.pass { most = greatest v.pass.most x } }
 
+-- a call that the count decided
 abbrev pub missed : View → List Entry → Call → ℕ → View
 missed v h c x = record v { pass = record v.pass { calls = v.pass.calls ++ link_entry v (client v) c Absent ∷ []; history = h ++ link_entry v (client v) c Absent ∷ []; most = greatest v.pass.most x } }
 
@@ -44,6 +45,7 @@ abbrev pub started : ℕ → View → Option ℕ → View
 started s v None = v
 started s v (Some t) = record v { pass = record v.pass { durable = (s, t) ∷ v.pass.durable } }
 
+-- a list without its first element
 abbrev pub rest_of : {A : Type 0} → List A → List A
 rest_of [] = []
 rest_of (x ∷ xs) = xs
@@ -64,10 +66,6 @@ link_flushed v c = at_task (record v { pass = record v.pass { durable = (c.slot,
 -- the old root version's buffer went on to its next generation
 abbrev pub root_passed : View → Recycling → View
 root_passed v c = at_task (record v { pass = record v.pass { words = shown (home c.root) (suc (age c.root)) None ∷ v.pass.words } }) (Exchanged c)
-
--- a buffer at this generation may serve again, or has served all
-abbrev pub free_or_worn : ℕ → ℕ → BufferState
-free_or_worn wear g = cond (eqb g wear) Worn Free
 
 -- a recycling has ended: books and roots have the new root version, and the old one's buffer is free or worn
 abbrev pub root_freed : ℕ → View → Recycling → View
@@ -131,6 +129,7 @@ next_history _ h v x = h
 abbrev pub turn_at : ℕ → ℕ → ℕ
 turn_at t x = cond (x == unlinked t) 0 1
 
+-- the turns of a step
 abbrev pub turn_of : Step → ℕ → ℕ
 turn_of (LoadNext s t) x = turn_at t x
 turn_of (DecideNext s t c r) x = turn_at t x

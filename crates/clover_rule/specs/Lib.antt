@@ -27,4 +27,5 @@ pub mod Sound
 pub mod Cut
 pub mod Opening
 pub mod Preset
+pub mod Moves
 pub mod Laws

@@ -5,6 +5,7 @@ use Rattle.clover_words.specs.declared.word.Side.{Side}
 use Rattle.clover_rule.specs.Steps.{Step, act_of}
 use Rattle.clover_rule.specs.declared.access.Act.TheVariants.{Load, Store, Exchange, Raise}
 
+-- the step is this load, store, exchange or raise
 abbrev pub IsLoad : Step → Word → Type 0
 IsLoad a w = (x : ℕ) → act_of a x ≡ Load w x
 

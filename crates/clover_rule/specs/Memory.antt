@@ -6,6 +6,7 @@ use Rattle.std.specs.Prelude.{ℕ, ◌+◌, cond, ltb, Option, Some, None}
 pub data Next : Type 0 where
   word : ℕ → Option ℕ → Next
 
+-- the generation and the link of a next word
 abbrev pub gen : Next → ℕ
 gen (word a l) = a
 
@@ -30,5 +31,6 @@ abbrev pub order : Next → ℕ
 order (word a None) = a + a
 order (word a (Some t)) = suc (a + a)
 
+-- the one of two next words that a raise leaves
 abbrev pub greater : Next → Next → Next
 greater o n = cond (ltb (order o) (order n)) n o

@@ -1,14 +1,22 @@
 -- How a run begins: what restart leaves, or a preset pool has, and the first views.
 use Rattle.clover_words.specs.Tag.{home, age}
+use Rattle.clover_words.specs.Place.{pool_words}
+use Rattle.clover_map.specs.Tagged.{Tagged}
 use Rattle.clover_rule.specs.Content.{inside, IsKey, Spells}
-use Rattle.clover_rule.specs.History.{ends, Map}
+use Rattle.clover_rule.specs.History.{ends, shows, Map}
 use Rattle.clover_rule.specs.Image.{Image}
 use Rattle.clover_rule.specs.Lists.{IsPrefix, Each, nth, Within}
+use Rattle.clover_rule.specs.Meets.{Decodes, OfRun}
 use Rattle.clover_rule.specs.Memory.{Mem, gen, link}
 use Rattle.clover_rule.specs.Sound.{Sound, versions_of}
-use Rattle.clover_rule.specs.Views.{Apart, SlotsOnce}
+use Rattle.clover_rule.specs.Views.{Apart, SlotsOnce, Numbered, Book, book, book_at, root_at, free_or_worn}
+use Rattle.clover_rule.specs.Words.{mem_of}
+use Rattle.clover_rule.specs.declared.view.BufferState.TheVariants.{Free, Bound, Out}
+use Rattle.clover_rule.specs.declared.view.Role.TheVariants.{Client, Serving}
+use Rattle.clover_rule.specs.declared.view.Server.{Server}
+use Rattle.clover_rule.specs.declared.view.Task.TheVariants.{Idle}
 use Rattle.clover_rule.specs.declared.view.View.{View}
-use Rattle.std.specs.Prelude.{◌≡◌, ℕ, ◌<◌, ◌≤◌, ◌≢◌, ◌⊎◌, List, [], length, true, Option, Some, None}
+use Rattle.std.specs.Prelude.{◌≡◌, ℕ, ◌<◌, ◌≤◌, ◌≢◌, ◌⊎◌, List, [], length, cond, eqb, true, Option, Some, None}
 use Rattle.clover_words.specs.declared.pool.Pool.{Pool}
 
 -- what restart leaves: both copies are the image's, and what its books and directory say of it
@@ -63,3 +71,56 @@ pub record Starts (m : Mem) (bindings : List (ℕ × List ℕ)) (owner : ℕ →
   pub calls : v.pass.calls ≡ []
   pub history : v.pass.history ≡ []
   pub plan : v.plan ≡ []
+
+-- the words from which a run begins with this map and these used tags: both copies are one sound image
+pub record Opening (p : Pool) (first : Tagged) (used ws : List ℕ) : Type 0 where
+  pub sized : length ws ≡ pool_words p
+  pub decodes : Decodes p ws
+  pub image : Image
+  pub sound : Sound p image
+  pub opens : Opens p image sound (shows first) used (mem_of p ws)
+
+-- an actor that knows how the run began, and maybe some of the bindings, and nothing else
+pub record Begins (p : Pool) (first : Tagged) (used ws : List ℕ) (o : Opening p first used ws) (v : View) : Type 0 where
+  pub run : OfRun p first used v
+  pub names : IsPrefix v.pass.names o.opens.bindings
+  pub most : v.pass.most ≤ (mem_of p ws).count
+  pub stock : v.pass.stock ≡ []
+  pub durable : v.pass.durable ≡ []
+  pub links : v.pass.links ≡ []
+  pub words : v.pass.words ≡ []
+  pub written : v.pass.written ≡ []
+  pub flushed : v.pass.flushed ≡ []
+  pub copied : v.pass.copied ≡ []
+  pub added : v.pass.added ≡ []
+  pub calls : v.pass.calls ≡ []
+  pub history : v.pass.history ≡ []
+  pub plan : v.plan ≡ []
+
+-- what the books say of a buffer as a run begins, by where it stands: bound as a root, out behind one, and off the chains free, or worn at the wear
+abbrev pub opened_book : Pool → Image → Option (ℕ × ℕ) → ℕ → Book
+opened_book p im (Some q) b = book (gen (im.next b)) (cond (eqb q.1 0) Bound Out)
+opened_book p im None b = book (gen (im.next b)) (free_or_worn p.wear (gen (im.next b)))
+
+-- the server's part as a run begins: no task, the bindings, the roots, and books that say where each buffer is
+pub record FirstServer (p : Pool) (first : Tagged) (used ws : List ℕ) (o : Opening p first used ws) (sv : Server) : Type 0 where
+  pub task : sv.task ≡ Idle
+  pub directory : sv.directory ≡ o.opens.bindings
+  pub roots : (s : ℕ) → root_at sv s ≡ o.image.root s
+  pub books : (b : ℕ) → inside p b ≡ true → book_at sv b ≡ opened_book p o.image (o.opens.spot b) b
+
+-- the views as a run begins: clients have different numbers, and one view at most is the server's, which has made them all
+pub record FirstViews (p : Pool) (first : Tagged) (used ws : List ℕ) (o : Opening p first used ws) (vs : List View) : Type 0 where
+  pub begins : (i : ℕ) (v : View) → nth vs i ≡ Some v → Begins p first used ws o v
+  pub some : (i : ℕ) × (v : View) × (nth vs i ≡ Some v)
+  pub numbered : Numbered vs
+  pub serves : (i : ℕ) (v : View) → nth vs i ≡ Some v → v.pass.role ≡ Serving → FirstServer p first used ws o v.server
+  pub one : (i j : ℕ) (v w : View) → nth vs i ≡ Some v → nth vs j ≡ Some w → v.pass.role ≡ Serving → w.pass.role ≡ Serving → i ≡ j
+  pub made : (i j n : ℕ) (v w : View) → nth vs i ≡ Some v → nth vs j ≡ Some w → v.pass.role ≡ Serving → w.pass.role ≡ Client n → Within n v.server.clients
+
+-- an opening with nothing bound and every buffer free at generation 0
+pub record BlankOpening (p : Pool) (first : Tagged) (ws : List ℕ) : Type 0 where
+  pub opening : Opening p first [] ws
+  pub unbound : opening.opens.bindings ≡ []
+  pub unrooted : (s : ℕ) → opening.image.root s ≡ None
+  pub free : (b : ℕ) → inside p b ≡ true → opened_book p opening.image (opening.opens.spot b) b ≡ book 0 Free

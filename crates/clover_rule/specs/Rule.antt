@@ -17,6 +17,7 @@ use Rattle.clover_rule.specs.Words.{mem_of}
 use Rattle.clover_rule.specs.declared.view.Task.{Task}
 use Rattle.clover_rule.specs.declared.view.View.{View}
 
+-- what holds of the words, the views and the history of a run that began with this map and these used tags
 pub record Rule (p : Pool) (first : Tagged) (used : List ℕ) (ws : List ℕ) (vs : List View) (h : List Entry) : Type 0 where
   -- the chain of each slot, the content of each version, the place of each buffer, the bindings, the key of each slot, and the unfinished task
   pub chain : ℕ → List ℕ

@@ -20,11 +20,13 @@ use Rattle.clover_rule.specs.declared.view.Task.TheVariants.{Idle, Storing, Root
 use Rattle.clover_rule.specs.declared.view.View.{View}
 use Rattle.clover_words.specs.declared.pool.Pool.{Pool}
 
+-- a place from which a buffer may come on a chain
 abbrev pub Ready : Place → Type 0
 Ready Free = Unit {0}
 Ready (Stocked i) = Unit {0}
 Ready _ = ⊥
 
+-- tags, generations and contents are in their ranges
 pub record Ranged (l : Pool) (m : Mem) (st : Story) : Type 0 where
   pub tags : (s i t : ℕ) → tag_at st s i ≡ Some t → InRange l t
   pub own : (b : ℕ) → gen (m.next b) ≤ l.wear
@@ -33,6 +35,7 @@ pub record Ranged (l : Pool) (m : Mem) (st : Story) : Type 0 where
   pub worn : (b : ℕ) → inside l b ≡ true → st.place b ≡ Worn → gen (m.next b) ≡ l.wear
   pub fits : (s i : ℕ) (w : Version) → nth (st.log s) i ≡ Some w → Fits l w.value
 
+-- bound slots have their keys' words in both copies, and an unbound slot has nothing
 pub record Keyed (l : Pool) (m : Mem) (st : Story) : Type 0 where
   pub current : (s : ℕ) (k : List ℕ) → st.keys s ≡ Some k → Spells (m.key s) k
   pub flushed : (s : ℕ) (k : List ℕ) → st.keys s ≡ Some k → Spells (m.fkey s) k
@@ -42,6 +45,7 @@ pub record Keyed (l : Pool) (m : Mem) (st : Story) : Type 0 where
   pub filled : (s : ℕ) (k : List ℕ) → st.keys s ≡ Some k → 0 < length (st.log s)
   pub slots : (s : ℕ) (k : List ℕ) → st.keys s ≡ Some k → s < l.slots
 
+-- the root and its flushed copy are the first version that stands
 abbrev pub Settled : Story → ℕ → Type 0
 Settled st s = (st.lead s ≡ st.gone s) × (st.flead s ≡ st.gone s)
 
@@ -136,6 +140,7 @@ lagging (Waiting b) s = cond (eqb b.slot s) (Some None) None
 lagging (Exchanged c) s = cond (eqb c.slot s) (Some (Some c.root)) None
 lagging _ s = None
 
+-- what is there, or else the other
 abbrev pub or_else : {A : Type 0} → Option A → A → A
 or_else None x = x
 or_else (Some y) x = y
@@ -144,6 +149,7 @@ or_else (Some y) x = y
 abbrev pub root_in : Task → Story → ℕ → Option ℕ
 root_in task st s = or_else (lagging task s) (tag_at st s (st.gone s))
 
+-- the tag is one of the buffer
 abbrev pub is_home : Option ℕ → ℕ → Bool
 is_home None b = false
 is_home (Some t) b = eqb (home t) b
@@ -174,6 +180,7 @@ pub record Serves (l : Pool) (m : Mem) (st : Story) (task : Task) (sv : Server) 
   pub roots : (s : ℕ) → root_at sv s ≡ root_in task st s
   pub books : (b : ℕ) → inside l b ≡ true → book_at sv b ≡ book_of task st (st.place b) (gen (m.next b)) b
 
+-- the helping facts of words, views, story and history
 pub record Whole (l : Pool) (m0 : Map) (used : List ℕ) (m : Mem) (vs : List View) (st : Story) (h : List Entry) : Type 0 where
   pub basis : Basis m0 used m vs st h
   pub help : Help l m st

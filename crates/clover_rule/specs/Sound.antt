@@ -24,6 +24,7 @@ pub record Sound (l : Pool) (im : Image) : Type 0 where
   pub contents : (s i t : ℕ) → nth (chain s) i ≡ Some t → (Fits l (value s i)) × ((j y : ℕ) → nth (content (value s i)) j ≡ Some y → im.body (home t) j ≡ y)
   pub inside : (s t : ℕ) → im.root s ≡ Some t → s < l.slots
 
+-- tags with values by place, as versions
 abbrev pub versions_of : List ℕ → (ℕ → Option Value) → List Version
 versions_of [] f = []
 versions_of (t ∷ ts) f = record { tag = t; value = f zero } ∷ versions_of ts (λ (i : ℕ). f (suc i))

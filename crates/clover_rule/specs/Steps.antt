@@ -28,6 +28,7 @@ use Rattle.clover_rule.specs.declared.view.Role.{Role}
 use Rattle.clover_rule.specs.declared.view.Role.TheVariants.{Client}
 use Rattle.clover_rule.specs.declared.view.View.{View}
 
+-- the steps of clients, of the server and of a restart, each with its operands
 pub data Step : Type 0 where
   -- a client's load of the next word of a tag of a slot, on a walk; and one that decides the call with the reply where it shows the tail
   LoadNext : (slot tag : ℕ) → Step
@@ -81,6 +82,7 @@ next_word_of t = NextOf (buffer_at (home t))
 abbrev pub moved_on : ℕ → ℕ
 moved_on t = next_code (word (suc (age t)) None)
 
+-- the word of a restart's store, and what it does there
 abbrev pub restart_word : RestartStore → Word
 restart_word (ClearRoot s) = Root s
 restart_word (ClearFlushedRoot s) = Root s
@@ -153,6 +155,7 @@ operation_of (FlushBoundRoot b) = stores Flushed (root_code (Some b.tag))
 operation_of (StoreCount b n) = stores Current n
 operation_of (Restart x) = restart_operation x
 
+-- the copy that an operation is on, and what the number there becomes
 abbrev pub side_in : Operation → Side
 side_in loads = Current
 side_in (stores s y) = s
@@ -192,6 +195,7 @@ abbrev pub reply_of : ℕ → Call → Reply
 reply_of t (Delete k) = Deleted t
 reply_of t _ = Stored t
 
+-- the number in a client's role, and that a view is a client's
 abbrev pub number_of : Role → ℕ
 number_of (Client n) = n
 number_of _ = 0

@@ -109,6 +109,7 @@ pub record ToldAt (p : Pool) (ws : List ℕ) (h : List Entry) (a : Step) (b : Bo
   pub next : w ≡ next_view b a h v x
   pub after : Facts p w (next_history a h v x)
 
+-- there are such words and such a history
 abbrev pub Told : Pool → Step → Bool → View → ℕ → View → Type 0
 Told p a b v x w = (ws : List ℕ) × (h : List Entry) × ToldAt p ws h a b v x w
 

@@ -10,7 +10,7 @@ use Rattle.clover_rule.specs.Memory.{Mem, Next, word, gen, link}
 use Rattle.clover_rule.specs.Story.{Place, Chained, Stocked, Story, tag_at, Core, Tale, Durable}
 use Rattle.clover_rule.specs.declared.view.BookLine.{BookLine}
 use Rattle.clover_rule.specs.declared.view.BufferState.{BufferState}
-use Rattle.clover_rule.specs.declared.view.BufferState.TheVariants.{Out as IsOut}
+use Rattle.clover_rule.specs.declared.view.BufferState.TheVariants.{Free as IsFree, Worn as IsWorn}
 use Rattle.clover_rule.specs.declared.view.Content.{Content}
 use Rattle.clover_rule.specs.declared.view.Link.{Link}
 use Rattle.clover_rule.specs.declared.view.Pass.{Pass}
@@ -23,14 +23,20 @@ use Rattle.clover_rule.specs.declared.view.View.{View}
 use Rattle.clover_words.specs.declared.pool.Pool.{Pool}
 use Rattle.clover_map.specs.Tagged.{Tagged}
 
+-- what the books say of a buffer: its generation and its state
 pub data Book : Type 0 where
   book : ℕ → BufferState → Book
 
--- what the books say of a buffer
+-- a buffer at this generation may serve again, or has served all
+abbrev pub free_or_worn : ℕ → ℕ → BufferState
+free_or_worn wear g = cond (eqb g wear) IsWorn IsFree
+
+-- what the books say of a buffer: one that no line names is free at generation 0
 abbrev pub find_book : List BookLine → ℕ → Book
-find_book [] b = book 0 IsOut
+find_book [] b = book 0 IsFree
 find_book (x ∷ xs) b = cond (eqb x.buffer b) (book x.generation x.state) (find_book xs b)
 
+-- a line of the books
 abbrev pub line : ℕ → ℕ → BufferState → BookLine
 line b g s = record { buffer = b; generation = g; state = s }
 
@@ -39,6 +45,7 @@ abbrev pub find_root : List (ℕ × ℕ) → ℕ → Option ℕ
 find_root [] s = None
 find_root (x ∷ xs) s = cond (eqb x.0 s) (Some x.1) (find_root xs s)
 
+-- the books and the roots of a server
 abbrev pub book_at : Server → ℕ → Book
 book_at sv = find_book sv.books
 
@@ -49,6 +56,7 @@ root_at sv = find_root sv.roots
 abbrev pub shown : ℕ → ℕ → Option ℕ → Shown
 shown b a x = record { buffer = b; own = a; link = x }
 
+-- both copies of each word of the version's content stand in its buffer
 abbrev pub Holds : Mem → Version → Type 0
 Holds m w = (k x : ℕ) → nth (content w.value) k ≡ Some x → (m.body (home w.tag) k ≡ x) × (m.fbody (home w.tag) k ≡ x)
 
@@ -60,6 +68,7 @@ Spent m st t = (age t < gen (m.next (home t))) ⊎ ((s : ℕ) × (st.place (home
 abbrev pub Stands : Story → ℕ → ℕ → Version → Type 0
 Stands st s i w = nth (st.log s) i ≡ Some w
 
+-- the link goes from a place of its slot to the next one
 abbrev pub IsLink : Story → Link → Type 0
 IsLink st l = (i : ℕ) × (tag_at st l.slot i ≡ Some l.from) × (tag_at st l.slot (suc i) ≡ Some l.to)
 
@@ -80,10 +89,12 @@ abbrev pub Apart : List ℕ → Type 0
 Apart [] = Unit {0}
 Apart (t ∷ ts) = Each (λ (u : ℕ). home u ≢ home t) ts × Apart ts
 
+-- a client's calls are its entries
 abbrev pub OwnCalls : Role → List Entry → List Entry → Type 0
 OwnCalls (Client c) calls h = calls ≡ own c h
 OwnCalls _ calls h = Unit {0}
 
+-- what holds of the view of the seat id
 pub record ViewOk (m : Mem) (st : Story) (h : List Entry) (id : ℕ) (v : View) : Type 0 where
   pub stocked : Each (Owned m st id) v.pass.stock
   pub apart : Apart v.pass.stock
@@ -103,6 +114,7 @@ pub record ViewOk (m : Mem) (st : Story) (h : List Entry) (id : ℕ) (v : View) 
 abbrev pub Numbered : List View → Type 0
 Numbered vs = (i j n : ℕ) (v w : View) → nth vs i ≡ Some v → nth vs j ≡ Some w → v.pass.role ≡ Client n → w.pass.role ≡ Client n → i ≡ j
 
+-- the facts of the core, the history and the views
 pub record Basis (m0 : Map) (used : List ℕ) (m : Mem) (vs : List View) (st : Story) (h : List Entry) : Type 0 where
   pub core : Core m st
   pub tale : Tale st m0 used h
@@ -118,6 +130,7 @@ pub record Basis (m0 : Map) (used : List ℕ) (m : Mem) (vs : List View) (st : S
 abbrev pub renewed : List View → ℕ → View → List View
 renewed vs i v = set vs i v
 
+-- the content words of other tags
 abbrev pub without : ℕ → List Content → List Content
 without t [] = []
 without t (c ∷ cs) = cond (eqb c.tag t) (without t cs) (c ∷ without t cs)
@@ -131,6 +144,7 @@ abbrev pub handed : (ℕ → Place) → List ℕ → Place → ℕ → Place
 handed f [] q = f
 handed f (t ∷ ts) q = handed (upd f (home t) q) ts q
 
+-- the server's part of any other actor
 abbrev pub no_server : Server
 no_server = record { books = []; directory = []; roots = []; task = Idle; unlinked = []; clients = []; joined = [] }
 
@@ -165,6 +179,7 @@ start_pass p first used ro = record {
 abbrev pub empty_pass : Pass → Role → Pass
 empty_pass v ro = start_pass v.pool v.map v.used ro
 
+-- a view with this pass, of an actor that is not the server
 abbrev pub alone : Pass → View
 alone v = record { pass = v; server = no_server; plan = [] }
 

@@ -1,7 +1,7 @@
 // The laws, each a contract of a function with an empty body.
 ghost use Rattle.clover_rule.specs.Cut.{CutLaw};
 ghost use Rattle.clover_rule.specs.Preset.{PresetLaw};
-ghost use Rattle.clover_rule.specs.Laws.{PartsLaw, LongestLaw, StepLaw, ToldLaw, TableStepLaw, RiseLaw, AccessLaw};
+ghost use Rattle.clover_rule.specs.Laws.{PartsLaw, LongestLaw, StepLaw, ToldLaw, TableStepLaw, RiseLaw, AccessLaw, OperationLaw, OpeningLaw, BlankLaw, ClientLaw, GrantLaw, AcceptLaw, HandOverLaw, NoteLaw, JoinNoteLaw, SpentLaw};
 
 /// The twelve parts of the rule follow from the helping facts.
 pub fn parts_law()
@@ -46,4 +46,54 @@ pub fn access_law()
 /// Each image of a power cut is sound and stands for the map of a history that survived.
 pub fn cut_law()
     ensures { CutLaw }
+{}
+
+/// Each operation of a port that is meant as a step is one that a table allows.
+pub fn operation_law()
+    ensures { OperationLaw }
+{}
+
+/// From words whose copies are one sound image a run begins, over views that begin.
+pub fn opening_law()
+    ensures { OpeningLaw }
+{}
+
+/// Words of 0 are such words.
+pub fn blank_law()
+    ensures { BlankLaw }
+{}
+
+/// The server makes a client.
+pub fn client_law()
+    ensures { ClientLaw }
+{}
+
+/// The server splits off a grant.
+pub fn grant_law()
+    ensures { GrantLaw }
+{}
+
+/// A client takes a grant in.
+pub fn accept_law()
+    ensures { AcceptLaw }
+{}
+
+/// The server hands a client a batch and names in one event.
+pub fn hand_over_law()
+    ensures { HandOverLaw }
+{}
+
+/// A note is split off a client.
+pub fn note_law()
+    ensures { NoteLaw }
+{}
+
+/// The server takes a note in.
+pub fn join_note_law()
+    ensures { JoinNoteLaw }
+{}
+
+/// What is left of a view that another one took in may go.
+pub fn spent_law()
+    ensures { SpentLaw }
 {}

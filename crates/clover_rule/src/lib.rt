@@ -9,8 +9,9 @@ mod view;
 
 pub use access::{Access, Act, Actor};
 pub use laws::{
-    access_law, cut_law, longest_law, parts_law, preset_law, rise_law, step_law, table_step_law,
-    told_law,
+    accept_law, access_law, blank_law, client_law, cut_law, grant_law, hand_over_law,
+    join_note_law, longest_law, note_law, opening_law, operation_law, parts_law, preset_law,
+    rise_law, spent_law, step_law, table_step_law, told_law,
 };
 pub use step::StepName;
 pub use view::{

@@ -1,0 +1,5 @@
+use Rattle.clover_rule.proofs.laws.client_law.Goals as goal
+use Rattle.clover_rule.proofs.Moving as Moving
+
+pub returns : goal.returns
+returns c = Moving.client_law
