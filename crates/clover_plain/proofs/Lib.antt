@@ -3,6 +3,7 @@ pub mod Trails
 pub mod Acting
 pub mod Stepping
 pub mod Standing
+pub mod Opening
 pub mod Keys
 pub mod Dealing
 pub mod PresetRule
