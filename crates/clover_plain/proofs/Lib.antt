@@ -3,6 +3,7 @@ pub mod Trails
 pub mod Acting
 pub mod Stepping
 pub mod Standing
+pub mod Handing
 pub mod Opening
 pub mod Keys
 pub mod Dealing

@@ -8,6 +8,7 @@ ghost use Rattle.clover_rule.specs.declared.access.Access.{Access};
 ghost use Rattle.clover_rule.specs.declared.view.View.{View};
 ghost use Rattle.clover_plain.specs.Kept.{AllFit, views_of};
 
+mod hand;
 mod preset;
 mod steps;
 #[cfg(test)]

@@ -9,7 +9,7 @@ ghost use Rattle.clover_plain.specs.Plain.{actor_at, first_view};
 use atomic_table::{Play, Seat, Table, TableRule};
 use clover_map::Key;
 use clover_rule::{Actor, View};
-use clover_words::Setup;
+use clover_words::{Setup, Tag};
 use std::alloc::Global;
 use std::collections::LinkedList;
 use std::marker::{Brand, PhantomData};
@@ -117,6 +117,29 @@ pub fn deal_view<J: ViewName>(
 {
     let _ = setup.clients;
     let _ = keys.len();
+    let seat = &mut seats[at];
+    knowing.shared.load::<Becomes<J>>(seat, 0);
+}
+
+/// The seat at a place gets the view that a grant leaves, the server's seat or a client's. The other arguments are
+/// for that name alone.
+pub fn hand_view<J: ViewName>(
+    knowing: &Knowing,
+    seats: &mut Vec<Seat<(), View>>,
+    at: usize,
+    serving: bool,
+    batch: &[Tag],
+    names: &[(u32, Key)],
+)
+    requires at { at < length seats.old.items }
+    requires fits { AllFit knowing.now.shared.table_id seats.old.items × (0 < knowing.now.shared.table_id.words) }
+    ensures views { (v : View) → nth (views_of seats.old.items) at ≡ Some v → views_of seats.new.items ≡ slice_set (views_of seats.old.items) at (J.becomes v) }
+    ensures fits { AllFit knowing.now.shared.table_id seats.new.items }
+    ensures length { length seats.new.items ≡ length seats.old.items }
+{
+    let _ = serving;
+    let _ = batch.len();
+    let _ = names.len();
     let seat = &mut seats[at];
     knowing.shared.load::<Becomes<J>>(seat, 0);
 }
