@@ -4,6 +4,7 @@ pub mod Acting
 pub mod Stepping
 pub mod Standing
 pub mod Handing
+pub mod SmallPool
 pub mod Opening
 pub mod Keys
 pub mod Dealing
