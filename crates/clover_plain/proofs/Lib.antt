@@ -3,6 +3,9 @@ pub mod Trails
 pub mod Acting
 pub mod Stepping
 pub mod Standing
+pub mod Handing
+pub mod SmallPool
+pub mod Opening
 pub mod Keys
 pub mod Dealing
 pub mod PresetRule

@@ -1,14 +1,16 @@
 -- The seats, and the views in them.
-use Rattle.std.proofs.Common.{◌≡◌, ◌≢◌, ℕ, zero, suc, ◌<◌, List, [], ◌∷◌, length, set, get_or, replicate, ◌++◌, ◌⊎◌, inl, inr, refl, sym, ap, ◌∙◌, ⊎_elim, arith}
+use Rattle.std.proofs.Common.{◌≡◌, ◌≢◌, ℕ, zero, suc, ◌<◌, ◌≤◌, List, [], ◌∷◌, length, set, get_or, replicate, take, ◌++◌, ◌⊎◌, inl, inr, refl, sym, ap, ◌∙◌, ⊎_elim, arith}
 use Rattle.std.specs.Prelude.{Some}
 use mathlib.Core.Option.{some, some-injective}
 use lib.ListN.{get_elem?}
 use Rattle.atomic_table.proofs.Lists.{at_set, at_index}
 use Rattle.atomic_table.specs.declared.shared.Seat.{Seat}
 use Rattle.atomic_table.specs.Seated.{TableId}
+use Rattle.clover_map.specs.Tagged.{Tagged}
 use Rattle.clover_rule.specs.Lists.{nth}
 use Rattle.clover_rule.specs.declared.view.View.{View}
 use Rattle.clover_plain.specs.Kept.{view_of, views_of, AllFit}
+use Rattle.clover_plain.specs.Plain.{first_of, used_of}
 
 abbrev pub S : Type 0
 S = Seat (Unit {0}) View
@@ -68,3 +70,49 @@ length_seats seats n v e = sym (length_views seats) ∙ ap length e ∙ length_c
     length_copies : (n : ℕ) (v : View) → length (replicate n v) ≡ n
     length_copies zero v = refl
     length_copies (suc n) v = ap suc (length_copies n v)
+
+-- a list with others behind it
+pub at_front : {A : Type 0} (xs ys : List A) (i : ℕ) (x : A) → nth xs i ≡ Some x → nth (xs ++ ys) i ≡ Some x
+at_front [] ys i x e = absurd cc
+at_front (y ∷ xs) ys zero x e = e
+at_front (y ∷ xs) ys (suc i) x e = at_front xs ys i x e
+
+pub set_front : {A : Type 0} (xs ys : List A) (i : ℕ) (x : A) → i < length xs → set (xs ++ ys) i x ≡ set xs i x ++ ys
+set_front [] ys i x h = absurd (omega arith)
+set_front (y ∷ xs) ys zero x h = refl
+set_front (y ∷ xs) ys (suc i) x h = ap (λ (l : List _). y ∷ l) (set_front xs ys i x (omega arith))
+
+-- a renewed view of the same run
+pub first_set : (vs : List View) (i : ℕ) (w : View) → ((v : View) → nth vs i ≡ Some v → w.pass.map ≡ v.pass.map) → first_of (set vs i w) ≡ first_of vs
+first_set [] i w h = refl
+first_set (v ∷ vs) zero w h = h v refl
+first_set (v ∷ vs) (suc i) w h = refl
+
+pub used_set : (vs : List View) (i : ℕ) (w : View) → ((v : View) → nth vs i ≡ Some v → w.pass.used ≡ v.pass.used) → used_of (set vs i w) ≡ used_of vs
+used_set [] i w h = refl
+used_set (v ∷ vs) zero w h = h v refl
+used_set (v ∷ vs) (suc i) w h = refl
+
+-- views of one run, of which there is one
+pub first_there : (vs : List View) (f : Tagged) → 0 < length vs → ((i : ℕ) (v : View) → nth vs i ≡ Some v → v.pass.map ≡ f) → first_of vs ≡ f
+first_there [] f h e = absurd (omega arith)
+first_there (v ∷ vs) f h e = e 0 v refl
+
+pub used_there : (vs : List View) (u : List ℕ) → 0 < length vs → ((i : ℕ) (v : View) → nth vs i ≡ Some v → v.pass.used ≡ u) → used_of vs ≡ u
+used_there [] u h e = absurd (omega arith)
+used_there (v ∷ vs) u h e = e 0 v refl
+
+-- seats of which those behind some place were given up
+pub fit_take : (z : TableId) (seats : List S) (n : ℕ) → AllFit z seats → AllFit z (take n seats)
+fit_take z seats n all i s e = all i s (at_take seats n i s e)
+  where
+    at_take : (seats : List S) (n i : ℕ) (s : S) → get_elem? (take n seats) i ≡ some s → get_elem? seats i ≡ some s
+    at_take seats zero i s e = absurd cc
+    at_take [] (suc n) i s e = e
+    at_take (x ∷ xs) (suc n) zero s e = e
+    at_take (x ∷ xs) (suc n) (suc i) s e = at_take xs n i s e
+
+pub length_take : (seats : List S) (n : ℕ) → n ≤ length seats → length (take n seats) ≡ n
+length_take seats zero h = refl
+length_take [] (suc n) h = absurd (omega arith)
+length_take (x ∷ xs) (suc n) h = ap suc (length_take xs n (omega arith))

@@ -1,12 +1,12 @@
 -- What a plain pool keeps.
-use Rattle.std.specs.Prelude.{◌≡◌, ℕ, ◌-◌, ◌<◌, List, map, length, vec_len, vec_capacity}
+use Rattle.std.specs.Prelude.{◌≡◌, ℕ, ◌-◌, ◌<◌, ◌≤◌, List, map, length, vec_len, vec_capacity}
 use mathlib.Core.Option.{some}
 use lib.ListN.{get_elem?}
 use Rattle.atomic_table.specs.declared.shared.Seat.{Seat}
 use Rattle.atomic_table.specs.Seated.{TableId}
 use Rattle.clover_words.specs.Place.{pool_words}
 use Rattle.clover_rule.specs.declared.view.View.{View}
-use Rattle.clover_plain.specs.Plain.{Plain, Stands}
+use Rattle.clover_plain.specs.Plain.{Plain, Stands, first_of, used_of}
 use Rattle.clover_plain.specs.declared.pool.PlainPool.TheInside.{Inside}
 
 abbrev pub view_of : Seat (Unit {0}) View → View
@@ -21,9 +21,12 @@ AllFit z seats = (i : ℕ) (s : Seat (Unit {0}) View) → get_elem? seats i ≡ 
 abbrev pub meaning : Inside → Plain
 meaning p = record {
   setup = p.setup;
+  first = first_of (views_of p.seats.items);
+  used = used_of (views_of p.seats.items);
   start = p.begun.me.0.words;
   words = p.words.items;
   views = views_of p.seats.items;
+  absent = p.begun.me.0.views;
   entries = p.entries.items;
   traced = p.traced;
   accesses = p.trace.items;
@@ -37,7 +40,7 @@ meaning p = record {
 pub record IsKept (p : Inside) : Type 0 where
   pub stands : Stands p.opened (meaning p)
   pub sized : length p.words.items ≡ pool_words p.setup.pool
-  pub seated : length p.seats.items ≡ p.setup.clients
+  pub seated : p.setup.clients ≤ length p.seats.items
   pub seats : AllFit p.knowing.shared.table_id p.seats.items
   pub one : 0 < p.knowing.shared.table_id.words
   pub beginning : (p.begun.table_id ≡ p.beginning.shared.table_id) × (0 < p.beginning.shared.table_id.words)

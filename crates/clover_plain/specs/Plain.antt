@@ -1,33 +1,40 @@
 -- What contracts see of a plain pool, and how an access changes it.
-use Rattle.std.specs.Prelude.{◌≡◌, ℕ, ◌+◌, ◌-◌, ◌^◌, ◌≤◌, ◌&&◌, ◌⊎◌, min, slice_index_or, slice_set, List, [], ◌∷◌, ◌++◌, length, Bool, true, false}
-use Prim.Native.Nat.{suc}
+use Rattle.std.specs.Prelude.{◌≡◌, ℕ, ◌+◌, ◌-◌, ◌^◌, ◌≤◌, ◌<◌, ◌&&◌, ◌⊎◌, cond, min, nat_lt, slice_index_or, slice_set, List, [], ◌∷◌, ◌++◌, length, Bool, true, false}
+use Prim.Native.Nat.{zero, suc}
 use Rattle.std.specs.FinMap as finite
 use Rattle.atomic_table.specs.Seated.{TableId}
 use Rattle.clover_words.specs.declared.pool.Pool.{Pool}
 use Rattle.clover_words.specs.declared.setup.Setup.{Setup}
 use Rattle.clover_map.specs.declared.call.Entry.{Entry}
+use Rattle.clover_map.specs.Tagged.{Tagged}
 use Rattle.clover_rule.specs.Accesses.{Replays, done, words_after_act}
 use Rattle.clover_rule.specs.Lists.{nth, IsPrefix}
 use Rattle.clover_rule.specs.Rule.{Rule, longest}
 use Rattle.clover_rule.specs.Learned.{words_after_step, next_view, found}
 use Rattle.clover_rule.specs.Steps.{Step, act_of}
-use Rattle.clover_rule.specs.Views.{alone, start_pass}
+use Rattle.clover_rule.specs.Moves.{nobody}
+use Rattle.clover_rule.specs.Views.{alone, no_server, start_pass}
 use Rattle.clover_rule.specs.declared.access.Access.{Access}
 use Rattle.clover_rule.specs.declared.access.Act.{Act}
 use Rattle.clover_rule.specs.declared.access.Actor.{Actor}
 use Rattle.clover_rule.specs.declared.access.Actor.TheVariants.{Client, Server, Restart}
-use Rattle.clover_rule.specs.declared.view.Role.TheVariants.{Noting, Client as ClientRole}
+use Rattle.clover_rule.specs.declared.view.Role.{Role}
+use Rattle.clover_rule.specs.declared.view.Role.TheVariants.{Client as ClientRole, Serving}
 use Rattle.clover_rule.specs.declared.view.View.{View}
 use Rattle.std.specs.Prelude.{Some}
 use Rattle.clover_port.specs.Told.{Open}
 
 pub record Plain : Type 0 where
   pub setup : Setup
-  -- the words right after the pool was preset, and the present words
+  -- the map and the used tags with which the run began
+  pub first : Tagged
+  pub used : List ℕ
+  -- the words with which it began, and the present words
   pub start : List ℕ
   pub words : List ℕ
-  -- what each actor knows, by its seat
+  -- what each actor knows, by its seat, and the views that no actor's seat holds
   pub views : List View
+  pub absent : List View
   -- the entries of the history that were entered
   pub entries : List Entry
   -- whether accesses are listed, and those that are
@@ -35,24 +42,29 @@ pub record Plain : Type 0 where
   pub accesses : List Access
   -- the accesses that were not refused
   pub made : ℕ
-  -- whether the pool was preset, and whether no port made a second access
+  -- whether the pool runs, and whether no port made a second access
   pub opened : Bool
   pub whole : Bool
   -- for how many accesses and entries there is room
   pub access_room : ℕ
   pub entry_room : ℕ
 
--- what an actor knows before the pool is preset
-abbrev pub outset : Setup → View
-outset s = alone (start_pass s.pool finite.empty [] Noting)
+-- the map and the used tags with which the run of these views began; each view has them
+abbrev pub first_of : List View → Tagged
+first_of [] = finite.empty
+first_of (v ∷ vs) = v.pass.map
+
+abbrev pub used_of : List View → List ℕ
+used_of [] = []
+used_of (v ∷ vs) = v.pass.used
 
 -- what the actor of a seat knows
 abbrev pub view_at : Plain → ℕ → View
-view_at p i = slice_index_or p.views i (outset p.setup)
+view_at p i = slice_index_or p.views i nobody
 
--- the history, which is the longest that an actor knows
+-- the history, which is the longest that a view holds
 abbrev pub history : Plain → List Entry
-history p = longest p.views
+history p = longest (p.views ++ p.absent)
 
 abbrev pub open_of : Plain → Open
 open_of p = record { words = p.words; history = history p }
@@ -72,54 +84,73 @@ pub record Leads (p : Pool) (start words : List ℕ) (made : ℕ) (xs : List Acc
   pub ends : after_acts p start (done xs) ≡ words
   pub count : made ≡ counted (length (done xs))
 
--- Between any two steps of a preset pool.
+-- The seat of an actor: the clients come first, in the order of their numbers, and behind them the server, which a preset pool has not. Restart has none yet.
+abbrev pub HasSeat : Plain → Actor → ℕ → Type 0
+HasSeat p (Client n) seat = (1 ≤ n) × (n ≤ p.setup.clients) × (suc seat ≡ n)
+HasSeat p Server seat = (seat ≡ p.setup.clients) × (seat < length p.views)
+HasSeat p Restart seat = ⊥
+
+abbrev pub IsActor : Plain → Actor → Type 0
+IsActor p a = (seat : ℕ) × HasSeat p a seat
+
+-- the actor of a seat, and the role of what it knows
+abbrev pub actor_at : Setup → ℕ → Actor
+actor_at s seat = cond (nat_lt seat s.clients) (Client (suc seat)) Server
+
+abbrev pub role_at : Setup → ℕ → Role
+role_at s seat = cond (nat_lt seat s.clients) (ClientRole (suc seat)) Serving
+
+abbrev pub HasRole : Actor → View → Type 0
+HasRole (Client n) v = v.pass.role ≡ ClientRole n
+HasRole Server v = v.pass.role ≡ Serving
+HasRole Restart v = ⊥
+
+-- Between any two steps of a pool that runs.
 pub record Running (p : Plain) : Type 0 where
-  pub rule : Rule p.setup.pool finite.empty [] p.words p.views (history p)
+  pub rule : Rule p.setup.pool p.first p.used p.words (p.views ++ p.absent) (history p)
   -- the entries that were entered begin the history
   pub entered : IsPrefix p.entries (history p)
   -- there is a list of all accesses, and it is the listed one where each port made one access at most
   pub story : (xs : List Access) × Leads p.setup.pool p.start p.words p.made xs × (p.traced ≡ true → p.whole ≡ true → xs ≡ p.accesses)
   -- without a trace nothing is listed
   pub untraced : p.traced ≡ false → p.accesses ≡ []
-  -- the seats are the clients, in the order of their numbers
-  pub roles : (i : ℕ) (v : View) → nth p.views i ≡ Some v → v.pass.role ≡ ClientRole (suc i)
+  -- each seat has its actor's role
+  pub roles : (i : ℕ) (v : View) → nth p.views i ≡ Some v → v.pass.role ≡ role_at p.setup i
 
--- Before it was preset.
-pub record IsBlank (p : Plain) : Type 0 where
-  pub words : (i : ℕ) → slice_index_or p.words i 0 ≡ 0
-  pub views : (i : ℕ) (v : View) → nth p.views i ≡ Some v → v ≡ outset p.setup
+-- what holds of a pool that runs; none is at rest yet
+abbrev pub Stands : Bool → Plain → Type 0
+Stands true p = Running p
+Stands false p = ⊥
+
+-- A run that has begun from a map with nothing and no used tag, and in which nothing has happened.
+pub record IsFresh (p : Plain) : Type 0 where
+  pub opened : p.opened ≡ true
+  pub first : p.first ≡ finite.empty
+  pub used : p.used ≡ []
+  pub start : p.start ≡ p.words
+  pub absent : p.absent ≡ []
+  pub history : history p ≡ []
   pub entries : p.entries ≡ []
   pub accesses : p.accesses ≡ []
   pub made : p.made ≡ 0
   pub whole : p.whole ≡ true
 
--- what holds of a pool that was preset, and of one that was not
-abbrev pub Stands : Bool → Plain → Type 0
-Stands true p = Running p
-Stands false p = IsBlank p
+-- the numbers of so many clients
+abbrev pub numbers : ℕ → List ℕ
+numbers zero = []
+numbers (suc n) = suc n ∷ numbers n
 
--- the seat of an actor; only clients have one yet
-abbrev pub HasSeat : Setup → Actor → ℕ → Type 0
-HasSeat s (Client n) seat = (1 ≤ n) × (n ≤ s.clients) × (suc seat ≡ n)
-HasSeat s Server seat = ⊥
-HasSeat s Restart seat = ⊥
-
-abbrev pub IsActor : Setup → Actor → Type 0
-IsActor s a = (seat : ℕ) × HasSeat s a seat
-
--- the role of what an actor knows
-abbrev pub HasRole : Actor → View → Type 0
-HasRole (Client n) v = v.pass.role ≡ ClientRole n
-HasRole Server v = ⊥
-HasRole Restart v = ⊥
+-- what the actor of a seat knows as a run begins from words of 0
+abbrev pub first_view : Setup → ℕ → View
+first_view s seat = record (alone (start_pass s.pool finite.empty [] (role_at s seat))) { server = record no_server { clients = cond (nat_lt seat s.clients) [] (numbers s.clients) } }
 
 -- there is room for one access and one entry
 pub record HasRoom (p : Plain) : Type 0 where
   pub access : p.traced ≡ true → 1 ≤ p.access_room
   pub entry : 1 ≤ p.entry_room
 
-abbrev pub access : ℕ → Act → Bool → Access
-access seat a refused = record { actor = Client (suc seat); act = a; refused = refused }
+abbrev pub access : Setup → ℕ → Act → Bool → Access
+access s seat a refused = record { actor = actor_at s seat; act = a; refused = refused }
 
 -- a list with one more access, where it is listed
 abbrev pub grown : Bool → List Access → Access → List Access
@@ -129,7 +160,10 @@ grown false xs x = xs
 -- what no access changes
 pub record Same (p q : Plain) : Type 0 where
   pub setup : q.setup ≡ p.setup
+  pub first : q.first ≡ p.first
+  pub used : q.used ≡ p.used
   pub start : q.start ≡ p.start
+  pub absent : q.absent ≡ p.absent
   pub entries : q.entries ≡ p.entries
   pub traced : q.traced ≡ p.traced
   pub opened : q.opened ≡ p.opened
@@ -140,7 +174,7 @@ pub record Stepped (a : Step) (b : Bool) (list : Bool) (seat x : ℕ) (p q : Pla
   pub found : x ≡ found p.setup.pool a p.words
   pub words : q.words ≡ words_after_step p.setup.pool a p.words
   pub views : q.views ≡ slice_set p.views seat (next_view b a (history p) (view_at p seat) x)
-  pub accesses : q.accesses ≡ grown (p.traced && list) p.accesses (access seat (act_of a x) false)
+  pub accesses : q.accesses ≡ grown (p.traced && list) p.accesses (access p.setup seat (act_of a x) false)
   pub made : q.made ≡ counted (p.made + 1)
   pub whole : q.whole ≡ (p.whole && list)
   pub same : Same p q
@@ -149,7 +183,7 @@ pub record Stepped (a : Step) (b : Bool) (list : Bool) (seat x : ℕ) (p q : Pla
 pub record Refused (a : Act) (seat : ℕ) (p q : Plain) : Type 0 where
   pub words : q.words ≡ p.words
   pub views : q.views ≡ p.views
-  pub accesses : q.accesses ≡ grown p.traced p.accesses (access seat a true)
+  pub accesses : q.accesses ≡ grown p.traced p.accesses (access p.setup seat a true)
   pub made : q.made ≡ p.made
   pub whole : q.whole ≡ p.whole
   pub same : Same p q
@@ -166,7 +200,10 @@ pub record Kept (p q : Plain) : Type 0 where
   pub made : q.made ≡ p.made
   pub whole : q.whole ≡ p.whole
   pub setup : q.setup ≡ p.setup
+  pub first : q.first ≡ p.first
+  pub used : q.used ≡ p.used
   pub start : q.start ≡ p.start
+  pub absent : q.absent ≡ p.absent
   pub entries : q.entries ≡ p.entries
   pub traced : q.traced ≡ p.traced
   pub opened : q.opened ≡ p.opened
@@ -179,7 +216,10 @@ pub record KeptButEntries (p q : Plain) : Type 0 where
   pub made : q.made ≡ p.made
   pub whole : q.whole ≡ p.whole
   pub setup : q.setup ≡ p.setup
+  pub first : q.first ≡ p.first
+  pub used : q.used ≡ p.used
   pub start : q.start ≡ p.start
+  pub absent : q.absent ≡ p.absent
   pub traced : q.traced ≡ p.traced
   pub opened : q.opened ≡ p.opened
   pub access_room : q.access_room ≡ p.access_room

@@ -1,5 +1,5 @@
 -- What an access of a port leaves of its pool.
-use Rattle.std.specs.Prelude.{◌≡◌, ℕ, Bool, true, false, Option, Some}
+use Rattle.std.specs.Prelude.{◌≡◌, ℕ, ◌++◌, Bool, true, false, Option, Some}
 use Rattle.std.proofs.Common.{sym, subst}
 use Rattle.clover_rule.specs.Rule.{longest}
 use Rattle.clover_rule.specs.declared.access.Act.{Act}
@@ -9,10 +9,10 @@ pub pool_same : {p q : Plain} → Same p q → q.setup.pool ≡ p.setup.pool
 pool_same s = λ i. (s.setup i).pool
 
 pub refused_view : {p q : Plain} {a : Act} (i j : ℕ) → j ≡ i → Refused a i p q → view_at q j ≡ view_at p i
-refused_view {p} {q} i j e r = λ k. view_at (record q { setup = r.same.setup k; views = r.views k }) (e k)
+refused_view {p} {q} i j e r = λ k. view_at (record q { views = r.views k }) (e k)
 
 pub refused_told : {p q : Plain} {a : Act} (i : ℕ) → Refused a i p q → Some (open_of q) ≡ Some (open_of p)
-refused_told i r = λ k. Some (record { words = r.words k; history = longest (r.views k) })
+refused_told i r = λ k. Some (record { words = r.words k; history = longest (r.views k ++ r.same.absent k) })
 
 -- which answer was foretold
 abbrev Foretold : Bool → Option Bool → Type 0

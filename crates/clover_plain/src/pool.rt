@@ -1,18 +1,21 @@
 // The pool: its words, the seats of its actors, the entries and the accesses that were made.
-ghost use Rattle.std.specs.Prelude.{◌≡◌, ◌≤◌, ◌<◌, ◌+◌, ◌++◌, ℕ, List, [], ◌∷◌, length, true, false, IfOk, OnOk, OnErr, replicate};
+ghost use Rattle.std.specs.Prelude.{◌≡◌, ◌≤◌, ◌<◌, ◌+◌, ◌++◌, ℕ, List, [], ◌∷◌, length, Some, true, false, IfOk, OnOk, replicate};
 ghost use Rattle.clover_words.specs.Place.{pool_words};
-ghost use Rattle.clover_plain.specs.Plain.{HasRoom, IsBlank, Kept, KeptButEntries, Leads, Running, history, outset, IsActor, HasSeat, HasRole, view_at};
-ghost use Rattle.clover_rule.specs.Lists.{IsPrefix};
+ghost use Rattle.clover_plain.specs.Plain.{HasRoom, IsFresh, Kept, KeptButEntries, Leads, Running, first_view, history, IsActor, HasSeat, HasRole, view_at};
+ghost use Rattle.clover_rule.specs.Lists.{IsPrefix, nth};
+ghost use Rattle.clover_rule.specs.Moves.{nobody};
 ghost use Rattle.clover_rule.specs.declared.access.Access.{Access};
+ghost use Rattle.clover_rule.specs.declared.view.View.{View};
 ghost use Rattle.clover_plain.specs.Kept.{AllFit, views_of};
 
+mod hand;
 mod preset;
 mod steps;
 #[cfg(test)]
 mod tests;
 
 use crate::port::PlainPort;
-use crate::seats::{Becomes, Beginning, Begun, Knowing};
+use crate::seats::{Becomes, Beginning, Begun, Knowing, begin, open_views};
 use atomic_table::{Seat, Table};
 use clover_map::{Entry, OutOfMemory};
 use clover_rule::{Access, Actor, View};
@@ -54,16 +57,16 @@ impl Model for PlainPool {
     ghost invariant = { IsKept };
 }
 
-// The seats of so many actors.
+// So many seats, of which nothing is known yet.
 fn seats_of(
     alloc: Global,
     knowing: &Knowing,
     first: Seat<(), View>,
     count: u32,
 ) -> Result<Vec<Seat<(), View>>, OutOfMemory>
-    requires first { (first.table_id ≡ knowing.now.shared.table_id) × (first.me.0 ≡ outset knowing.now.shared.key) }
+    requires first { (first.table_id ≡ knowing.now.shared.table_id) × (first.me.0 ≡ nobody) }
     requires one { (0 < knowing.now.shared.table_id.words) × (1 ≤ count) }
-    ensures seats { IfOk result (λ seats. AllFit knowing.now.shared.table_id seats.items × (views_of seats.items ≡ replicate count (outset knowing.now.shared.key))) }
+    ensures seats { IfOk result (λ seats. AllFit knowing.now.shared.table_id seats.items × (views_of seats.items ≡ replicate count nobody)) }
 {
     let mut seats = Vec::new(alloc);
     seats.reserve(count as usize)?;
@@ -86,18 +89,21 @@ fn zeros(alloc: Global, pool: &Pool) -> Result<Vec<u64>, OutOfMemory>
 }
 
 impl PlainPool {
-    /// A pool of words that are all 0, with no entry and no access; with `trace` it lists the accesses. It is to be
-    /// preset before a port is made. `OutOfMemory` for want of memory: this call takes all of it but that of the lists
-    /// of entries and accesses.
+    /// A pool of words that are all 0, as a run begins: the metadata server has every buffer and no binding, and the
+    /// clients know nothing. There is no entry and no access; with `trace` the pool lists the accesses. `OutOfMemory`
+    /// for want of memory: this call takes all of it but that of the lists of entries and accesses.
     pub fn make(alloc: Global, setup: Setup, trace: bool) -> Result<PlainPool, OutOfMemory>
         ensures setup { IfOk result (λ pool. (pool.setup ≡ setup) × (pool.traced ≡ trace)) }
         ensures words { IfOk result (λ pool. pool.words ≡ replicate (pool_words setup.pool) 0) }
-        ensures blank { IfOk result (λ pool. (pool.opened ≡ false) × IsBlank pool) }
+        ensures views { IfOk result (λ pool. (length pool.views ≡ setup.clients + 1) × ((i : ℕ) (v : View) → nth pool.views i ≡ Some v → v ≡ first_view setup i)) }
+        ensures fresh { IfOk result (λ pool. IsFresh pool) }
     {
         let words = zeros(alloc, &setup.pool)?;
         let (knowing, first) = Table::of_words(alloc, &[0], &setup)?;
-        let (beginning, begun) = Table::of_words(alloc, &[0], &())?;
-        let seats = seats_of(alloc, &knowing, first, setup.clients)?;
+        let (beginning, mut begun) = Table::of_words(alloc, &[0], &())?;
+        let mut seats = seats_of(alloc, &knowing, first, setup.clients + 1)?;
+        open_views(&setup, &knowing, &mut seats);
+        begin::<Brand>(&beginning, &mut begun, &words);
         Ok(PlainPool {
             setup,
             words,
@@ -109,7 +115,7 @@ impl PlainPool {
             traced: trace,
             trace: Vec::new(alloc),
             made: 0,
-            opened: false,
+            opened: true,
             whole: true,
         })
     }
@@ -134,25 +140,34 @@ impl PlainPool {
     /// A port makes and counts further accesses too, but lists the first one alone.
     pub fn port(&mut self, actor: Actor, refuse: bool) -> PlainPort<'_>
         requires opened { self.old.opened ≡ true }
-        requires actor { IsActor self.old.setup actor }
+        requires actor { IsActor self.old actor }
         requires room { HasRoom self.old }
         requires entered { self.old.entries ≡ history self.old }
-        ensures seat { HasSeat self.old.setup actor result.seat }
+        ensures seat { HasSeat self.old actor result.seat }
         ensures role { HasRole actor (view_at self.old result.seat) }
         ensures pool { (result.pool.now ≡ self.old) × (result.pool.ghost_name ≡ self.entry.ghost_name) }
         ensures fresh { (result.refuse ≡ refuse) × (result.list ≡ true) × (result.faults ≡ 0) }
     {
         let _ = &self.setup;
-        let seat = match actor {
-            Actor::Client(number) => number as usize - 1,
-            Actor::Server | Actor::Restart => unreachable!(),
-        };
+        let seat = self.seat_of(actor);
         PlainPort {
             pool: self,
             seat,
             refuse,
             list: true,
             faults: 0,
+        }
+    }
+
+    // The seat of an actor.
+    fn seat_of(&self, actor: Actor) -> usize
+        requires { IsActor self.now actor }
+        ensures { HasSeat self.now actor result }
+    {
+        match actor {
+            Actor::Client(number) => number as usize - 1,
+            Actor::Server => self.setup.clients as usize,
+            Actor::Restart => unreachable!(),
         }
     }
 
@@ -179,7 +194,7 @@ impl PlainPool {
     }
 
     /// The accesses, in order, refused ones among them; none without a trace. Where no port made a second access, they
-    /// are all accesses since the pool was preset.
+    /// are all accesses since the run began.
     pub fn accesses(&self) -> &[Access]
         ensures value { result.now ≡ self.now.accesses }
         ensures replay { self.now.opened ≡ true → self.now.traced ≡ true → self.now.whole ≡ true → Leads self.now.setup.pool self.now.start self.now.words self.now.made self.now.accesses }
@@ -196,11 +211,10 @@ impl PlainPool {
         self.made
     }
 
-    /// What holds of a pool that was preset between any two accesses, the rule above all, and what holds before. This
-    /// is for proofs, and does nothing.
+    /// What holds of a pool that runs between any two accesses, the rule above all. This is for proofs, and does
+    /// nothing.
     pub fn stands(&self)
         ensures running { self.now.opened ≡ true → Running self.now }
-        ensures blank { self.now.opened ≡ false → IsBlank self.now }
     {
         let _ = &self.setup;
     }

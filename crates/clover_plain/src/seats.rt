@@ -1,14 +1,15 @@
 // The seats of a pool's actors. What an actor knows is the meaning of its seat alone: a load of the one word of the
 // table by a seat gives it its next view, and nothing of a view stands at run time.
-ghost use Rattle.std.specs.Prelude.{◌≡◌, ◌<◌, ℕ, length, slice_set, IfOk, List, Some};
+ghost use Rattle.std.specs.Prelude.{◌≡◌, ◌<◌, ℕ, length, slice_set, List, Some};
 ghost use Rattle.clover_rule.specs.Lists.{nth};
 ghost use Rattle.clover_rule.specs.declared.view.View.{View};
 ghost use Rattle.clover_plain.specs.Kept.{AllFit, views_of};
+ghost use Rattle.clover_plain.specs.Plain.{actor_at, first_view};
 
 use atomic_table::{Play, Seat, Table, TableRule};
 use clover_map::Key;
-use clover_rule::View;
-use clover_words::{Setup, Side, Word};
+use clover_rule::{Actor, View};
+use clover_words::{Setup, Tag};
 use std::alloc::Global;
 use std::collections::LinkedList;
 use std::marker::{Brand, PhantomData};
@@ -17,11 +18,11 @@ use std::marker::{Brand, PhantomData};
 pub struct AnyStep;
 
 impl TableRule<(), View, Setup> for AnyStep {
-    ghost use Rattle.clover_plain.specs.Plain.{outset};
+    ghost use Rattle.clover_rule.specs.Moves.{nobody};
 
     ghost holds = { λ _ s. Unit {0} };
 
-    ghost first = { outset };
+    ghost first = { λ _. nobody };
 }
 
 /// The seats' table: no slot, and one word that is always 0.
@@ -49,9 +50,10 @@ impl<J: ViewName> Play<(), View> for Becomes<J> {
     ghost then = { λ _ before _ after. after.0 ≡ J.becomes before.0 };
 }
 
-/// The words with which a pool began.
+/// The words with which a pool began, and the views that no actor's seat holds.
 pub struct Beginning {
     pub words: LinkedList<u64>,
+    pub views: LinkedList<View>,
 }
 
 /// A rule that allows every step.
@@ -62,20 +64,29 @@ impl TableRule<(), Beginning, ()> for AnyBeginning {
 
     ghost holds = { λ _ s. Unit {0} };
 
-    ghost first = { λ _. record { words = [] } };
+    ghost first = { λ _. record { words = []; views = [] } };
 }
 
-/// A table whose one seat keeps the words with which the pool began.
+/// A table whose one seat keeps what the pool began with.
 pub type Begun = Table<(), Beginning, (), AnyBeginning, Global>;
+
+/// The actor of a seat.
+pub fn actor_of(setup: &Setup, seat: usize) -> Actor
+    ensures { result ≡ actor_at setup.now seat }
+{
+    if seat < setup.clients as usize {
+        Actor::Client(seat as u32 + 1)
+    } else {
+        Actor::Server
+    }
+}
 
 /// The seat at a place gets the named view. The other arguments are for that name alone.
 pub fn set_view<J: ViewName>(
     knowing: &Knowing,
+    begun: &Seat<(), Beginning>,
     seats: &mut Vec<Seat<(), View>>,
     at: usize,
-    word: Word,
-    side: Side,
-    value: u64,
     found: u64,
 )
     requires at { at < length seats.old.items }
@@ -84,12 +95,13 @@ pub fn set_view<J: ViewName>(
     ensures fits { AllFit knowing.now.shared.table_id seats.new.items }
     ensures length { length seats.new.items ≡ length seats.old.items }
 {
-    let _ = (word, side, value, found);
+    let _ = begun;
+    let _ = found;
     let seat = &mut seats[at];
     knowing.shared.load::<Becomes<J>>(seat, 0);
 }
 
-/// The seat of a client gets what the client knows in the preset pool.
+/// The seat at a place gets the view with which its actor begins. The other arguments are for that name alone.
 pub fn deal_view<J: ViewName>(
     setup: &Setup,
     knowing: &Knowing,
@@ -109,6 +121,41 @@ pub fn deal_view<J: ViewName>(
     knowing.shared.load::<Becomes<J>>(seat, 0);
 }
 
+/// The seat at a place gets the view that a grant leaves, the server's seat or a client's. The other arguments are
+/// for that name alone.
+pub fn hand_view<J: ViewName>(
+    knowing: &Knowing,
+    seats: &mut Vec<Seat<(), View>>,
+    at: usize,
+    serving: bool,
+    batch: &[Tag],
+    names: &[(u32, Key)],
+)
+    requires at { at < length seats.old.items }
+    requires fits { AllFit knowing.now.shared.table_id seats.old.items × (0 < knowing.now.shared.table_id.words) }
+    ensures views { (v : View) → nth (views_of seats.old.items) at ≡ Some v → views_of seats.new.items ≡ slice_set (views_of seats.old.items) at (J.becomes v) }
+    ensures fits { AllFit knowing.now.shared.table_id seats.new.items }
+    ensures length { length seats.new.items ≡ length seats.old.items }
+{
+    let _ = serving;
+    let _ = batch.len();
+    let _ = names.len();
+    let seat = &mut seats[at];
+    knowing.shared.load::<Becomes<J>>(seat, 0);
+}
+
+/// Each seat gets what its actor knows as a run begins from words of 0.
+pub fn open_views(setup: &Setup, knowing: &Knowing, seats: &mut Vec<Seat<(), View>>)
+    requires fits { AllFit knowing.now.shared.table_id seats.old.items × (0 < knowing.now.shared.table_id.words) }
+    ensures views { (i : ℕ) (v : View) → nth (views_of seats.new.items) i ≡ Some v → v ≡ first_view setup.now i }
+    ensures fits { AllFit knowing.now.shared.table_id seats.new.items }
+    ensures length { length seats.new.items ≡ length seats.old.items }
+{
+    for seat in 0..seats.len() {
+        deal_view::<Brand>(setup, knowing, seats, seat, &[]);
+    }
+}
+
 /// Names the words with which a pool begins.
 pub trait WordsName {
     ghost use Rattle.std.specs.Prelude.{List, ℕ};
@@ -122,7 +169,7 @@ impl WordsName for Brand {
     ghost words = { [] };
 }
 
-/// The seat keeps the named words.
+/// The seat keeps the named words, and the views that it has.
 pub struct Keeps<J> {
     of: PhantomData<J>,
 }
@@ -130,13 +177,14 @@ pub struct Keeps<J> {
 impl<J: WordsName> Play<(), Beginning> for Keeps<J> {
     ghost use Rattle.std.specs.Prelude.{◌≡◌};
 
-    ghost then = { λ _ _ _ after. after.0.words ≡ J.words };
+    ghost then = { λ _ before _ after. (after.0.words ≡ J.words) × (after.0.views ≡ before.0.views) };
 }
 
 /// The seat keeps the named words. The words that are passed are for that name alone.
 pub fn begin<J: WordsName>(beginning: &Begun, begun: &mut Seat<(), Beginning>, words: &Vec<u64>)
     requires fits { (begun.old.table_id ≡ beginning.now.shared.table_id) × (0 < beginning.now.shared.table_id.words) }
     ensures words { begun.new.me.0.words ≡ J.words }
+    ensures views { begun.new.me.0.views ≡ begun.old.me.0.views }
     ensures fits { begun.new.table_id ≡ beginning.now.shared.table_id }
 {
     let _ = words.len();

@@ -33,8 +33,10 @@ use Rattle.clover_rule.proofs.Standings.{tag_within}
 use Rattle.clover_rule.proofs.Steps.{each_map, each_within, within_prefix}
 use Rattle.clover_rule.proofs.Ties.{buffer_in}
 use Rattle.clover_rule.proofs.Tools.{nth_none, nth_past, nth_within}
-use Rattle.clover_plain.specs.Plain.{Plain, Running, history, view_at, outset}
+use Rattle.clover_rule.specs.Moves.{nobody}
+use Rattle.clover_plain.specs.Plain.{Plain, Running, history, view_at}
 use Rattle.clover_plain.specs.Preset.{tag_at as dealt_tag}
+use Rattle.clover_plain.proofs.Seating.{at_front}
 use Rattle.clover_plain.proofs.Stepping.{nth_default}
 use Rattle.clover_walk.specs.Alone.{Way, way_from, way_from_short, is_live, LeadsOver, ComesBy, HasVersion}
 use Rattle.clover_walk.specs.Standing.{number_of}
@@ -204,11 +206,11 @@ module _ (o : Opening) (rs : List Record) (p : Plain) (i : ℕ) (x : ClientState
   abbrev story : Story
   story = running.rule.story
 
-  met : Meets o.setup.pool finite.empty [] ws p.views story (history p)
-  met = subst (λ (s : Setup). Meets s.pool finite.empty [] ws p.views story (history p)) st.setup (subst (λ (l : List ℕ). Meets p.setup.pool finite.empty [] l p.views story (history p)) words running.rule.helped)
+  met : Meets o.setup.pool p.first p.used ws (p.views ++ p.absent) story (history p)
+  met = subst (λ (s : Setup). Meets s.pool p.first p.used ws (p.views ++ p.absent) story (history p)) st.setup (subst (λ (l : List ℕ). Meets p.setup.pool p.first p.used l (p.views ++ p.absent) story (history p)) words running.rule.helped)
 
   view_ok : ViewOk (mem_of o.setup.pool ws) story (history p) i (view_at p i)
-  view_ok = let seats = st.seats in let seat = st.seat in met.whole.basis.views i (view_at p i) (nth_default p.views i (outset p.setup) (omega arith))
+  view_ok = let seats = st.seats in let seat = st.seat in met.whole.basis.views i (view_at p i) (at_front p.views p.absent i (view_at p i) (nth_default p.views i nobody (omega arith)))
 
   has_key : story.keys slot ≡ Some (key_of call)
   has_key = (met.whole.basis.bound slot (key_of call) (subst (Within (slot, key_of call)) (sym view_ok.names.1) (within_prefix (slot, key_of call) (view_at p i).pass.names view_ok.names.0 (subst (Within (slot, key_of call)) (sym st.names) named)))).0
@@ -220,14 +222,14 @@ module _ (o : Opening) (rs : List Record) (p : Plain) (i : ℕ) (x : ClientState
   abbrev way : Way
   way = way_from (mem_of o.setup.pool ws) slot known
 
-  here : Comes o.setup.pool finite.empty [] ws p.views story (history p) met slot 2 way
-  here = comes o.setup.pool finite.empty [] ws p.views story (history p) met slot (key_of call) has_key known (is_durable cursor held)
+  here : Comes o.setup.pool p.first p.used ws (p.views ++ p.absent) story (history p) met slot 2 way
+  here = comes o.setup.pool p.first p.used ws (p.views ++ p.absent) story (history p) met slot (key_of call) has_key known (is_durable cursor held)
 
   comes_here : ComesBy ws (made_walk o.setup.pool slot known) known way here.onward.tags here.onward.tail
   comes_here = comes_made o.setup.pool ws slot known way here.onward.tags here.onward.tail
       (met.whole.help.keyed.slots slot (key_of call) has_key)
-      (IfSome_then known (is_durable cursor held) (durable_range o.setup.pool finite.empty [] ws p.views story (history p) met slot))
-      (short_range o.setup.pool finite.empty [] ws p.views story (history p) met slot ((mem_of o.setup.pool ws).short slot) refl)
+      (IfSome_then known (is_durable cursor held) (durable_range o.setup.pool p.first p.used ws (p.views ++ p.absent) story (history p) met slot))
+      (short_range o.setup.pool p.first p.used ws (p.views ++ p.absent) story (history p) met slot ((mem_of o.setup.pool ws).short slot) refl)
       refl here.onward.leads here.few
 
   abbrev own_tag : ℕ
@@ -243,7 +245,7 @@ module _ (o : Opening) (rs : List Record) (p : Plain) (i : ℕ) (x : ClientState
   -- the slot's chain from its root
   pub chain_here : HasChain o.setup.pool ws slot
   chain_here =
-      let f = from_root o.setup.pool finite.empty [] ws p.views story (history p) met slot (key_of call) has_key in
+      let f = from_root o.setup.pool p.first p.used ws (p.views ++ p.absent) story (history p) met slot (key_of call) has_key in
       record { tags = f.tags; tail = f.tail; leads = f.leads; version = f.version; has = f.has }
 
   module _ (may : MayBegin (ended (suc i) rs) (key_of call) known) where

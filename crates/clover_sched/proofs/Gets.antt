@@ -23,7 +23,8 @@ use Rattle.clover_rule.specs.declared.access.Act.{Act}
 use Rattle.clover_rule.specs.declared.view.View.{View}
 use Rattle.clover_rule.proofs.Tools.{length_snoc}
 use Rattle.clover_port.specs.Told.{Open, Made}
-use Rattle.clover_plain.specs.Plain.{Plain, Accessed, KeptButEntries, outset, view_at, history, open_of, access}
+use Rattle.clover_rule.specs.Moves.{nobody}
+use Rattle.clover_plain.specs.Plain.{Plain, Accessed, KeptButEntries, view_at, history, open_of}
 use Rattle.clover_cache.specs.Node.{Known, IsSet}
 use Rattle.clover_walk.specs.Ending.{Ended}
 use Rattle.clover_walk.specs.Walking.{Walking, Stand, AtShort, AtRoot, AtTag, AtLink, OnTail, Ended as StandEnded, IsOnWay, goes_from, goes_on, key_at, budget}
@@ -38,7 +39,7 @@ use Rattle.clover_sched.specs.declared.client.Underway.TheVariants.{Nothing, Get
 use Rattle.clover_sched.specs.declared.event.CallRefusal.TheVariants.{Unreached, Behind}
 use Rattle.clover_sched.specs.declared.event.Note.TheVariants.{Quiet, Answered, Refused}
 use Rattle.clover_sched.specs.Alone.{GetEnds, EndsIn, Advances}
-use Rattle.clover_sched.specs.Client.{Stands, Moved, MakesDue, Went, Matches, UnderMatches, IsUnder, IsCursor, AreCursors, SetsCursor, since_of, slot_of, spent, spent_by, taken_by}
+use Rattle.clover_sched.specs.Client.{access, Stands, Moved, MakesDue, Went, Matches, UnderMatches, IsUnder, IsCursor, AreCursors, SetsCursor, since_of, slot_of, spent, spent_by, taken_by}
 use Rattle.clover_sched.specs.Ends.{end_tag}
 use Rattle.clover_sched.specs.Folds.{Doing}
 use Rattle.clover_sched.specs.Run.{Opening, IsCommit, lost, most_made}
@@ -46,9 +47,9 @@ use Rattle.clover_sched.proofs.Advancing.{get_goes_on, get_answers, get_stays_ah
 use Rattle.clover_sched.proofs.Cursoring.{KnowsMore, knows_more, cursors_kept, cursors_set}
 use Rattle.clover_sched.proofs.GetCalls.{Misses, get_goes, get_falls, get_ends}
 use Rattle.clover_sched.proofs.Lefts.{get_few}
-use Rattle.clover_sched.proofs.Moving.{MadeSo, IsNoLink, made_so, refused_so, names_kept, moved_quiet, moved_entered, moved_refused}
+use Rattle.clover_sched.proofs.Moving.{MadeSo, IsNoLink, IsSeated, made_so, refused_so, names_kept, moved_quiet, moved_entered, moved_refused}
 use Rattle.clover_sched.proofs.Places.{same_snoc}
-use Rattle.clover_sched.proofs.Going.{step_refused}
+use Rattle.clover_sched.proofs.Going.{seat_below, step_refused}
 use Rattle.clover_sched.proofs.Stepping.{no_more, none_taken, plain_taken, made_step, stands_made, stands_entered, stands_refused}
 use Rattle.clover_sched.proofs.Walks.{Reads, on_walk, walk_reads, walk_links, walk_quiet}
 
@@ -188,8 +189,8 @@ module _ (o : Opening) (i : ℕ) (p : Plain) (x : ClientState) (g : Getting) (in
   taken_so : (d : Doing) → Matches x (view_at p i) d → x.taken ≡ d.taken
   taken_so d m = subst (λ (u : Underway). x.taken ≡ taken_by u d.taken) is m.taken
 
-  below : i < length p.views
-  below = let a = s.seats in let b = s.seat in omega arith
+  seated : IsSeated i p
+  seated = seat_below o p i x s
 
   spends : x.taken ≤ spent x
   spends = let e : spent x ≡ x.taken = ap (λ (u : Underway). spent_by u x.taken) is in omega arith
@@ -204,7 +205,7 @@ module _ (o : Opening) (i : ℕ) (p : Plain) (x : ClientState) (g : Getting) (in
   module _ (few : p.made < 2 ^ 64 - 1) (q : Plain) (n : ℕ) (made : Made p.setup.pool (get_step g (key_of g (view_at p i)) into) g.walk.first (view_at p i) (Some (open_of p)) n (view_at q i) (Some (open_of q)))
       (accessed : Accessed i true p q) where
     so : MadeSo i p q (get_step g (key_of g (view_at p i)) into) g.walk.first n
-    so = made_so i p q (get_step g (key_of g (view_at p i)) into) g.walk.first n few below s.role s.entered made accessed
+    so = made_so i p q (get_step g (key_of g (view_at p i)) into) g.walk.first n few seated s.role s.entered made accessed
 
     knows : KnowsMore (view_at p i) (view_at q i)
     knows = knows_more i p q (get_step g (key_of g (view_at p i)) into) g.walk.first n so
@@ -291,7 +292,7 @@ module _ (o : Opening) (i : ℕ) (p : Plain) (x : ClientState) (g : Getting) (in
       last = DecideNext ended.slot ended.tag (GetOf (key_of g (view_at p i))) reply
 
       last_so : MadeSo i p q last false (unlinked ended.tag)
-      last_so = made_so i p q last false (unlinked ended.tag) few below s.role s.entered ended.made accessed
+      last_so = made_so i p q last false (unlinked ended.tag) few seated s.role s.entered ended.made accessed
 
       -- the access was the load that decided the call
       last_act : act_of (get_step g (key_of g (view_at p i)) into) n ≡ act_of last (unlinked ended.tag)
@@ -322,7 +323,7 @@ module _ (o : Opening) (i : ℕ) (p : Plain) (x : ClientState) (g : Getting) (in
           let act : Act = act_of a n in
           let entry : Entry = record { client = c; number = x.number + 1; call = asked; reply = reply } in
           let moved : Moved i (access i act false) (Some entry) p r = moved_entered i p q r a g.walk.first n entry so s.entered (sym so.history ∙ grows) entries kept in
-          let there : view_at r i ≡ view_at q i = (λ z. get_or (kept.views z) i (outset (kept.setup z))) in
+          let there : view_at r i ≡ view_at q i = (λ z. get_or (kept.views z) i nobody) in
           let more : KnowsMore v (view_at r i) = subst (KnowsMore v) (sym there) knows in
           let new : IsCursor o.setup.pool (view_at r i) (g.walk.slot, tail) = subst (λ (w : View). IsCursor o.setup.pool w (g.walk.slot, tail)) (sym there) (subst (λ (z : Pool). InRange z (tag_number tail)) under.1 durable.0, durable.1) in
           let set = cursors_set o.setup.pool v (view_at r i) g.walk.slot tail x.cursors known more s.cursors new is_set in
@@ -357,7 +358,7 @@ module _ (o : Opening) (i : ℕ) (p : Plain) (x : ClientState) (g : Getting) (in
   -- the access was refused
   pub went_unreached : (q : Plain) → x.refusing ≡ true → view_at q i ≡ view_at p i → Accessed i true p q → Went o i x (at_rest x) p q (Refused (suc i) Unreached)
   went_unreached q refused same accessed =
-      let r = refused_so i p q below same accessed in
+      let r = refused_so i p q seated same accessed in
       record {
         access = access i r.act true;
         entry = None;

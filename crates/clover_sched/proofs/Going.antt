@@ -3,17 +3,19 @@ use Prim.Native.Nat.{suc}
 use Rattle.std.proofs.Common.{◌≡◌, ℕ, ◌<◌, List, [], ◌∷◌, ◌++◌, length, true, false, refl, sym, ap, ◌∙◌, arith, append-nil}
 use Rattle.std.specs.Prelude.{Option, Some, None}
 use Rattle.std.proofs.lemmas.Option.{same_Some}
+use Rattle.clover_words.specs.declared.setup.Setup.{Setup}
 use Rattle.clover_map.specs.History.{own}
 use Rattle.clover_map.specs.declared.call.Entry.{Entry}
 use Rattle.clover_script.specs.declared.line.Task.{Task}
 use Rattle.clover_rule.specs.declared.access.Access.{Access}
 use Rattle.clover_rule.specs.declared.access.Act.{Act}
-use Rattle.clover_plain.specs.Plain.{Plain, view_at, access}
+use Rattle.clover_plain.specs.Plain.{Plain, view_at}
+use Rattle.clover_sched.proofs.Moving.{IsSeated}
 use Rattle.clover_sched.proofs.Stepping.{task_there, own_more}
 use Rattle.clover_sched.specs.declared.client.ClientState.{ClientState}
 use Rattle.clover_sched.specs.declared.event.Note.{Note}
 use Rattle.clover_sched.specs.declared.event.Note.TheVariants.{Refused}
-use Rattle.clover_sched.specs.Client.{Stands, Moved, IsUnder, AreCursors, stock_at, step_record}
+use Rattle.clover_sched.specs.Client.{access, Stands, Moved, IsUnder, AreCursors, stock_at, step_record}
 use Rattle.clover_sched.specs.Folds.{Doing}
 use Rattle.clover_sched.specs.Run.{Opening, IsStep, IsBlank, lost}
 
@@ -32,8 +34,8 @@ step_refused o i d ws n act note t task going blank told = record {
 }
 
 -- a seat that stands is one of the pool's
-pub seat_below : (o : Opening) (p : Plain) (i : ℕ) (x : ClientState) → Stands o p i x → i < length p.views
-seat_below o p i x s = let a = s.seat in let b = s.seats in omega arith
+pub seat_below : (o : Opening) (p : Plain) (i : ℕ) (x : ClientState) → Stands o p i x → IsSeated i p
+seat_below o p i x s = let a = s.seat in let b = s.seats in let c = ap (λ (z : Setup). z.clients) s.setup in (omega arith, omega arith)
 
 -- the client stands behind an access
 pub stands_moved : (o : Opening) (i : ℕ) (x y : ClientState) (p q : Plain) (a : Access) (e : Option Entry) → Stands o p i x → Moved i a e p q

@@ -6,6 +6,7 @@ use Rattle.std.proofs.lemmas.Result.{IfOk-weaker}
 use Rattle.std.proofs.lemmas.Option.{IfSome_then, same_Some}
 use Rattle.clover_words.specs.Tag.{tag_number}
 use Rattle.clover_map.specs.Legal.{Legal}
+use Rattle.clover_map.specs.Tagged.{Tagged}
 use Rattle.clover_map.specs.declared.bytes.OutOfMemory.{OutOfMemory}
 use Rattle.clover_map.specs.declared.call.Entry.{Entry}
 use Rattle.clover_words.specs.Preset.{HasDealt}
@@ -21,7 +22,8 @@ use Rattle.clover_rule.specs.declared.access.Access.{Access}
 use Rattle.clover_rule.specs.declared.view.View.{View}
 use Rattle.clover_rule.proofs.Steps.{set_here}
 use Rattle.clover_rule.proofs.Tools.{nth_past}
-use Rattle.clover_plain.specs.Plain.{Plain, Kept, Running, history, view_at, outset}
+use Rattle.clover_rule.specs.Moves.{nobody}
+use Rattle.clover_plain.specs.Plain.{Plain, Kept, Running, history, view_at}
 use Rattle.clover_script.specs.Form.{call_in}
 use Rattle.clover_script.specs.Lines.{takes}
 use Rattle.clover_script.specs.declared.line.Task.{Task}
@@ -108,7 +110,7 @@ module _ (m : Parts) (a : ℕ) (one : 1 ≤ a) where
   step_happens x y q note here went running o rs at =
       let w = went o (a - 1) same_actor (at.each (a - 1) x here).stands in
       let runs : Running q = running (w.moved.opened ∙ at.pool.opened) in
-      let legal : Legal finite.empty [] (history q) = runs.rule.history_and_map.legal in
+      let legal : Legal finite.empty [] (history q) = subst (λ (f : Tagged). Legal f [] (history q)) (w.moved.first ∙ at.pool.first) (subst (λ (u : List ℕ). Legal q.first u (history q)) (w.moved.used ∙ at.pool.used) runs.rule.history_and_map.legal) in
       (_, ap Step same_actor, refl, stepped_client o m rs at (a - 1) x y q note here w runs (subst (λ (h : List Entry). Legal finite.empty [] h) (sym w.moved.entered) legal), went_told o m (a - 1) x y q note w)
 
 pub kept_at : (o : Opening) (m n : Parts) (rs : List Record) → IsSame m n → IsAt o m rs → IsAt o n rs
@@ -123,11 +125,13 @@ kept_at o m n rs same at =
       pool = record {
         setup = k.setup ∙ at.pool.setup;
         start = k.start ∙ at.pool.start;
+        first = k.first ∙ at.pool.first;
+        used = k.used ∙ at.pool.used;
         opened = k.opened ∙ at.pool.opened;
         whole = k.whole ∙ at.pool.whole;
         words = k.words ∙ at.pool.words;
         entries = k.entries ∙ at.pool.entries;
-        entered = k.entries ∙ at.pool.entered ∙ ap longest (sym k.views);
+        entered = k.entries ∙ at.pool.entered ∙ sym (λ z. longest (k.views z ++ k.absent z));
         accesses = k.accesses ∙ at.pool.accesses ∙ ap (λ (b : Bool). if b then accesses_in rs else []) (sym k.traced);
         made = k.made ∙ at.pool.made;
         seats = ap length k.views ∙ at.pool.seats;
@@ -147,7 +151,7 @@ kept_at o m n rs same at =
     }
   where
     view : (i : ℕ) → view_at n.pool i ≡ view_at m.pool i
-    view i = ap (λ (s : Setup). get_or n.pool.views i (outset s)) same.pool.setup ∙ ap (λ (vs : List View). get_or vs i (outset m.pool.setup)) same.pool.views
+    view i = ap (λ (vs : List View). get_or vs i nobody) same.pool.views
 
 -- a client whose step found no memory
 pub same_parts : (m : Parts) (i : ℕ) (x y : ClientState) (q : Plain) → nth m.clients i ≡ Some x → y ≡ x → Kept m.pool q → IsSame m (with_pool m i y q)

@@ -1,5 +1,6 @@
 -- The machine as it is made: the preset pool, and clients that have done nothing.
 use Rattle.std.proofs.Common.{◌≡◌, ℕ, ◌≤◌, ◌<◌, ◌-◌, suc, length, List, [], ◌∷◌, ◌++◌, Bool, true, false, replicate, refl, sym, ap, ◌∙◌, subst, arith}
+use Rattle.std.specs.FinMap as finite
 use Rattle.std.specs.Prelude.{Some, None, slice_get, if◌then◌else◌}
 use Rattle.std.proofs.lemmas.List.Elements.{All-nil}
 use Rattle.std.proofs.lemmas.List.{length-replicate}
@@ -13,7 +14,8 @@ use Rattle.clover_rule.specs.Preset.{bindings_from}
 use Rattle.clover_rule.specs.declared.access.Access.{Access}
 use Rattle.clover_rule.specs.declared.view.View.{View}
 use Rattle.clover_rule.proofs.Tools.{nth_within}
-use Rattle.clover_plain.specs.Plain.{Plain, Running, view_at, history, outset}
+use Rattle.clover_rule.specs.Moves.{nobody}
+use Rattle.clover_plain.specs.Plain.{Plain, Running, view_at, history}
 use Rattle.clover_plain.specs.Preset.{IsPreset, start_view, dealt_from, AreDistinct}
 use Rattle.clover_plain.proofs.Stepping.{nth_default}
 use Rattle.clover_sched.specs.Alone.{AllFound, HasChain}
@@ -37,6 +39,8 @@ pub record IsFresh (s : Setup) (keys : List (List ℕ)) (p : Plain) : Type 0 whe
   pub setup : p.setup ≡ s
   pub opened : p.opened ≡ true
   pub preset : IsPreset s keys p.words
+  pub first : p.first ≡ finite.empty
+  pub used : p.used ≡ []
   pub start : p.start ≡ p.words
   pub views : (i : ℕ) (v : View) → nth p.views i ≡ Some v → v ≡ start_view s keys i
   pub seats : length p.views ≡ s.clients
@@ -64,6 +68,8 @@ made_at m s keys setup names slots apart running fresh clients = record {
   pool = record {
     setup = fresh.setup;
     start = fresh.start;
+    first = fresh.first;
+    used = fresh.used;
     opened = fresh.opened;
     whole = fresh.whole;
     words = refl;
@@ -86,7 +92,7 @@ made_at m s keys setup names slots apart running fresh clients = record {
     none false = refl
 
     view : (i : ℕ) → i < s.clients → view_at m.pool i ≡ start_view s keys i
-    view i below = fresh.views i (view_at m.pool i) (nth_default m.pool.views i (outset m.pool.setup) (omega (arith, below, fresh.seats)))
+    view i below = fresh.views i (view_at m.pool i) (nth_default m.pool.views i nobody (omega (arith, below, fresh.seats)))
 
     stands : (i : ℕ) → i < s.clients → Stands (record { setup = s; words = m.pool.words; names = bindings_from 0 keys }) m.pool i idle_client
     stands i below = record {

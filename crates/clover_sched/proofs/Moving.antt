@@ -21,11 +21,15 @@ use Rattle.clover_rule.specs.declared.access.Act.{Act}
 use Rattle.clover_rule.specs.declared.view.Role.{Role}
 use Rattle.clover_rule.specs.declared.view.Role.TheVariants.{Client as ClientRole}
 use Rattle.clover_rule.specs.declared.view.View.{View}
+use Rattle.clover_rule.specs.declared.access.Actor.TheVariants.{Client, Server}
 use Rattle.clover_rule.proofs.Acting.{access_law}
+use Rattle.clover_rule.proofs.Ties.{test_below}
+use Rattle.clover_words.specs.declared.setup.Setup.{Setup}
 use Rattle.clover_port.specs.Told.{Open, Made}
 use Rattle.clover_walk.proofs.Endings.{stepped}
-use Rattle.clover_plain.specs.Plain.{Plain, Stepped, Accessed, KeptButEntries, outset, view_at, history, open_of, grown, access}
-use Rattle.clover_sched.specs.Client.{Moved}
+use Rattle.clover_rule.specs.Moves.{nobody}
+use Rattle.clover_plain.specs.Plain.{Plain, Stepped, Accessed, KeptButEntries, view_at, history, open_of, grown, access as listed_access}
+use Rattle.clover_sched.specs.Client.{access, Moved}
 use Rattle.clover_sched.specs.Run.{IsBlank}
 use Rattle.clover_sched.proofs.Places.{same_snoc}
 
@@ -112,6 +116,13 @@ stock_kept a b h v x n = stock_learned a h v x n
 pub stock_missed : (s u t : ℕ) (c : Call) (b : Bool) (h : List Entry) (v : View) (x : ℕ) → (x == unlinked u) ≡ false → (next_view b (LinkNext s u t c) h v x).pass.stock ≡ v.pass.stock
 stock_missed s u t c b h v x e = ap (λ (k : Bool). (cond k (link_view v h (client v) s u t c (reply_of t c) (rest_of v.pass.stock)) (seen s u v (next_of x))).pass.stock) e ∙ stock_seen s u v (next_of x)
 
+-- the seat is a client's
+abbrev pub IsSeated : ℕ → Plain → Type 0
+IsSeated i p = (i < length p.views) × (i < p.setup.clients)
+
+client_access : (s : Setup) (i : ℕ) (act : Act) (refused : Bool) → i < s.clients → listed_access s i act refused ≡ access i act refused
+client_access s i act refused h = ap (λ (b : Bool). record { actor = cond b (Client (suc i)) Server; act = act; refused = refused }) (test_below i s.clients h)
+
 -- The access of the client of seat i was this step and found this number.
 pub record MadeSo (i : ℕ) (p q : Plain) (a : Step) (b : Bool) (x : ℕ) : Type 0 where
   pub came : CameBack p.setup.pool p.words (act_of a x)
@@ -130,6 +141,8 @@ pub record MadeSo (i : ℕ) (p q : Plain) (a : Step) (b : Bool) (x : ℕ) : Type
   pub whole : q.whole ≡ p.whole
   pub setup : q.setup ≡ p.setup
   pub start : q.start ≡ p.start
+  pub first : q.first ≡ p.first
+  pub used : q.used ≡ p.used
   pub traced : q.traced ≡ p.traced
   pub opened : q.opened ≡ p.opened
   pub number : length (view_at p i).pass.calls ≡ length (own p.entries (suc i))
@@ -147,6 +160,8 @@ pub record RefusedSo (i : ℕ) (p q : Plain) : Type 0 where
   pub whole : q.whole ≡ p.whole
   pub setup : q.setup ≡ p.setup
   pub start : q.start ≡ p.start
+  pub first : q.first ≡ p.first
+  pub used : q.used ≡ p.used
   pub traced : q.traced ≡ p.traced
   pub opened : q.opened ≡ p.opened
 
@@ -169,7 +184,7 @@ own_calls r c calls h e k = subst (λ (z : Role). OwnCalls z calls h) e k ∙ ow
 no_both : (v w : View) (a : Step) (b : Bool) (h : List Entry) (x : ℕ) → w ≡ next_view b a h v x → w ≡ v → ⊥
 no_both v w a b h x e f = let g : v.pass.made ≡ suc v.pass.made = ap (λ (z : View). z.pass.made) (sym f ∙ e) ∙ made_next a b h v x in absurd (omega arith)
 
-module _ (i : ℕ) (p q : Plain) (a : Step) (b : Bool) (x : ℕ) (few : p.made < 2 ^ 64 - 1) (below : i < length p.views) (role : (view_at p i).pass.role ≡ ClientRole (suc i)) (entered : p.entries ≡ history p)
+module _ (i : ℕ) (p q : Plain) (a : Step) (b : Bool) (x : ℕ) (few : p.made < 2 ^ 64 - 1) (here : IsSeated i p) (role : (view_at p i).pass.role ≡ ClientRole (suc i)) (entered : p.entries ≡ history p)
     (m : Made p.setup.pool a b (view_at p i) (Some (open_of p)) x (view_at q i) (Some (open_of q))) where
   hist : m.now.history ≡ history p
   hist = ap (λ (o : Open). o.history) (sym m.tells.0)
@@ -197,25 +212,27 @@ module _ (i : ℕ) (p q : Plain) (a : Step) (b : Bool) (x : ℕ) (few : p.made <
 
   stepped_so : (a1 : Step) (b1 : Bool) (x1 : ℕ) → Stepped a1 b1 true i x1 p q → MadeSo i p q a b x
   stepped_so a1 b1 x1 s =
-      let there : view_at q i ≡ next_view b1 a1 (history p) (view_at p i) x1 = ap (λ (l : List View). get_or l i (outset q.setup)) s.views ∙ get_or-set_same p.views i _ (outset q.setup) below in
+      let there : view_at q i ≡ next_view b1 a1 (history p) (view_at p i) x1 = ap (λ (l : List View). get_or l i nobody) s.views ∙ get_or-set_same p.views i _ nobody here.0 in
       let same : act_of a1 x1 ≡ act_of a x = (same_snoc (cond b1 [] (view_at p i).pass.since) (cond b [] (view_at p i).pass.since) (act_of a1 x1) (act_of a x) (sym (since_next a1 b1 (history p) (view_at p i) x1) ∙ ap (λ (v : View). v.pass.since) (sym there ∙ view) ∙ since_next a b (history p) (view_at p i) x)).1 in
       record {
         came = came;
         words = words;
         here = m.told.here ∙ ap (found p.setup.pool a) words_now;
         after = ap (λ (o : Open). o.words) open_now ∙ ap (words_after_step p.setup.pool a) words_now;
-        others = λ j ne. ap (λ (l : List View). get_or l j (outset q.setup)) s.views ∙ get_or-set_other p.views i j _ _ ne ∙ ap (λ z. get_or p.views j (outset z)) s.same.setup;
+        others = λ j ne. ap (λ (l : List View). get_or l j nobody) s.views ∙ get_or-set_other p.views i j _ _ ne;
         seats = ap length s.views ∙ length-set p.views i _;
         view = view;
         pool = (stepped p.setup.pool a b (view_at p i) (Some (open_of p)) x (view_at q i) (Some (open_of q)) m).pool;
         since = ap (λ (v : View). v.pass.since) view ∙ since_next a b (history p) (view_at p i) x;
         history = history_now;
         entries = s.same.entries;
-        accesses = s.accesses ∙ grown_listed p.traced p.accesses (access i (act_of a1 x1) false) ∙ ap (λ (z : Act). if p.traced then p.accesses ++ access i z false ∷ [] else p.accesses) same;
+        accesses = s.accesses ∙ ap (grown (p.traced && true) p.accesses) (client_access p.setup i (act_of a1 x1) false here.1) ∙ grown_listed p.traced p.accesses (access i (act_of a1 x1) false) ∙ ap (λ (z : Act). if p.traced then p.accesses ++ access i z false ∷ [] else p.accesses) same;
         made = s.made ∙ (let n = few in omega arith);
         whole = s.whole ∙ whole_listed p.whole;
         setup = s.same.setup;
         start = s.same.start;
+        first = s.same.first;
+        used = s.same.used;
         traced = s.same.traced;
         opened = s.same.opened;
         number = number;
@@ -223,7 +240,7 @@ module _ (i : ℕ) (p q : Plain) (a : Step) (b : Bool) (x : ℕ) (few : p.made <
 
   pub made_so : Accessed i true p q → MadeSo i p q a b x
   made_so (inl (a1, b1, x1, s)) = stepped_so a1 b1 x1 s
-  made_so (inr (a1, r)) = absurd (no_both (view_at p i) (view_at q i) a b (history p) x view (λ k. get_or (r.views k) i (outset (r.same.setup k))))
+  made_so (inr (a1, r)) = absurd (no_both (view_at p i) (view_at q i) a b (history p) x view (λ k. get_or (r.views k) i nobody))
 
 -- a refused step has no number
 blank_act : (a : Step) → IsBlank (act_of a 0)
@@ -235,20 +252,22 @@ blank_act a = by (operation_of a) (word_of a)
     by (exchanges expected new) w = refl
     by (raises y) w = refl
 
-pub refused_so : (i : ℕ) (p q : Plain) → i < length p.views → view_at q i ≡ view_at p i → Accessed i true p q → RefusedSo i p q
-refused_so i p q below same (inl (a, b, x, s)) = absurd (no_both (view_at p i) (view_at q i) a b (history p) x (ap (λ (l : List View). get_or l i (outset q.setup)) s.views ∙ get_or-set_same p.views i _ (outset q.setup) below) same)
-refused_so i p q below same (inr (a, r)) = record {
+pub refused_so : (i : ℕ) (p q : Plain) → IsSeated i p → view_at q i ≡ view_at p i → Accessed i true p q → RefusedSo i p q
+refused_so i p q here same (inl (a, b, x, s)) = absurd (no_both (view_at p i) (view_at q i) a b (history p) x (ap (λ (l : List View). get_or l i nobody) s.views ∙ get_or-set_same p.views i _ nobody here.0) same)
+refused_so i p q here same (inr (a, r)) = record {
   act = act_of a 0;
   blank = blank_act a;
   words = r.words;
   views = r.views;
-  history = ap Rattle.clover_rule.specs.Rule.longest r.views;
+  history = λ k. Rattle.clover_rule.specs.Rule.longest (r.views k ++ r.same.absent k);
   entries = r.same.entries;
-  accesses = r.accesses ∙ grown_refused p.traced p.accesses (access i (act_of a 0) true);
+  accesses = r.accesses ∙ ap (grown p.traced p.accesses) (client_access p.setup i (act_of a 0) true here.1) ∙ grown_refused p.traced p.accesses (access i (act_of a 0) true);
   made = r.made;
   whole = r.whole;
   setup = r.same.setup;
   start = r.same.start;
+  first = r.same.first;
+  used = r.same.used;
   traced = r.same.traced;
   opened = r.same.opened;
 }
@@ -267,6 +286,8 @@ moved_quiet i p q a b x m e n = record {
   whole = m.whole;
   setup = m.setup;
   start = m.start;
+  first = m.first;
+  used = m.used;
   traced = m.traced;
   opened = m.opened;
 }
@@ -276,16 +297,18 @@ pub moved_entered : (i : ℕ) (p q r : Plain) (a : Step) (b : Bool) (x : ℕ) (e
     → r.entries ≡ q.entries ++ e ∷ [] → KeptButEntries q r → Moved i (access i (act_of a x) false) (Some e) p r
 moved_entered i p q r a b x e m entered n more k = record {
   words = k.words ∙ m.words;
-  last = λ free. (cond b [] (view_at p i).pass.since, (λ z. (get_or (k.views z) i (outset (k.setup z))).pass.since) ∙ m.since);
-  others = λ j ne. (λ z. get_or (k.views z) j (outset (k.setup z))) ∙ m.others j ne;
+  last = λ free. (cond b [] (view_at p i).pass.since, (λ z. (get_or (k.views z) i nobody).pass.since) ∙ m.since);
+  others = λ j ne. (λ z. get_or (k.views z) j nobody) ∙ m.others j ne;
   seats = ap length k.views ∙ m.seats;
   entries = more ∙ ap (λ (l : List Entry). l ++ e ∷ []) m.entries;
-  entered = more ∙ ap (λ (l : List Entry). l ++ e ∷ []) (m.entries ∙ entered) ∙ sym n ∙ sym m.history ∙ sym (ap Rattle.clover_rule.specs.Rule.longest k.views);
+  entered = more ∙ ap (λ (l : List Entry). l ++ e ∷ []) (m.entries ∙ entered) ∙ sym n ∙ sym m.history ∙ sym (λ j. Rattle.clover_rule.specs.Rule.longest (k.views j ++ k.absent j));
   accesses = k.accesses ∙ m.accesses;
   made = k.made ∙ m.made;
   whole = k.whole ∙ m.whole;
   setup = k.setup ∙ m.setup;
   start = k.start ∙ m.start;
+  first = k.first ∙ m.first;
+  used = k.used ∙ m.used;
   traced = k.traced ∙ m.traced;
   opened = k.opened ∙ m.opened;
 }
@@ -295,7 +318,7 @@ pub moved_refused : (i : ℕ) (p q : Plain) (h : RefusedSo i p q) → p.entries 
 moved_refused i p q h e = record {
   words = h.words;
   last = λ made. absurd (let z : true ≡ false = made in cc);
-  others = λ j ne. λ z. get_or (h.views z) j (outset (h.setup z));
+  others = λ j ne. λ z. get_or (h.views z) j nobody;
   seats = ap length h.views;
   entries = h.entries ∙ sym (append-nil p.entries);
   entered = h.entries ∙ e ∙ sym h.history;
@@ -304,6 +327,8 @@ moved_refused i p q h e = record {
   whole = h.whole;
   setup = h.setup;
   start = h.start;
+  first = h.first;
+  used = h.used;
   traced = h.traced;
   opened = h.opened;
 }

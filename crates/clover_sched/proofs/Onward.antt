@@ -83,6 +83,8 @@ still_pool : (o : Opening) (p : Plain) (rs : List Record) (r : Record) → IsPoo
 still_pool o p rs r at a e = record {
   setup = at.setup;
   start = at.start;
+  first = at.first;
+  used = at.used;
   opened = at.opened;
   whole = at.whole;
   words = at.words ∙ sym (words_more o.setup.pool o.words rs r ∙ ap (words_by o.setup.pool (words_after o.setup.pool o.words rs)) a);
@@ -379,6 +381,8 @@ moved_pool o i x e note p q rs at moved =
     record {
       setup = moved.setup ∙ at.setup;
       start = moved.start ∙ at.start;
+      first = moved.first ∙ at.first;
+      used = moved.used ∙ at.used;
       opened = moved.opened ∙ at.opened;
       whole = moved.whole ∙ at.whole;
       words = moved.words ∙ ap (λ (s : Setup). words_by s.pool p.words (Some x)) at.setup ∙ ap (λ (w : List ℕ). words_by o.setup.pool w (Some x)) at.words ∙ sym (words_more o.setup.pool o.words rs r);

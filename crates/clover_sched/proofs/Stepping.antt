@@ -18,12 +18,13 @@ use Rattle.clover_rule.specs.Steps.{Step, act_of, reply_of}
 use Rattle.clover_rule.specs.declared.access.Access.{Access}
 use Rattle.clover_rule.specs.declared.access.Act.{Act}
 use Rattle.clover_rule.specs.declared.view.View.{View}
-use Rattle.clover_plain.specs.Plain.{Plain, Accessed, Kept, KeptButEntries, outset, view_at, history, access}
+use Rattle.clover_rule.specs.Moves.{nobody}
+use Rattle.clover_plain.specs.Plain.{Plain, Accessed, Kept, KeptButEntries, view_at, history}
 use Rattle.clover_rule.proofs.Acting.{role_kept}
 use Rattle.clover_sched.specs.declared.client.ClientState.{ClientState}
 use Rattle.clover_sched.specs.declared.event.Note.{Note}
 use Rattle.clover_sched.specs.Alone.{EndsIn}
-use Rattle.clover_sched.specs.Client.{stock_at, Stands, Moved, Went, Matches, IsUnder, AreCursors, since_of, step_record}
+use Rattle.clover_sched.specs.Client.{access, stock_at, Stands, Moved, Went, Matches, IsUnder, AreCursors, since_of, step_record}
 use Rattle.clover_sched.specs.Folds.{Doing, listed, words_by, made_by, takes_by}
 use Rattle.clover_sched.specs.Run.{Opening, IsStep, IsEntry, IsCause, IsCommit, Wrote, most_made}
 use Rattle.clover_sched.proofs.Moving.{MadeSo, RefusedSo, IsNoLink, names_kept, stock_kept}
@@ -58,7 +59,7 @@ one_taken n t call o is = let e : takes_by o ≡ 1 = ap takes_by is ∙ go call 
 
 -- room that was made changes nothing of what is said
 pub kept_view : (i : ℕ) (p q : Plain) → Kept p q → view_at q i ≡ view_at p i
-kept_view i p q k = λ z. get_or (k.views z) i (outset (k.setup z))
+kept_view i p q k = λ z. get_or (k.views z) i nobody
 
 pub stands_kept : (o : Opening) (p q : Plain) (i : ℕ) (x : ClientState) → Kept p q → Stands o p i x → Stands o q i x
 stands_kept o p q i x k s =
@@ -66,7 +67,7 @@ stands_kept o p q i x k s =
     record {
       setup = k.setup ∙ s.setup;
       opened = k.opened ∙ s.opened;
-      entered = k.entries ∙ s.entered ∙ sym (ap longest k.views);
+      entered = k.entries ∙ s.entered ∙ sym (λ z. longest (k.views z ++ k.absent z));
       seat = s.seat;
       seats = ap length k.views ∙ s.seats;
       pool = ap (λ (v : View). v.pass.pool) e ∙ s.pool;
@@ -91,6 +92,8 @@ moved_kept i a e p p1 q k m = record {
   whole = m.whole ∙ k.whole;
   setup = m.setup ∙ k.setup;
   start = m.start ∙ k.start;
+  first = m.first ∙ k.first;
+  used = m.used ∙ k.used;
   traced = m.traced ∙ k.traced;
   opened = m.opened ∙ k.opened;
 }
@@ -165,7 +168,7 @@ module _ (o : Opening) (i : ℕ) (p : Plain) (x y : ClientState) (s : Stands o p
   pub stands_entered : (q r : Plain) (a : Step) (b : Bool) (n : ℕ) (e : Entry) → MadeSo i p q a b n → IsNoLink a → Moved i (access i (act_of a n) false) (Some e) p r → KeptButEntries q r
       → e.client ≡ suc i → y.taken ≡ x.taken → y.number ≡ x.number + 1 → IsUnder o.setup.pool (view_at r i) y.under → AreCursors o.setup.pool (view_at r i) y.cursors → Stands o r i y
   stands_entered q r a b n e m free moved k client taken number under cursors =
-      let there : view_at r i ≡ view_at q i = λ z. get_or (k.views z) i (outset (k.setup z)) in
+      let there : view_at r i ≡ view_at q i = λ z. get_or (k.views z) i nobody in
       record {
         setup = moved.setup ∙ s.setup;
         opened = moved.opened ∙ s.opened;
@@ -184,7 +187,7 @@ module _ (o : Opening) (i : ℕ) (p : Plain) (x y : ClientState) (s : Stands o p
   -- where it stands behind a refused access
   pub stands_refused : (q : Plain) → RefusedSo i p q → y.taken ≡ x.taken → y.number ≡ x.number → IsUnder o.setup.pool (view_at q i) y.under → y.cursors ≡ x.cursors → Stands o q i y
   stands_refused q r taken number under cursors =
-      let there : view_at q i ≡ view_at p i = λ z. get_or (r.views z) i (outset (r.setup z)) in
+      let there : view_at q i ≡ view_at p i = λ z. get_or (r.views z) i nobody in
       record {
         setup = r.setup ∙ s.setup;
         opened = r.opened ∙ s.opened;

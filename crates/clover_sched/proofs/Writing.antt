@@ -28,7 +28,8 @@ use Rattle.clover_rule.specs.declared.view.View.{View}
 use Rattle.clover_rule.proofs.Steps.{within_last}
 use Rattle.clover_rule.proofs.Tools.{length_snoc}
 use Rattle.clover_port.specs.Told.{Open, Made}
-use Rattle.clover_plain.specs.Plain.{Plain, Accessed, KeptButEntries, view_at, history, open_of, access, outset}
+use Rattle.clover_rule.specs.Moves.{nobody}
+use Rattle.clover_plain.specs.Plain.{Plain, Accessed, KeptButEntries, view_at, history, open_of}
 use Rattle.clover_rule.proofs.Acting.{role_kept}
 use Rattle.clover_cache.specs.Node.{Known, IsSet}
 use Rattle.clover_walk.specs.Ending.{Ended}
@@ -50,7 +51,7 @@ use Rattle.clover_sched.specs.declared.event.CallRefusal.TheVariants as why
 use Rattle.clover_sched.specs.declared.event.Note.{Note}
 use Rattle.clover_sched.specs.declared.event.Note.TheVariants.{Quiet, Answered, Refused}
 use Rattle.clover_sched.specs.Alone.{PutEnds, EndsIn, Advances}
-use Rattle.clover_sched.specs.Client.{Stands, Moved, MakesDue, Matches, UnderMatches, Went, IsUnder, HasLinked, IsCursor, AreCursors, SetsCursor, stock_at, step_record, since_of, slot_of, spent_by, taken_by}
+use Rattle.clover_sched.specs.Client.{access, Stands, Moved, MakesDue, Matches, UnderMatches, Went, IsUnder, HasLinked, IsCursor, AreCursors, SetsCursor, stock_at, step_record, since_of, slot_of, spent_by, taken_by}
 use Rattle.clover_sched.specs.Folds.{Doing}
 use Rattle.clover_sched.specs.Ends.{end_tag}
 use Rattle.clover_sched.specs.Run.{Opening, IsStep, IsCause, IsAnswer, IsCommit, Flushes, Shortens, EndsCommit, lost, most_made}
@@ -320,7 +321,7 @@ module _ (o : Opening) (i : ℕ) (x : ClientState) (c n : Putting) (call : Call)
       moved2 = moved_entered i p q z a false found entry so2 st.entered adds_it more kept
 
       view2 : view_at z i ≡ w
-      view2 = λ j. get_or (kept.views j) i (outset (kept.setup j))
+      view2 = λ j. get_or (kept.views j) i nobody
 
       names2 : (view_at z i).pass.names ≡ v.pass.names
       names2 = ap (λ (y : View). y.pass.names) (view2 ∙ so2.view) ∙ names_kept a false (history p) v found
@@ -458,7 +459,7 @@ module _ (o : Opening) (i : ℕ) (x : ClientState) (c n : Putting) (call : Call)
       more3 = enters ∙ ap (λ (e : Entry). q.entries ++ e ∷ []) (sym entry_is)
 
       view3 : view_at z i ≡ w
-      view3 = λ j. get_or (kept.views j) i (outset (kept.setup j))
+      view3 = λ j. get_or (kept.views j) i nobody
 
       view4 : view_at z i ≡ next_view false link (history p) v (unlinked tail)
       view4 = view3 ∙ (so2 link (unlinked tail) reply made3 f.accessed later3 link_adds f.step.decided.made.now.words link_words f.step.decided.decides).view

@@ -1,6 +1,6 @@
 -- A client of the machine: what it has under way and what it knows, that this is what the records say of it, and what one step of it does.
 use Prim.Native.Nat.{suc}
-use Rattle.std.specs.Prelude.{◌≡◌, ◌≢◌, ◌⊎◌, ℕ, ◌+◌, ◌-◌, ◌≤◌, ◌<◌, ◌^◌, min, List, [], ◌∷◌, ◌++◌, length, true, false, cond, if◌then◌else◌, All, Option, Some, None, IfSome}
+use Rattle.std.specs.Prelude.{◌≡◌, ◌≢◌, ◌⊎◌, ℕ, ◌+◌, ◌-◌, ◌≤◌, ◌<◌, ◌^◌, min, List, [], ◌∷◌, ◌++◌, length, Bool, true, false, cond, if◌then◌else◌, All, Option, Some, None, IfSome}
 use Rattle.clover_words.specs.declared.pool.Pool.{Pool}
 use Rattle.clover_words.specs.declared.setup.Setup.{Setup}
 use Rattle.clover_words.specs.Preset.{buffers_total, HasDealt}
@@ -19,6 +19,7 @@ use Rattle.clover_rule.specs.Lists.{Within}
 use Rattle.clover_rule.specs.Steps.{Step as Due, act_of, reply_of}
 use Rattle.clover_rule.specs.declared.access.Access.{Access}
 use Rattle.clover_rule.specs.declared.access.Act.{Act}
+use Rattle.clover_rule.specs.declared.access.Actor.TheVariants.{Client}
 use Rattle.clover_rule.specs.declared.view.Role.TheVariants.{Client as ClientRole}
 use Rattle.clover_rule.specs.declared.view.View.{View}
 use Rattle.clover_plain.specs.Plain.{Plain, view_at, history}
@@ -126,6 +127,10 @@ spent x = spent_by x.under x.taken
 abbrev pub IsLast : Act → List Act → Type 0
 IsLast act acts = (before : List Act) × (acts ≡ before ++ act ∷ [])
 
+-- an access of the client of a seat
+abbrev pub access : ℕ → Act → Bool → Access
+access seat act refused = record { actor = Client (suc seat); act = act; refused = refused }
+
 -- One access of the client of seat i changed the pool so, and added this entry or none.
 pub record Moved (i : ℕ) (x : Access) (e : Option Entry) (p q : Plain) : Type 0 where
   pub words : q.words ≡ words_by p.setup.pool p.words (Some x)
@@ -139,6 +144,8 @@ pub record Moved (i : ℕ) (x : Access) (e : Option Entry) (p q : Plain) : Type 
   pub whole : q.whole ≡ p.whole
   pub setup : q.setup ≡ p.setup
   pub start : q.start ≡ p.start
+  pub first : q.first ≡ p.first
+  pub used : q.used ≡ p.used
   pub traced : q.traced ≡ p.traced
   pub opened : q.opened ≡ p.opened
 

@@ -57,6 +57,8 @@ asked a rs = along (λ (n : ℕ) (r : Record). asks a n r.event) 0 rs
 pub record IsPoolAt (o : Opening) (p : Plain) (rs : List Record) : Type 0 where
   pub setup : p.setup ≡ o.setup
   pub start : p.start ≡ o.words
+  pub first : p.first ≡ finite.empty
+  pub used : p.used ≡ []
   pub opened : p.opened ≡ true
   pub whole : p.whole ≡ true
   pub words : p.words ≡ words_after o.setup.pool o.words rs

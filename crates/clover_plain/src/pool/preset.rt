@@ -9,7 +9,7 @@ ghost use Rattle.clover_words.specs.Next.{root_code};
 ghost use Rattle.clover_rule.specs.Content.{spelling, IsKey};
 ghost use Rattle.clover_rule.specs.Lists.{nth};
 ghost use Rattle.clover_rule.specs.declared.view.View.{View};
-ghost use Rattle.clover_plain.specs.Plain.{history};
+ghost use Rattle.clover_plain.specs.Plain.{IsFresh};
 ghost use Rattle.clover_plain.specs.Kept.{AllFit, views_of};
 ghost use Rattle.clover_plain.specs.Preset.{preset_word, or_zero, tomb, IsPreset, start_view, AreDistinct};
 
@@ -22,26 +22,25 @@ use clover_words::{Meta, Setup, Tag, Word, pack, root_encode, tombstone as tombs
 use std::marker::Brand;
 
 impl PlainPool {
-    /// Makes the preset pool of a pool whose words are all 0: slot `n` is bound to `keys[n]`, with a tombstone alone, and
+    /// Makes the preset pool of a pool in whose run nothing has happened: slot `n` is bound to `keys[n]`, with a tombstone alone, and
     /// every other buffer is at generation 0 and unlinked. Client `c` has the buffers that `dealt` gives as its stock,
-    /// and knows all bindings. The history is empty. It takes no memory.
+    /// and knows all bindings; the server has no seat any more. The history is empty. It takes no memory.
     pub fn preset(&mut self, keys: &[Key])
-        requires fresh { self.old.opened ≡ false }
+        requires fresh { IsFresh self.old }
         requires distinct { AreDistinct keys.now }
         requires slots { length keys.now ≤ self.old.setup.pool.slots }
         requires buffers { self.old.setup.pool.slots ≤ buffers_total self.old.setup.pool }
-        ensures opened { self.new.opened ≡ true }
-        ensures words { IsPreset self.old.setup keys.now self.new.words × (self.new.start ≡ self.new.words) }
+        ensures fresh { IsFresh self.new }
+        ensures words { IsPreset self.old.setup keys.now self.new.words }
         ensures views { (i : ℕ) (v : View) → nth self.new.views i ≡ Some v → v ≡ start_view self.old.setup keys.now i }
         ensures clients { length self.new.views ≡ self.old.setup.clients }
-        ensures empty { (history self.new ≡ []) × (self.new.entries ≡ []) × (self.new.accesses ≡ []) × (self.new.made ≡ 0) × (self.new.whole ≡ true) }
         ensures same { (self.new.setup ≡ self.old.setup) × (self.new.traced ≡ self.old.traced) × (self.new.access_room ≡ self.old.access_room) × (self.new.entry_room ≡ self.old.entry_room) }
     {
         are_keys(keys);
         fill(&self.setup, &mut self.words, keys);
+        self.seats.truncate(self.setup.clients as usize);
         deal_views(&self.setup, &self.knowing, &mut self.seats, keys);
         begin::<Brand>(&self.beginning, &mut self.begun, &self.words);
-        self.opened = true;
     }
 }
 

@@ -8,10 +8,10 @@ ghost use Rattle.clover_port.specs.Told.{Made};
 ghost use Rattle.clover_plain.specs.Plain.{Stepped, Refused, view_at, open_of, counted};
 
 use crate::pool::PlainPool;
-use crate::seats::set_view;
+use crate::seats::{actor_of, set_view};
 use crate::trace::note;
 use crate::words::{exchange_at, load_at, place_of, raise_at, store_at};
-use clover_rule::{Access, Act, Actor, StepName};
+use clover_rule::{Access, Act, StepName};
 use clover_words::{Side, Word};
 use std::marker::Brand;
 
@@ -28,15 +28,7 @@ impl PlainPool {
     {
         let at = place_of(&self.setup, &self.words, word, Side::Current);
         let found = load_at(&self.words, at);
-        set_view::<Brand>(
-            &self.knowing,
-            &mut self.seats,
-            seat,
-            word,
-            Side::Current,
-            0,
-            found,
-        );
+        set_view::<Brand>(&self.knowing, &self.begun, &mut self.seats, seat, found);
         self.made = self.made.saturating_add(1);
         self.whole &= list;
         let listed = self.traced & list;
@@ -44,7 +36,7 @@ impl PlainPool {
             &mut self.trace,
             listed,
             Access {
-                actor: Actor::Client(seat as u32 + 1),
+                actor: actor_of(&self.setup, seat),
                 act: Act::Load { word, got: found },
                 refused: false,
             },
@@ -71,15 +63,7 @@ impl PlainPool {
     {
         let at = place_of(&self.setup, &self.words, word, side);
         let found = store_at(&mut self.words, at, value);
-        set_view::<Brand>(
-            &self.knowing,
-            &mut self.seats,
-            seat,
-            word,
-            side,
-            value,
-            found,
-        );
+        set_view::<Brand>(&self.knowing, &self.begun, &mut self.seats, seat, found);
         self.made = self.made.saturating_add(1);
         self.whole &= list;
         let listed = self.traced & list;
@@ -87,7 +71,7 @@ impl PlainPool {
             &mut self.trace,
             listed,
             Access {
-                actor: Actor::Client(seat as u32 + 1),
+                actor: actor_of(&self.setup, seat),
                 act: Act::Store { word, side, value },
                 refused: false,
             },
@@ -114,15 +98,7 @@ impl PlainPool {
     {
         let at = place_of(&self.setup, &self.words, word, Side::Current);
         let found = exchange_at(&mut self.words, at, expected, new);
-        set_view::<Brand>(
-            &self.knowing,
-            &mut self.seats,
-            seat,
-            word,
-            Side::Current,
-            new,
-            found,
-        );
+        set_view::<Brand>(&self.knowing, &self.begun, &mut self.seats, seat, found);
         self.made = self.made.saturating_add(1);
         self.whole &= list;
         let listed = self.traced & list;
@@ -130,7 +106,7 @@ impl PlainPool {
             &mut self.trace,
             listed,
             Access {
-                actor: Actor::Client(seat as u32 + 1),
+                actor: actor_of(&self.setup, seat),
                 act: Act::Exchange {
                     word,
                     expected,
@@ -161,15 +137,7 @@ impl PlainPool {
     {
         let at = place_of(&self.setup, &self.words, word, Side::Flushed);
         let found = raise_at(&mut self.words, at, value);
-        set_view::<Brand>(
-            &self.knowing,
-            &mut self.seats,
-            seat,
-            word,
-            Side::Flushed,
-            value,
-            found,
-        );
+        set_view::<Brand>(&self.knowing, &self.begun, &mut self.seats, seat, found);
         self.made = self.made.saturating_add(1);
         self.whole &= list;
         let listed = self.traced & list;
@@ -177,7 +145,7 @@ impl PlainPool {
             &mut self.trace,
             listed,
             Access {
-                actor: Actor::Client(seat as u32 + 1),
+                actor: actor_of(&self.setup, seat),
                 act: Act::Raise {
                     word,
                     value,
@@ -200,7 +168,7 @@ impl PlainPool {
             &mut self.trace,
             self.traced,
             Access {
-                actor: Actor::Client(seat as u32 + 1),
+                actor: actor_of(&self.setup, seat),
                 act,
                 refused: true,
             },

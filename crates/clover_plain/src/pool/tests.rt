@@ -1,12 +1,13 @@
-// A small preset pool, its words worked out by hand, and the accesses of a client to it.
-ghost use Rattle.std.specs.Prelude.{◌≡◌, ◌≤◌, ◌<◌, true, OnOk, IfOk};
-ghost use Rattle.clover_plain.specs.Plain.{history};
+// A small preset pool, its words worked out by hand, and the accesses of a client to it. A small pool as its run
+// begins: the server begins a binding and hands a buffer over, and the client writes there.
+ghost use Rattle.std.specs.Prelude.{◌≡◌, ◌≤◌, ◌<◌, length, true, OnOk, IfOk};
+ghost use Rattle.clover_plain.specs.Plain.{first_view, history, view_at};
 
 use crate::pool::PlainPool;
 use crate::{Access, Act, Actor};
 use clover_map::{Key, OutOfMemory};
 use clover_port::Port;
-use clover_words::{Pool, Setup, Word};
+use clover_words::{Buffer, Pool, Setup, Side, Tag, Word};
 use std::alloc::Global;
 use std::marker::Brand;
 use std::process::Abort;
@@ -94,5 +95,68 @@ fn nothing_is_listed_without_a_trace(rt: HostRuntime) -> Result<(), Fail> {
     assert_eq!(rt; read_root(&mut pool, false)?, Some(ROOT));
     assert_eq!(rt; pool.made(), 1);
     assert_eq!(rt; pool.accesses().len(), 0);
+    Ok(())
+}
+
+// The same pool as its run begins.
+fn begun_pool(alloc: Global) -> Result<PlainPool, Fail>
+    ensures ready { IfOk result (λ pool. (pool.opened ≡ true) × (pool.entries ≡ history pool)) }
+    ensures small { IfOk result (λ pool. (pool.setup.clients ≡ 1) × (pool.setup.pool.nodes ≡ 1) × (pool.setup.pool.buffers ≡ 2) × (pool.setup.pool.slots ≡ 1)) }
+    ensures views { IfOk result (λ pool. (length pool.views ≡ 2) × (view_at pool 0 ≡ first_view pool.setup 0) × (view_at pool 1 ≡ first_view pool.setup 1)) }
+{
+    let shape = Pool::check(1, 2, 1, 1, 9)?;
+    let setup = Setup::check(shape, 1, 1)?;
+    let pool = PlainPool::make(alloc, setup, true)?;
+    Ok(pool)
+}
+
+// The server makes the first store of a binding of `a` to slot 0, whose tombstone takes buffer 1.
+fn begin_binding(pool: &mut PlainPool) -> Result<bool, OutOfMemory>
+    requires ready { (pool.old.opened ≡ true) × (pool.old.entries ≡ history pool.old) }
+    requires small { (pool.old.setup.clients ≡ 1) × (pool.old.setup.pool.nodes ≡ 1) × (pool.old.setup.pool.buffers ≡ 2) × (pool.old.setup.pool.slots ≡ 1) }
+    requires views { (length pool.old.views ≡ 2) × (view_at pool.old 0 ≡ first_view pool.old.setup 0) × (view_at pool.old 1 ≡ first_view pool.old.setup 1) }
+{
+    pool.reserve()?;
+    let mut port = pool.port(Actor::Server, false);
+    let word = Word::Meta(Buffer { node: 0, index: 1 });
+    Ok(port.store::<Brand>(word, Side::Current, TOMBSTONE).is_ok())
+}
+
+// The server hands buffer 0 to client 1, which writes a value word there.
+fn hand_and_write(pool: &mut PlainPool) -> Result<bool, OutOfMemory>
+    requires ready { (pool.old.opened ≡ true) × (pool.old.entries ≡ history pool.old) }
+    requires small { (pool.old.setup.clients ≡ 1) × (pool.old.setup.pool.nodes ≡ 1) × (pool.old.setup.pool.buffers ≡ 2) × (pool.old.setup.pool.slots ≡ 1) }
+    requires views { (length pool.old.views ≡ 2) × (view_at pool.old 0 ≡ first_view pool.old.setup 0) × (view_at pool.old 1 ≡ first_view pool.old.setup 1) }
+{
+    pool.reserve()?;
+    let batch = [Tag {
+        node: 0,
+        index: 0,
+        generation: 0,
+    }];
+    pool.hand_over(1, &batch, &[]);
+    let mut port = pool.port(Actor::Client(1), false);
+    let word = Word::Meta(Buffer { node: 0, index: 0 });
+    Ok(port.store::<Brand>(word, Side::Current, 7).is_ok())
+}
+
+#[test]
+fn a_binding_is_begun(rt: HostRuntime) -> Result<(), Fail> {
+    let mut pool = begun_pool(rt.alloc())?;
+    assert!(rt; begin_binding(&mut pool)?);
+    assert_eq!(rt; pool.words[4], TOMBSTONE);
+    let [Access { actor, .. }] = pool.accesses() else {
+        panic!(rt; "not one access");
+    };
+    assert!(rt; matches!(actor, Actor::Server));
+    Ok(())
+}
+
+#[test]
+fn a_buffer_is_handed_over(rt: HostRuntime) -> Result<(), Fail> {
+    let mut pool = begun_pool(rt.alloc())?;
+    assert!(rt; hand_and_write(&mut pool)?);
+    assert_eq!(rt; pool.words[1], 7);
+    assert_eq!(rt; pool.made(), 1);
     Ok(())
 }

@@ -1,17 +1,18 @@
-use Rattle.std.proofs.Common.{◌≡◌, ◌<◌, ℕ, length, Bool, true, false, ◌&&◌, refl, sym, ap, ◌∙◌, subst}
+use Rattle.std.proofs.Common.{◌≡◌, ◌<◌, ℕ, length, Bool, true, false, ◌&&◌, refl, sym, ap, ◌∙◌, subst, arith}
 use Rattle.std.specs.Prelude.{Some}
 use Rattle.clover_words.specs.declared.pool.Pool.{Pool}
 use Rattle.clover_rule.specs.Asks.{Asks}
 use Rattle.clover_rule.specs.Learned.{words_after_step}
+use Rattle.clover_rule.specs.Moves.{nobody}
 use Rattle.clover_rule.specs.Steps.{Step}
 use Rattle.clover_rule.specs.declared.access.Act.{Act}
 use Rattle.clover_rule.specs.declared.access.Act.TheVariants.{Load}
 use Rattle.clover_port.specs.Told.{Made}
 use Rattle.clover_plain.specs.Kept.{meaning}
-use Rattle.clover_plain.specs.Plain.{Plain, Running, Stands, Stepped, grown, outset, open_of, view_at}
+use Rattle.clover_plain.specs.Plain.{Plain, Running, Stands, Stepped, grown, history, open_of, view_at}
 use Rattle.clover_rule.proofs.Acting.{words_as, found_as, within_as}
 use Rattle.clover_plain.proofs.Acting.{access_as}
-use Rattle.clover_plain.proofs.Stepping.{running, made, nth_default}
+use Rattle.clover_plain.proofs.Stepping.{first_kept, running, made, nth_default}
 use Rattle.clover_plain.proofs.pool.PlainPool.load.Goals as goal
 use Rattle.clover_plain.proofs.pool.PlainPool.load.Goals.{After-note}
 
@@ -47,15 +48,20 @@ below g c = subst (λ (p : Plain). c.args.seat < length p.views) (sym c.self.vie
 words_are : (g : _) (c : After-note g) → c.self.inside.words.items ≡ words_after_step (inside_pool g c) (step g c) c.self.inside.words.items
 words_are g c = sym (words_as (inside_pool g c) c.self.inside.words.items (step g c) (act g c) c.requires.step)
 
+of_run : (g : _) (c : After-note g) → ((then g c).first ≡ (before g c).first) × ((then g c).used ≡ (before g c).used)
+of_run g c =
+    let there = nth_default (before g c).views c.args.seat nobody (below g c) in
+    first_kept (before g c).views (then g c).views c.args.seat (view_at (before g c) c.args.seat) g.M.StepName.first (step g c) (history (before g c)) c.load_at-found.result there (c.set_view.ensures.views (view_at (before g c) c.args.seat) there)
+
 stepped : (g : _) (c : After-note g) → Stepped (step g c) g.M.StepName.first c.args.list c.args.seat c.load_at-found.result (before g c) (then g c)
 stepped g c = record {
   found = found_as (inside_pool g c) c.self.inside.words.items (step g c) (act g c) c.requires.step c.place_of-at.result c.load_at-found.result c.place_of-at.ensures.value c.load_at-found.ensures;
   words = words_are g c;
-  views = c.set_view.ensures.views (view_at (before g c) c.args.seat) (nth_default (before g c).views c.args.seat (outset c.self.inside.setup) (below g c));
-  accesses = c.note.ensures.list ∙ ap (λ x. grown (c.self.inside.traced && c.args.list) c.self.inside.trace.items x) (access_as (step g c) (act g c) c.requires.step c.args.seat c.load_at-found.result false);
+  views = c.set_view.ensures.views (view_at (before g c) c.args.seat) (nth_default (before g c).views c.args.seat nobody (below g c));
+  accesses = c.note.ensures.list ∙ ap (λ x. grown (c.self.inside.traced && c.args.list) c.self.inside.trace.items x) (access_as (step g c) (act g c) c.requires.step c.self.inside.setup c.actor_of.result c.args.seat c.load_at-found.result false c.actor_of.ensures);
   made = c.saturating_add-self-inside.ensures;
   whole = refl;
-  same = record { setup = refl; start = refl; entries = refl; traced = refl; opened = refl; entry_room = refl };
+  same = record { setup = refl; first = (of_run g c).0; used = (of_run g c).1; start = refl; absent = refl; entries = refl; traced = refl; opened = refl; entry_room = refl };
 }
 
 pub place_of-at-requires-clause-within : goal.place_of-at-requires-clause-within
@@ -65,7 +71,7 @@ pub invariant_of-self : goal.invariant_of-self
 invariant_of-self g c = record {
   stands = subst (λ (b : Bool). Stands b (then g c)) (sym (opened_before g c)) (running (step g c) g.M.StepName.first c.args.list c.args.seat c.load_at-found.result (before g c) (then g c) (running_before g c) (below g c) (asks g c) (stepped g c));
   sized = c.self.invariant.sized;
-  seated = c.set_view.ensures.length ∙ c.self.invariant.seated;
+  seated = let y = c.set_view.ensures.length in let z = c.self.invariant.seated in omega arith;
   seats = c.set_view.ensures.fits;
   one = c.self.invariant.one;
   beginning = c.self.invariant.beginning;

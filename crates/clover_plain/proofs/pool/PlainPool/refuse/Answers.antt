@@ -1,5 +1,5 @@
-use Rattle.std.proofs.Common.{◌≡◌, ℕ, Bool, true, refl, sym, ap, ◌∙◌, subst, add-one}
-use Rattle.clover_rule.specs.declared.access.Actor.TheVariants.{Client}
+use Rattle.std.proofs.Common.{◌≡◌, ℕ, Bool, true, refl, sym, ap, ◌∙◌, subst}
+use Rattle.clover_rule.specs.declared.access.Actor.{Actor}
 use Rattle.clover_plain.specs.Kept.{meaning}
 use Rattle.clover_plain.specs.Plain.{Plain, Stands, Refused, grown}
 use Rattle.clover_plain.proofs.Stepping.{refused_running}
@@ -20,10 +20,10 @@ refused : (c : After-note) → Refused c.args.act c.args.seat (before c) (then c
 refused c = record {
   words = refl;
   views = refl;
-  accesses = c.note.ensures.list ∙ ap (λ (n : ℕ). grown c.self.inside.traced c.self.inside.trace.items (record { actor = Client n; act = c.args.act; refused = true })) (add-one c.args.seat);
+  accesses = c.note.ensures.list ∙ ap (λ (a : Actor). grown c.self.inside.traced c.self.inside.trace.items (record { actor = a; act = c.args.act; refused = true })) c.actor_of.ensures;
   made = refl;
   whole = refl;
-  same = record { setup = refl; start = refl; entries = refl; traced = refl; opened = refl; entry_room = refl };
+  same = record { setup = refl; first = refl; used = refl; start = refl; absent = refl; entries = refl; traced = refl; opened = refl; entry_room = refl };
 }
 
 pub invariant_of-self : goal.invariant_of-self

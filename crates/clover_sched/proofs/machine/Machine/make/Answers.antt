@@ -14,16 +14,18 @@ fresh c =
     let e = c.preset.ensures in
     record {
       setup = e.same.0 ∙ s;
-      opened = e.opened;
-      preset = subst (λ (z : Setup). IsPreset z c.args.names c.preset.new.self.words) s (subst (λ (l : List (List ℕ)). IsPreset c.in_ok-pool.pool.setup l c.preset.new.self.words) k e.words.0);
-      start = e.words.1;
+      opened = e.fresh.opened;
+      preset = subst (λ (z : Setup). IsPreset z c.args.names c.preset.new.self.words) s (subst (λ (l : List (List ℕ)). IsPreset c.in_ok-pool.pool.setup l c.preset.new.self.words) k e.words);
+      first = e.fresh.first;
+      used = e.fresh.used;
+      start = e.fresh.start;
       views = λ i v h. e.views i v h ∙ ap (λ (z : Setup). start_view z c.keys.result.now i) s ∙ ap (λ (l : List (List ℕ)). start_view c.args.setup l i) k;
       seats = e.clients ∙ ap (λ (z : Setup). z.clients) s;
-      history = e.empty.0;
-      entries = e.empty.1;
-      accesses = e.empty.2;
-      made = e.empty.3;
-      whole = e.empty.4;
+      history = e.fresh.history;
+      entries = e.fresh.entries;
+      accesses = e.fresh.accesses;
+      made = e.fresh.made;
+      whole = e.fresh.whole;
     }
 
 -- no key stands twice
