@@ -1,5 +1,5 @@
 -- A grant keeps the pool running.
-use Rattle.std.proofs.Common.{◌≡◌, ◌≢◌, ℕ, suc, ◌-◌, ◌<◌, ◌≤◌, List, ◌++◌, length, set, refl, sym, ap, ◌∙◌, subst, ⊎_elim, arith}
+use Rattle.std.proofs.Common.{◌≡◌, ◌≢◌, ℕ, ◌-◌, ◌<◌, ◌≤◌, List, ◌++◌, length, set, refl, sym, ap, ◌∙◌, subst, ⊎_elim, arith}
 use Rattle.std.specs.Prelude.{Some}
 use Rattle.std.proofs.lemmas.List.{length-set}
 use Rattle.clover_map.specs.declared.call.Entry.{Entry}
@@ -13,7 +13,7 @@ use Rattle.clover_rule.proofs.Moving.{hand_over_law}
 use Rattle.clover_rule.proofs.Steps.{nth_set, set_away}
 use Rattle.clover_plain.specs.Plain.{Plain, Running, first_of, history, role_at, used_of, view_at}
 use Rattle.clover_plain.proofs.Seating.{at_front, first_set, set_front, used_set}
-use Rattle.clover_plain.proofs.Stepping.{default_nth, nth_default, rule_as}
+use Rattle.clover_plain.proofs.Stepping.{nth_default, rule_as}
 
 module _ (p : Plain) (client : ℕ) (batch : List ℕ) (names : List (ℕ × List ℕ)) (r : Running p) (server : p.setup.clients < length p.views) (low : 1 ≤ client) (high : client ≤ p.setup.clients)
     (may : MayHand p.setup.pool (view_at p p.setup.clients) (view_at p (client - 1)) batch names) where

@@ -1,5 +1,5 @@
 -- What a small pool's server and client may do as its run begins: one node of two buffers, one slot, one client.
-use Rattle.std.proofs.Common.{◌≡◌, ℕ, zero, suc, ◌-◌, ◌<◌, List, [], ◌∷◌, length, set, get_or, refl, sym, ap, ◌∙◌, inl, subst, arith}
+use Rattle.std.proofs.Common.{◌≡◌, ℕ, zero, suc, List, [], ◌∷◌, length, set, get_or, refl, sym, ap, ◌∙◌, inl, subst, arith}
 use Rattle.std.proofs.lemmas.List.{get_or-set_same, length-set}
 use Rattle.clover_words.specs.declared.setup.Setup.{Setup}
 use Rattle.clover_words.specs.Pack.{AreBytes}
@@ -7,11 +7,10 @@ use Rattle.clover_words.specs.Place.{IsBuffer}
 use Rattle.clover_words.specs.Tag.{home, age}
 use Rattle.clover_words.specs.Version.{buffer_at}
 use Rattle.clover_rule.specs.Asks.{MayBegin}
-use Rattle.clover_rule.specs.Content.{inside}
 use Rattle.clover_rule.specs.Lists.{Within}
 use Rattle.clover_rule.specs.Moves.{MayHand, given, giving, nobody}
 use Rattle.clover_rule.specs.Steps.{IsClient, number_of}
-use Rattle.clover_rule.specs.Views.{Book, book}
+use Rattle.clover_rule.specs.Views.{book}
 use Rattle.clover_rule.specs.declared.view.BufferState.TheVariants.{Free}
 use Rattle.clover_rule.specs.declared.view.NewBinding.{NewBinding}
 use Rattle.clover_rule.specs.declared.view.Role.{Role}

@@ -1,5 +1,4 @@
 use Rattle.std.proofs.Common.{◌≡◌, ◌<◌, ◌≤◌, ◌-◌, ℕ, List, Bool, true, length, refl, set, sym, ap, ◌∙◌, subst, arith}
-use Rattle.std.specs.Prelude.{Some}
 use Rattle.clover_rule.specs.Lists.{nth}
 use Rattle.clover_rule.specs.Moves.{MayHand, given}
 use Rattle.clover_rule.specs.declared.access.Actor.TheVariants.{Client, Server}

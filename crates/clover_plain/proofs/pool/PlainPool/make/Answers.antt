@@ -1,14 +1,13 @@
-use Rattle.std.proofs.Common.{◌≡◌, ℕ, ◌+◌, ◌++◌, append-nil, List, [], length, replicate, true, refl, sym, ap, ◌∙◌, subst, arith}
+use Rattle.std.proofs.Common.{◌≡◌, ◌+◌, ◌++◌, append-nil, List, [], length, true, refl, sym, ap, ◌∙◌, subst, arith}
 use Rattle.std.proofs.lemmas.List.{length-replicate}
-use Rattle.std.specs.Prelude.{Some}
 use Rattle.std.specs.FinMap as finite
 use Rattle.clover_map.specs.declared.call.Entry.{Entry}
-use Rattle.clover_rule.specs.Lists.{IsPrefix, nth}
+use Rattle.clover_rule.specs.Lists.{IsPrefix}
 use Rattle.clover_rule.specs.Moves.{nobody}
-use Rattle.clover_rule.specs.Rule.{Rule, longest}
+use Rattle.clover_rule.specs.Rule.{longest}
 use Rattle.clover_rule.specs.declared.view.View.{View}
-use Rattle.clover_plain.specs.Kept.{views_of, meaning}
-use Rattle.clover_plain.specs.Plain.{Plain, IsFresh, Running, first_of, history, used_of}
+use Rattle.clover_plain.specs.Kept.{meaning}
+use Rattle.clover_plain.specs.Plain.{Plain, IsFresh, Running, history}
 use Rattle.clover_plain.proofs.Opening.{opened_history, opened_rule}
 use Rattle.clover_plain.proofs.Seating.{first_there, length_seats, length_views, used_there}
 use Rattle.clover_plain.proofs.Stepping.{rule_as}

@@ -1,4 +1,4 @@
-use Rattle.std.proofs.Common.{◌≡◌, ℕ, Bool, true, refl, sym, ap, ◌∙◌, subst}
+use Rattle.std.proofs.Common.{◌≡◌, Bool, true, refl, sym, ap, ◌∙◌, subst}
 use Rattle.clover_rule.specs.declared.access.Actor.{Actor}
 use Rattle.clover_plain.specs.Kept.{meaning}
 use Rattle.clover_plain.specs.Plain.{Plain, Stands, Refused, grown}

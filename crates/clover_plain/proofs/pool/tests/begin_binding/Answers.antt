@@ -1,9 +1,7 @@
 use Rattle.std.proofs.Common.{sym, subst}
-use Rattle.clover_words.specs.declared.setup.Setup.{Setup}
 use Rattle.clover_words.specs.declared.word.Side.TheVariants.{Current}
 use Rattle.clover_words.specs.declared.word.Word.TheVariants.{Meta}
 use Rattle.clover_words.specs.Version.{buffer_at}
-use Rattle.clover_rule.specs.Moves.{nobody}
 use Rattle.clover_rule.specs.declared.access.Act.TheVariants.{Store}
 use Rattle.clover_plain.proofs.SmallPool.{IsSmall, home_next, kept_first, server_begins}
 use Rattle.clover_plain.proofs.pool.tests.begin_binding.Goals as goal

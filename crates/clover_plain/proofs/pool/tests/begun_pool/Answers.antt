@@ -1,4 +1,4 @@
-use Rattle.std.proofs.Common.{◌≡◌, ◌+◌, ℕ, ap, ◌∙◌, sym, subst, arith}
+use Rattle.std.proofs.Common.{◌≡◌, ◌+◌, ℕ, ap, ◌∙◌, sym, arith}
 use Rattle.clover_words.specs.declared.setup.Setup.{Setup}
 use Rattle.clover_rule.specs.Moves.{nobody}
 use Rattle.clover_plain.specs.Plain.{first_view, view_at}

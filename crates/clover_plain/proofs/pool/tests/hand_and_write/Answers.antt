@@ -1,5 +1,4 @@
 use Rattle.std.proofs.Common.{ap, length, ◌∙◌, sym, subst, arith}
-use Rattle.clover_words.specs.declared.setup.Setup.{Setup}
 use Rattle.clover_words.specs.declared.word.Side.TheVariants.{Current}
 use Rattle.clover_words.specs.declared.word.Word.TheVariants.{Meta}
 use Rattle.clover_words.specs.Version.{buffer_at}
