@@ -6,7 +6,7 @@ ghost use Rattle.clover_cache.specs.Cursors.{IsCursorList, cursor_of, after_find
 #[cfg(test)]
 mod tests;
 
-use clover_map::OutOfMemory;
+use clover_list::OutOfMemory;
 use clover_words::Tag;
 use lru::LruCache;
 use std::alloc::Global;

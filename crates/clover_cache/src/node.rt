@@ -7,7 +7,7 @@ ghost use Rattle.clover_cache.specs.Node.{IsSet, cursor_at, asked};
 mod tests;
 
 use crate::cursors::Cursors;
-use clover_map::OutOfMemory;
+use clover_list::OutOfMemory;
 use clover_words::Tag;
 use std::alloc::Global;
 use std::marker::Model;

@@ -1,8 +1,13 @@
-//! A list that grows at its end, which contracts see as the list of its items. Pushing may want memory, and
-//! where there is none the item comes back. The list types of the crates above are names of it.
+//! What every crate that takes memory stands on: the error for want of it, and a list that grows at its end, which
+//! contracts see as the list of its items. Pushing may want memory, and where there is none the item comes back. The
+//! list types of the crates above are names of it.
 #![tactic(auto)]
 
 ghost use Rattle.std.specs.Prelude.{◌≡◌, ◌++◌, ◌∷◌, [], OnOk, OnErr, IfErr};
+
+mod memory;
+
+pub use memory::OutOfMemory;
 
 use std::alloc::{AllocError, Global};
 use std::marker::Model;

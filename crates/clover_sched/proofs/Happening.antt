@@ -7,7 +7,7 @@ use Rattle.std.proofs.lemmas.Option.{IfSome_then, same_Some}
 use Rattle.clover_words.specs.Tag.{tag_number}
 use Rattle.clover_map.specs.Legal.{Legal}
 use Rattle.clover_map.specs.Tagged.{Tagged}
-use Rattle.clover_map.specs.declared.bytes.OutOfMemory.{OutOfMemory}
+use Rattle.clover_list.specs.declared.memory.OutOfMemory.{OutOfMemory}
 use Rattle.clover_map.specs.declared.call.Entry.{Entry}
 use Rattle.clover_words.specs.Preset.{HasDealt}
 use Rattle.clover_words.specs.declared.setup.Setup.{Setup}

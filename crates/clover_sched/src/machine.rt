@@ -13,7 +13,8 @@ ghost use Rattle.clover_sched.specs.declared.event.Note.TheVariants.{Quiet as Is
 
 use crate::client::{ClientState, Underway};
 use crate::event::{Event, Note};
-use clover_map::{Call, Entry, Key, OutOfMemory};
+use clover_list::OutOfMemory;
+use clover_map::{Call, Entry, Key};
 use clover_plain::PlainPool;
 use clover_rule::Access;
 use clover_script::{Names, Task};

@@ -11,7 +11,7 @@ use crate::pool_line::{pool_line_of, setup_from};
 use crate::reader::{is_ignored, line_of};
 use crate::split::first_line;
 use crate::tally::Tally;
-use clover_map::OutOfMemory;
+use clover_list::OutOfMemory;
 use clover_words::Setup;
 use std::alloc::Global;
 

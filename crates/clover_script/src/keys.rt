@@ -4,7 +4,8 @@ ghost use Rattle.std.specs.Prelude.{◌≡◌, ◌+◌, ◌<◌, ◌≤◌, ◌^
 ghost use Rattle.clover_map.specs.History.{key_of};
 ghost use Rattle.clover_script.specs.Naming.{NamesKey};
 
-use clover_map::{Call, Key, OutOfMemory};
+use clover_list::OutOfMemory;
+use clover_map::{Call, Key};
 use std::alloc::Global;
 use std::collections::BTreeMap;
 use std::marker::Model;

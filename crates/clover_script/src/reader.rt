@@ -7,7 +7,7 @@ use crate::line::Line;
 use crate::part::{actor_front, actor_of, times_of};
 use crate::split::after_word;
 use crate::task::asked_of;
-use clover_map::OutOfMemory;
+use clover_list::OutOfMemory;
 use std::alloc::Global;
 
 /// What a line says that asks something of a client. None exactly where the text is no such line: a

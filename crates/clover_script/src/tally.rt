@@ -10,7 +10,8 @@ use crate::keys::{Names, key_in};
 use crate::line::{Line, Task};
 use crate::pool_line::pool_line_of;
 use crate::reader::{is_ignored, line_of};
-use clover_map::{Call, OutOfMemory};
+use clover_list::OutOfMemory;
+use clover_map::Call;
 use clover_words::{Setup, dealt};
 use std::alloc::Global;
 

@@ -11,7 +11,8 @@ use crate::coded::decode;
 use crate::line::Task;
 use crate::part::{actor_front, tag_front};
 use crate::split::{after_word, split_at_byte};
-use clover_map::{Bytes, BytesFault, Call, Key, OutOfMemory, Value};
+use clover_list::OutOfMemory;
+use clover_map::{Bytes, BytesFault, Call, Key, Value};
 use std::alloc::Global;
 
 /// How many bytes a value may have as it is written, and how many of them a call keeps.

@@ -5,7 +5,8 @@ ghost use Rattle.clover_plain.specs.Plain.{first_view, history, view_at};
 
 use crate::pool::PlainPool;
 use crate::{Access, Act, Actor};
-use clover_map::{Key, OutOfMemory};
+use clover_list::OutOfMemory;
+use clover_map::Key;
 use clover_port::Port;
 use clover_words::{Buffer, Pool, Setup, Side, Tag, Word};
 use std::alloc::Global;

@@ -18,7 +18,8 @@ ghost use Rattle.clover_sched.specs.Writing.{IsWriting, IsCommitted, IsDecided, 
 
 use crate::client::{ClientState, Underway};
 use crate::event::{CallRefusal, Note};
-use clover_map::{Call, Entry, OutOfMemory, Reply};
+use clover_list::OutOfMemory;
+use clover_map::{Call, Entry, Reply};
 use clover_plain::PlainPool;
 use clover_put::{PutCall, PutTurn};
 use clover_rule::Actor;
