@@ -17,8 +17,8 @@ use Rattle.clover_rule.specs.Story.{Story, tag_in_version, Tale, unsure}
 use Rattle.clover_rule.specs.Views.{OwnCalls, ViewOk, Spent, Basis, renewed}
 use Rattle.clover_rule.specs.declared.view.Role.{Role}
 use Rattle.clover_rule.specs.declared.view.Role.TheVariants.{Client}
-use Rattle.clover_rule.specs.declared.view.Task.{Task}
-use Rattle.clover_rule.specs.declared.view.Task.TheVariants.{Idle, Storing, Rooted, Waiting, Loaded, Raised, Led, Both, Exchanged}
+use Rattle.clover_rule.specs.declared.view.ServerTask.{ServerTask}
+use Rattle.clover_rule.specs.declared.view.ServerTask.TheVariants.{Idle, Storing, Rooted, Waiting, Loaded, Raised, Led, Both, Exchanged}
 use Rattle.clover_rule.specs.declared.view.View.{View}
 use Rattle.clover_words.specs.declared.pool.Pool.{Pool}
 use Rattle.clover_rule.proofs.Keys.{key_discrete}
@@ -50,7 +50,7 @@ module _ (l : Pool) (m0 : Map) (used : List ℕ) (m : Mem) (vs : List View) (st 
   same_option (Some j) = dite (key_discrete j k) (λ e. yes (ap Some e)) (λ n. no (λ e. n cc))
 
   -- where the key is being bound, its slot has the tombstone alone, which is durable
-  alone : (T : Task) → Stage l m st T → (s : ℕ) → unnamed T ≡ Some s → length (st.log s) ≡ 1
+  alone : (T : ServerTask) → Stage l m st T → (s : ℕ) → unnamed T ≡ Some s → length (st.log s) ≡ 1
   alone (Rooted bind) g s1 e = let q : bind.slot ≡ s1 = cc in ap (λ (j : ℕ). length (st.log j)) (sym q) ∙ g.here.0.alone
   alone (Waiting bind) g s1 e = let q : bind.slot ≡ s1 = cc in ap (λ (j : ℕ). length (st.log j)) (sym q) ∙ g.here.0.alone
   alone Idle g s1 e = absurd cc

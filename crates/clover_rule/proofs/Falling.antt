@@ -28,7 +28,7 @@ use Rattle.clover_rule.specs.Story.{Story}
 use Rattle.clover_rule.specs.Words.{mem_of, next_of}
 use Rattle.clover_rule.specs.declared.view.Link.{Link}
 use Rattle.clover_rule.specs.declared.view.Recycling.{Recycling}
-use Rattle.clover_rule.specs.declared.view.Task.TheVariants.{Both}
+use Rattle.clover_rule.specs.declared.view.ServerTask.TheVariants.{Both}
 use Rattle.clover_rule.specs.declared.view.View.{View}
 use Rattle.clover_rule.proofs.Acting.{step_side}
 use Rattle.clover_rule.proofs.AllKeeps.{no_restart}

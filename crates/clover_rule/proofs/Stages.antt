@@ -20,8 +20,8 @@ use Rattle.clover_rule.specs.declared.view.NewBinding.{NewBinding}
 use Rattle.clover_rule.specs.declared.view.Recycling.{Recycling}
 use Rattle.clover_rule.specs.declared.view.Role.TheVariants.{Serving}
 use Rattle.clover_rule.specs.declared.view.Server.{Server}
-use Rattle.clover_rule.specs.declared.view.Task.{Task}
-use Rattle.clover_rule.specs.declared.view.Task.TheVariants.{Idle, Rooted, Waiting, Loaded, Raised, Led, Both}
+use Rattle.clover_rule.specs.declared.view.ServerTask.{ServerTask}
+use Rattle.clover_rule.specs.declared.view.ServerTask.TheVariants.{Idle, Rooted, Waiting, Loaded, Raised, Led, Both}
 use Rattle.clover_rule.specs.declared.view.View.{View}
 use Rattle.clover_words.specs.declared.pool.Pool.{Pool}
 use Rattle.clover_rule.proofs.Bindings.{nth_among}
@@ -39,10 +39,10 @@ pub grow_refl : (m m' : Mem) (st st' : Story) (h : List Entry) → ((s : ℕ) �
 grow_refl m m' st st' h a b c d e f = record { versions = λ s i w q. ap (λ (ws : List Version). nth ws i) (a s) ∙ q; sure = λ s. let x = b s in omega arith; gone = λ s. let x = c s in omega arith; gens = λ y. let x = ap gen (d y) in omega arith; names = e; count = f; history = prefix_self h }
 
 -- the books stay where no buffer is held and each slot keeps its root
-books_still : (l : Pool) (m : Mem) (st st' : Story) (T T' : Task) (sv : Server) → Stage l m st T → holding T ≡ None → Serves l m st T sv → ((s : ℕ) → root_in T' st' s ≡ root_in T st s) → (b : ℕ) → inside l b ≡ true → book_at sv b ≡ book_of T' st' (st.place b) (gen (m.next b)) b
+books_still : (l : Pool) (m : Mem) (st st' : Story) (T T' : ServerTask) (sv : Server) → Stage l m st T → holding T ≡ None → Serves l m st T sv → ((s : ℕ) → root_in T' st' s ≡ root_in T st s) → (b : ℕ) → inside l b ≡ true → book_at sv b ≡ book_of T' st' (st.place b) (gen (m.next b)) b
 books_still l m st st' T T' sv g n e r b i = e.books b i ∙ sym (book_same T T' st st' (st.place b) (gen (m.next b)) b (λ s q. ap (λ (x : Option ℕ). is_home x b) (r s)) (λ q. absurd (cc (n, g.holds b q))))
 
-none_held : (l : Pool) (m : Mem) (st : Story) (T : Task) → Stage l m st T → holding T ≡ None → (b : ℕ) → st.place b ≢ Taken
+none_held : (l : Pool) (m : Mem) (st : Story) (T : ServerTask) → Stage l m st T → holding T ≡ None → (b : ℕ) → st.place b ≢ Taken
 none_held l m st T g n b q = absurd (cc (n, g.holds b q))
 
 pub gen_most : (o n : Next) (a : ℕ) → gen o ≤ a → gen n ≤ a → gen (greater o n) ≤ a
@@ -69,10 +69,10 @@ module _ (l : Pool) (m0 : Map) (used : List ℕ) (m : Mem) (vs : List View) (id 
   abbrev ru : Basis m0 used m vs st h
   ru = w.basis
 
-  stage_of : (T : Task) → v.server.task ≡ T → Stage l m st T
+  stage_of : (T : ServerTask) → v.server.task ≡ T → Stage l m st T
   stage_of T e = stage_at l m0 used m vs id v st h w at role T e
 
-  serves_of : (T : Task) → v.server.task ≡ T → Serves l m st T v.server
+  serves_of : (T : ServerTask) → v.server.task ≡ T → Serves l m st T v.server
   serves_of T e = serves_at l m0 used m vs id v st h w at role T e
 
   -- the load of the root version's next word

@@ -14,8 +14,8 @@ use Rattle.clover_rule.specs.Story.{Stocked, Story, tag_in_version}
 use Rattle.clover_rule.specs.Views.{Owned, ViewOk, Basis, renewed}
 use Rattle.clover_rule.specs.declared.view.Content.{Content}
 use Rattle.clover_rule.specs.declared.view.Role.TheVariants.{Client}
-use Rattle.clover_rule.specs.declared.view.Task.{Task}
-use Rattle.clover_rule.specs.declared.view.Task.TheVariants.{Idle, Storing, Rooted, Waiting, Loaded, Raised, Led, Both, Exchanged}
+use Rattle.clover_rule.specs.declared.view.ServerTask.{ServerTask}
+use Rattle.clover_rule.specs.declared.view.ServerTask.TheVariants.{Idle, Storing, Rooted, Waiting, Loaded, Raised, Led, Both, Exchanged}
 use Rattle.clover_rule.specs.declared.view.View.{View}
 use Rattle.clover_words.specs.declared.pool.Pool.{Pool}
 use Rattle.clover_rule.proofs.Tools.{upd_same, upd_else, other_place}
@@ -110,7 +110,7 @@ module _ (l : Pool) (m0 : Map) (used : List ℕ) (m : Mem) (vs : List View) (st 
     longest = longest_was vs id v v' at h refl r.longest;
   }
 
-  here : (T : Task) → AtStage l m st T → AtStage l m1 st T
+  here : (T : ServerTask) → AtStage l m st T → AtStage l m1 st T
   here Idle a = tt
   here (Storing bind n1) a = record {
     place = a.place;

@@ -20,8 +20,8 @@ use Rattle.clover_rule.specs.declared.access.Act.{Act}
 use Rattle.clover_rule.specs.declared.view.BufferState.TheVariants.{Bound, Out}
 use Rattle.clover_rule.specs.declared.view.NewBinding.{NewBinding}
 use Rattle.clover_rule.specs.declared.view.Recycling.{Recycling}
-use Rattle.clover_rule.specs.declared.view.Task.{Task}
-use Rattle.clover_rule.specs.declared.view.Task.TheVariants.{Idle, Storing, Rooted, Waiting, Loaded, Raised, Led, Both, Exchanged}
+use Rattle.clover_rule.specs.declared.view.ServerTask.{ServerTask}
+use Rattle.clover_rule.specs.declared.view.ServerTask.TheVariants.{Idle, Storing, Rooted, Waiting, Loaded, Raised, Led, Both, Exchanged}
 use Rattle.clover_rule.specs.declared.view.View.{View}
 
 -- a next word that a tag of a slot showed
@@ -51,7 +51,7 @@ rest_of [] = []
 rest_of (x ∷ xs) = xs
 
 -- the server's task has got so far
-abbrev pub at_task : View → Task → View
+abbrev pub at_task : View → ServerTask → View
 at_task v task = record v { server = record v.server { task = task } }
 
 -- what a slot's root version showed: no version behind it, or the link with which a recycling begins

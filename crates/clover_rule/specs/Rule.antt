@@ -14,7 +14,7 @@ use Rattle.clover_rule.specs.Meets.{Meets, OfRun}
 use Rattle.clover_rule.specs.Names.{NamesAndCount}
 use Rattle.clover_rule.specs.Story.{Place, Story}
 use Rattle.clover_rule.specs.Words.{mem_of}
-use Rattle.clover_rule.specs.declared.view.Task.{Task}
+use Rattle.clover_rule.specs.declared.view.ServerTask.{ServerTask}
 use Rattle.clover_rule.specs.declared.view.View.{View}
 
 -- what holds of the words, the views and the history of a run that began with this map and these used tags
@@ -25,7 +25,7 @@ pub record Rule (p : Pool) (first : Tagged) (used : List ℕ) (ws : List ℕ) (v
   pub place : ℕ → Place
   pub bindings : List (ℕ × List ℕ)
   pub keys : ℕ → Option (List ℕ)
-  pub task : Task
+  pub task : ServerTask
   -- the task is the server's, and all views are of one run
   pub task_is : (v : View) → IsServer vs v → v.server.task ≡ task
   pub one_run : (v : View) → Within v vs → OfRun p first used v

@@ -3,7 +3,7 @@ use Rattle.clover_words.specs.Tag.{home, age}
 use Rattle.clover_rule.specs.History.{Version, Map, Legal, commits, ends, Unread}
 use Rattle.clover_rule.specs.Lists.{nth}
 use Rattle.clover_rule.specs.Memory.{Next, word, gen, link, Mem}
-use Rattle.clover_rule.specs.declared.view.Task.{Task}
+use Rattle.clover_rule.specs.declared.view.ServerTask.{ServerTask}
 use Prim.Native.Nat.{suc}
 use Rattle.std.specs.Prelude.{◌≡◌, ℕ, ◌<◌, ◌≤◌, ◌≢◌, ◌⊎◌, List, [], ◌++◌, length, Bool, true, false, ltb, leb, Option, Some, None}
 use Rattle.clover_map.specs.declared.call.Entry.{Entry}
@@ -43,7 +43,7 @@ pub record Story : Type 0 where
   pub first : ℕ → List Version
   -- the bindings, without one that waits for its last store, and the server's unfinished task
   pub bindings : List (ℕ × List ℕ)
-  pub task : Task
+  pub task : ServerTask
   -- the slot that has a key
   pub slot_named : List ℕ → ℕ
 

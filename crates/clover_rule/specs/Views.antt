@@ -18,7 +18,7 @@ use Rattle.clover_rule.specs.declared.view.Role.{Role}
 use Rattle.clover_rule.specs.declared.view.Role.TheVariants.{Client}
 use Rattle.clover_rule.specs.declared.view.Server.{Server}
 use Rattle.clover_rule.specs.declared.view.Shown.{Shown}
-use Rattle.clover_rule.specs.declared.view.Task.TheVariants.{Idle}
+use Rattle.clover_rule.specs.declared.view.ServerTask.TheVariants.{Idle}
 use Rattle.clover_rule.specs.declared.view.View.{View}
 use Rattle.clover_words.specs.declared.pool.Pool.{Pool}
 use Rattle.clover_map.specs.Tagged.{Tagged}
