@@ -21,7 +21,8 @@ use Rattle.clover_rule.specs.declared.view.View.{View}
 use Rattle.clover_words.specs.declared.pool.Pool.{Pool}
 use Rattle.clover_rule.proofs.Tools.{upd_same, upd_else}
 use Rattle.clover_rule.proofs.Steps.{prefix_self}
-use Rattle.clover_rule.proofs.ServerTools.{core_copy, Moves, book_same, hold_core, tale_copy}
+use Rattle.clover_rule.proofs.ServerTools.{core_copy, Moves, book_same, tale_copy}
+use Rattle.clover_rule.proofs.Roots.{hold_core}
 
 module _ (l : Pool) (m0 : Map) (used : List ℕ) (m : Mem) (vs : List View) (st : Story) (h : List Entry) (w : Whole l m0 used m vs st h)
     (b0 : ℕ) (lone : link (m.next b0) ≡ None) (loose : (s : ℕ) → st.place b0 ≢ Chained s) (unstocked : (j : ℕ) → st.place b0 ≢ Stocked j)

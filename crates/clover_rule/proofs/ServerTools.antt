@@ -159,24 +159,7 @@ free_place T st Free g b a e = (refl, cc)
 free_place T st Worn g b a e = absurd cc
 free_place T st Taken g b a e = absurd (held_out T g a IsFree e (λ z. absurd cc) (λ z. absurd cc))
 
--- a buffer that is off the chains is held from now on
-pub hold_core : (m : Mem) (st : Story) (b0 : ℕ) → Core m st → link (m.next b0) ≡ None → ((s : ℕ) → st.place b0 ≢ Chained s) → Core m (record st { place = upd st.place b0 Taken })
-hold_core m st b0 c lone loose = record {
-  spotted = c.spotted;
-  passed = λ s i t e g. let x = c.passed s i t e g in record { later = x.later; safe = x.safe };
-  standing = λ s i t e g. let x = c.standing s i t e g in record { placed = upd_else st.place b0 (home t) Taken (λ q. loose s (ap st.place (sym q) ∙ x.placed)) ∙ x.placed; now = x.now; safe = x.safe };
-  sure_most = c.sure_most;
-  sure_all = c.sure_all;
-  rooted = c.rooted;
-  bare = c.bare;
-  led = c.led;
-  root = c.root;
-  froot = λ s. ⊎_elim inl (λ h. inr record { empty = h.empty; unnamed = h.unnamed; alone = h.alone; dead = h.dead }) (c.froot s);
-  loose = λ b f. dite (ℕ_discrete b b0) (λ d. absurd (subst Loose (ap (upd st.place b0 Taken) d ∙ upd_same st.place b0 Taken) f)) (λ n. c.loose b (subst Loose (upd_else st.place b0 b Taken n) f));
-  held = λ b f. dite (ℕ_discrete b b0) (λ d. ap (λ (x : ℕ). link (m.next x)) d ∙ lone) (λ n. c.held b (sym (upd_else st.place b0 b Taken n) ∙ f));
-  chained = λ b s f. dite (ℕ_discrete b b0) (λ d. absurd (cc (ap (upd st.place b0 Taken) d, upd_same st.place b0 Taken, f))) (λ n. c.chained b s (sym (upd_else st.place b0 b Taken n) ∙ f));
-}
-
+-- the history's facts read neither places, roots, names nor tasks
 pub tale_copy : (st : Story) (m0 : Map) (used : List ℕ) (h : List Entry) → Tale st m0 used h → (place : ℕ → Place) (gone lead flead : ℕ → ℕ) (named : ℕ → Bool) (bindings : List (ℕ × List ℕ)) (task : ServerTask) (sn : List ℕ → ℕ)
     → Tale (record st { place = place; gone = gone; lead = lead; flead = flead; named = named; bindings = bindings; task = task; slot_named = sn }) m0 used h
 tale_copy st m0 used h t place gone lead flead named bindings task sn = record { legal = t.legal; told = t.told; began = t.began; unread = t.unread; settled = t.settled; unbound = t.unbound }
