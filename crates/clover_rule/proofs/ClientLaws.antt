@@ -22,7 +22,7 @@ use Rattle.clover_rule.proofs.Tools.{upd_same, upd_else}
 use Rattle.clover_rule.proofs.Steps.{each_map, each_within}
 use Rattle.clover_rule.proofs.ClientSteps.{client_whole, raise_help, raise_serves}
 use Rattle.clover_rule.proofs.RaiseLaw.{known, grows as raise_grows, rule' as raise_rule}
-use Rattle.clover_rule.proofs.Stages.{gen_least}
+use Rattle.clover_rule.proofs.Raising.{raised_higher}
 use Rattle.clover_rule.proofs.Quiet.{quiet}
 
 module _ (l : Pool) (m0 : Map) (used : List ℕ) (m : Mem) (vs : List View) (st : Story) (h : List Entry) (w : Whole l m0 used m vs st h) (id : ℕ) (v : View) (at : nth vs id ≡ Some v) where
@@ -40,14 +40,10 @@ module _ (l : Pool) (m0 : Map) (used : List ℕ) (m : Mem) (vs : List View) (st 
             (raise_rule m0 used m vs st h r id v at q p)
             (raise_help l m st r.core w.help q.slot a.0 q.from q.to record { from = a.1; to = a.2 } h g)
             (raise_serves l m st r.core w.help q.slot a.0 q.from q.to record { from = a.1; to = a.2 } h g)
-            (each_map (λ t d. (d.0, go t (ℕ_discrete (home t) (home q.from)) d.1)) (used_by used h) w.safe)
+            (each_map (λ t d. (d.0, let e = raised_higher m q.from q.to (home t) in let i = d.1 in omega arith)) (used_by used h) w.safe)
             (λ cs x y. y),
         λ b. refl,
       )
-    where
-      go : (t : ℕ) → Dec (home t ≡ home q.from) → age t ≤ gen (m.fnext (home t)) → age t ≤ gen ((raised_mem m q.from q.to).fnext (home t))
-      go t (yes d) i = let e : gen (m.fnext (home t)) ≤ gen ((raised_mem m q.from q.to).fnext (home t)) = rw d (rw (upd_same m.fnext (home q.from) (greater (m.fnext (home q.from)) (word (age q.from) (Some q.to)))) (gen_least (m.fnext (home q.from)) (word (age q.from) (Some q.to)))) in omega arith
-      go t (no d) i = let e = ap gen (upd_else m.fnext (home q.from) (home t) (greater (m.fnext (home q.from)) (word (age q.from) (Some q.to))) d) in omega arith
 
   -- a step that changes no word and adds no entry
   pub quiet_whole : (n : ℕ) → v.pass.role ≡ Client n → (v' : View) → v'.pass.role ≡ v.pass.role → v'.pass.history ≡ v.pass.history → ViewOk m st h id v' → Whole l m0 used m (renewed vs id v') st h

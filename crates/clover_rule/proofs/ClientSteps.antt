@@ -27,7 +27,7 @@ use Rattle.clover_rule.proofs.Standings.{tag_within}
 use Rattle.clover_rule.proofs.Steps.{Grows, nth_set, durable_kept}
 use Rattle.clover_rule.proofs.Linking.{CanLink, gens, u_stands, tag_else, Pushed, before, new, pushed, length_linked}
 use Rattle.clover_rule.proofs.ServerTools.{book_same}
-use Rattle.clover_rule.proofs.Stages.{gen_most}
+use Rattle.clover_rule.proofs.Raising.{raised_below}
 use Rattle.clover_rule.proofs.Raising.{CanRaise, order_below, order_self}
 
 pub each_snoc : {A : Type 0} (P : A → Type 0) (xs : List A) (x : A) → Each P xs → P x → Each P (xs ++ x ∷ [])
@@ -257,8 +257,7 @@ module _ (l : Pool) (m : Mem) (st : Story) (c : Core m st) (p : Help l m st) (s 
       ready = a.ready;
       worn = a.worn;
       fits = a.fits;
-      below = λ b. dite (ℕ_discrete b (home u)) (λ d. rw d (rw (upd_same m.fnext (home u) (greater (m.fnext (home u)) (word (age u) (Some t)))) (gen_most (m.fnext (home u)) (word (age u) (Some t)) (gen (m.next (home u))) (a.below (home u)) u_old)))
-          (λ d. let z = ap gen (upd_else m.fnext (home u) b (greater (m.fnext (home u)) (word (age u) (Some t))) d) in let z1 = a.below b in omega arith);
+      below = λ b. raised_below m u t b u_old (a.below b);
     };
     keyed = let a = p.keyed in record { valid = a.valid; current = a.current; flushed = a.flushed; bare = a.bare; nameless = a.nameless; filled = a.filled; slots = a.slots };
     naming = let a = p.naming in record { counted = a.counted; found = a.found; listed = a.listed; waiting = a.waiting; once = a.once };

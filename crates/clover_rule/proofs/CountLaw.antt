@@ -1,13 +1,12 @@
 -- A load of the count that equals the length of a copy without the key decides that the key is absent.
 use Rattle.std.proofs.Common.{◌≡◌, ℕ, ◌<◌, ◌≤◌, ◌≢◌, ◌⊎◌, List, [], ◌∷◌, ◌++◌, length, append-nil, Bool, true, false, cond, leb, refl, sym, ap, ◌∙◌, inl, inr, ⊎_elim, arith, subst, eq-eqb, ne_eqb, true≢false}
 use mathlib.Core.Logic.{dite}
-use Rattle.std.specs.Prelude.{Option, Some, None}
+use Rattle.std.specs.Prelude.{Option, Some, None, max}
 use Rattle.std.proofs.lemmas.Bool.Decides.{nat_tests}
 use Rattle.clover_words.specs.Tag.{home, age}
 use Rattle.clover_map.specs.declared.call.Call.{Call}
 use Rattle.clover_map.specs.declared.call.Reply.{Reply}
 use Rattle.clover_map.specs.declared.call.Entry.{Entry}
-use Rattle.clover_rule.specs.Changes.{greatest}
 use Rattle.clover_rule.specs.History.{Version, Map, own, used_by, commits, joined, key_of, commit_of, lost_in, grown, Does, named, committed, leads, same_key}
 use Rattle.clover_rule.specs.Knowing.{link_entry}
 use Rattle.clover_rule.specs.Lists.{Each, nth, Within}
@@ -27,7 +26,6 @@ use Rattle.clover_rule.proofs.Histories.{legal_snoc, commits_snoc}
 use Rattle.clover_rule.proofs.Snocs.{unread_snoc, within_nth, within_commits, within_back, used_snoc, own_snoc}
 use Rattle.clover_rule.proofs.Steps.{prefix_self, Grows, view_kept, nth_set, set_here, role_was}
 use Rattle.clover_rule.proofs.AbsentLaw.{same_option, absent_map, whole_prefix}
-use Rattle.clover_rule.proofs.Raising.{most_kept}
 use Rattle.clover_rule.proofs.Uncommitted.{answered, answered_rule}
 use Rattle.clover_rule.proofs.ClientSteps.{each_snoc, client_whole}
 
@@ -80,11 +78,11 @@ module _ (l : Pool) (m0 : Map) (used : List ℕ) (m : Mem) (vs : List View) (st 
               (w.help.stage.names (st.slot_named k) k z)
 
   abbrev counted_view : ℕ → Call → Reply → View
-  counted_view n call reply = answered v h n v.pass.words (greatest v.pass.most m.count) call reply
+  counted_view n call reply = answered v h n v.pass.words (max v.pass.most m.count) call reply
 
   pub count_whole : (n : ℕ) → v.pass.role ≡ Client n → (call : Call) (reply : Reply) → named call ≡ k → committed call reply ≡ None → Does (leads m0 h k) (used_by used h) call reply
       → Whole l m0 used m (renewed vs id (counted_view n call reply)) st (h ++ link_entry v n call reply ∷ [])
   count_whole n role call reply nm cm does = client_whole l m0 used m vs st h w id v (counted_view n call reply) at n role refl m st (h ++ link_entry v n call reply ∷ [])
-      (answered_rule m0 used m vs st h r id v at n role k unread_after v.pass.words ok.words (greatest v.pass.most m.count) (most_kept v.pass.most m.count m.count ok.most (omega arith)) call reply nm cm does) w.help (λ sv e. e)
+      (answered_rule m0 used m vs st h r id v at n role k unread_after v.pass.words ok.words (max v.pass.most m.count) (let q = ok.most in omega arith) call reply nm cm does) w.help (λ sv e. e)
       (subst (Each (λ (x : ℕ). (age x < l.wear) × (age x ≤ gen (m.fnext (home x))))) (sym (used_snoc used h (link_entry v n call reply) ∙ ap (grown (used_by used h)) cm)) w.safe)
       (λ cs a b. each_snoc (λ (x : Entry). Within x.client cs) h (link_entry v n call reply) b a)

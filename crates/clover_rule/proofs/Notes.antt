@@ -4,13 +4,13 @@ use native.Mathlib.Decide.{ℕ_discrete}
 use Rattle.std.specs.Prelude.{Some}
 use Rattle.std.proofs.lemmas.Bool.{leb-true, leb-false}
 use Rattle.clover_map.specs.declared.call.Entry.{Entry}
-use Rattle.clover_rule.specs.History.{Map}
+use Rattle.clover_rule.specs.History.{Map, longer}
 use Rattle.clover_rule.specs.Lists.{Each, nth, Within, IsPrefix}
 use Rattle.clover_rule.specs.Memory.{Mem}
 use Rattle.clover_rule.specs.Server.{Serves, Whole}
 use Rattle.clover_rule.specs.Story.{Stocked, Story}
 use Rattle.clover_rule.specs.Views.{OwnCalls, ViewOk}
-use Rattle.clover_rule.specs.Moves.{longer, noted, spent}
+use Rattle.clover_rule.specs.Moves.{noted, spent}
 use Rattle.clover_rule.specs.declared.view.Role.{Role}
 use Rattle.clover_rule.specs.declared.view.Role.TheVariants.{Serving, Noting, Joined}
 use Rattle.clover_rule.specs.declared.view.Server.{Server}

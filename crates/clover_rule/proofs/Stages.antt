@@ -6,7 +6,7 @@ use Rattle.std.specs.Prelude.{Option, Some, None}
 use Rattle.std.proofs.lemmas.Bool.Decides.{nat_tests}
 use Rattle.clover_words.specs.Tag.{home, age}
 use Rattle.clover_map.specs.declared.call.Entry.{Entry}
-use Rattle.clover_rule.specs.Changes.{raised_mem, raised_story, greatest}
+use Rattle.clover_rule.specs.Changes.{raised_mem, raised_story}
 use Rattle.clover_rule.specs.Content.{inside}
 use Rattle.clover_rule.specs.History.{Version, Map}
 use Rattle.clover_rule.specs.Lists.{Each, nth, upd, Within, IsPrefix}
@@ -33,7 +33,7 @@ use Rattle.clover_rule.proofs.ServerTools.{IsServed, Moves, same_known, own_whol
 use Rattle.clover_rule.proofs.Derived.{current_past}
 use Rattle.clover_rule.proofs.ServerLaws.{stage_at, serves_at}
 use Rattle.clover_rule.proofs.Roots.{root_core, flush_core, flead_cases}
-use Rattle.clover_rule.proofs.Raising.{raise_core, most_left, most_right}
+use Rattle.clover_rule.proofs.Raising.{raise_core, raised_more, raised_now, raised_higher, raised_below}
 use Rattle.clover_rule.proofs.Cuts.{unread_less, unsure_less}
 
 pub grow_refl : (m m' : Mem) (st st' : Story) (h : List Entry) → ((s : ℕ) → st'.log s ≡ st.log s) → ((s : ℕ) → st'.sure s ≡ st.sure s) → ((s : ℕ) → st'.gone s ≡ st.gone s) → ((b : ℕ) → m'.next b ≡ m.next b) → IsPrefix st.bindings st'.bindings → m.count ≤ m'.count → Grows m st h m' st' h
@@ -45,22 +45,6 @@ books_still l m st st' T T' sv g n e r b i = e.books b i ∙ sym (book_same T T'
 
 none_held : (l : Pool) (m : Mem) (st : Story) (T : ServerTask) → Stage l m st T → holding T ≡ None → (b : ℕ) → st.place b ≢ Taken
 none_held l m st T g n b q = absurd (cc (n, g.holds b q))
-
-pub gen_most : (o n : Next) (a : ℕ) → gen o ≤ a → gen n ≤ a → gen (greater o n) ≤ a
-gen_most o n a p q = elim (ltb (order o) (order n)) as (λ (b : Bool). gen (cond b n o) ≤ a) [ true ↦ q | false ↦ p ]
-
-pub gen_least : (o n : Next) → gen o ≤ gen (greater o n)
-gen_least o n = go (ltb (order o) (order n)) refl
-  where
-    rises : (x y : Next) → ltb (order x) (order y) ≡ true → gen x ≤ gen y
-    rises (word a None) (word b None) q = grind (arith, nat_tests)
-    rises (word a None) (word b (Some y)) q = grind (arith, nat_tests)
-    rises (word a (Some x)) (word b None) q = grind (arith, nat_tests)
-    rises (word a (Some x)) (word b (Some y)) q = grind (arith, nat_tests)
-
-    go : (b : Bool) → ltb (order o) (order n) ≡ b → gen o ≤ gen (cond b n o)
-    go true q = rises o n q
-    go false q = omega arith
 
 pub within_two : {A : Type 0} (x y : A) (xs : List A) → Within x (xs ++ y ∷ []) → Within x xs ⊎ (y ≡ x)
 within_two x y [] w = ⊎_elim inr (λ q. absurd q) w
@@ -200,28 +184,15 @@ module _ (l : Pool) (m0 : Map) (used : List ℕ) (m : Mem) (vs : List View) (id 
     abbrev ss : Story
     ss = record (raised_story st cycle.slot (st.gone cycle.slot)) { task = Raised cycle }
 
-    sure_more : (s1 : ℕ) → st.sure s1 ≤ ss.sure s1
-    sure_more s1 = dite (ℕ_discrete s1 cycle.slot) (λ d. rw d (rw (upd_same st.sure cycle.slot (greatest (st.sure cycle.slot) (suc (suc (st.gone cycle.slot))))) (most_left (st.sure cycle.slot) (suc (suc (st.gone cycle.slot)))))) (λ n. let q : ss.sure s1 ≡ st.sure s1 = upd_else st.sure cycle.slot s1 (greatest (st.sure cycle.slot) (suc (suc (st.gone cycle.slot)))) n in omega arith)
-
     now_sure : suc (st.gone cycle.slot) < ss.sure cycle.slot
-    now_sure = rw (upd_same st.sure cycle.slot (greatest (st.sure cycle.slot) (suc (suc (st.gone cycle.slot))))) (most_right (st.sure cycle.slot) (suc (suc (st.gone cycle.slot))))
+    now_sure = raised_now st cycle.slot (st.gone cycle.slot)
 
-    new_f : ms.fnext (home cycle.root) ≡ greater (m.fnext (home cycle.root)) (word (age cycle.root) (Some cycle.next))
-    new_f = upd_same m.fnext (home cycle.root) (greater (m.fnext (home cycle.root)) (word (age cycle.root) (Some cycle.next)))
-
-    else_f : (b : ℕ) → b ≢ home cycle.root → ms.fnext b ≡ m.fnext b
-    else_f b n = upd_else m.fnext (home cycle.root) b (greater (m.fnext (home cycle.root)) (word (age cycle.root) (Some cycle.next))) n
-
-    higher_f : (b : ℕ) → gen (m.fnext b) ≤ gen (ms.fnext b)
-    higher_f b = dite (ℕ_discrete b (home cycle.root)) (λ d. rw d (rw new_f (gen_least (m.fnext (home cycle.root)) (word (age cycle.root) (Some cycle.next))))) (λ n. let z = ap gen (else_f b n) in omega arith)
-
-    below_f : (b : ℕ) → gen (ms.fnext b) ≤ gen (m.next b)
-    below_f b = let a = w.help.ranged in dite (ℕ_discrete b (home cycle.root))
-        (λ d. rw d (rw new_f (gen_most (m.fnext (home cycle.root)) (word (age cycle.root) (Some cycle.next)) (gen (m.next (home cycle.root))) (a.below (home cycle.root)) (let z = ap gen (ru.core.standing cycle.slot (st.gone cycle.slot) cycle.root gl.here.root (omega arith)).now in omega arith))))
-        (λ n. let z = ap gen (else_f b n) in let z1 = a.below b in omega arith)
+    old_root : age cycle.root ≤ gen (m.next (home cycle.root))
+    old_root = let z = ap gen (ru.core.standing cycle.slot (st.gone cycle.slot) cycle.root gl.here.root (omega arith)).now in omega arith
 
     pub flush_link_whole : IsServed l m0 used ms (renewed vs id (link_flushed v cycle)) st h
-    flush_link_whole = led_whole (Loaded cycle) (Raised cycle) e refl (λ s1. refl) refl ms.fnext m.root m.froot ss.sure st.lead st.flead (raise_core m st cycle.slot (st.gone cycle.slot) cycle.root cycle.next ru.core record { from = gl.here.root; to = gl.here.next }) sure_more higher_f below_f
+    flush_link_whole = led_whole (Loaded cycle) (Raised cycle) e refl (λ s1. refl) refl ms.fnext m.root m.froot ss.sure st.lead st.flead (raise_core m st cycle.slot (st.gone cycle.slot) cycle.root cycle.next ru.core record { from = gl.here.root; to = gl.here.next })
+        (raised_more st cycle.slot (st.gone cycle.slot)) (raised_higher m cycle.root cycle.next) (λ b. raised_below m cycle.root cycle.next b old_root (w.help.ranged.below b))
         (λ s1 q. gl.settled s1 (λ z. absurd cc)) gl.names (record { root = gl.here.root; next = gl.here.next }, now_sure) (link_flushed v cycle).pass refl refl
         (λ a. record { stocked = a.stocked; apart = a.apart; durable = ((suc (st.gone cycle.slot), gl.here.next, now_sure), a.durable); links = a.links; words = a.words; written = a.written; flushed = a.flushed; copied = a.copied; names = a.names; added = a.added; most = a.most; history = a.history; calls = a.calls })
 

@@ -1,5 +1,5 @@
 -- Calls, replies, and histories of a tagged map.
-use Rattle.std.specs.Prelude.{◌≡◌, ℕ, ◌≢◌, ◌&&◌, List, [], ◌∷◌, Bool, true, false, cond, eqb, Option, Some, None}
+use Rattle.std.specs.Prelude.{◌≡◌, ℕ, ◌≢◌, ◌&&◌, List, [], ◌∷◌, length, Bool, true, false, cond, eqb, leb, Option, Some, None}
 use Rattle.clover_map.specs.declared.bytes.Value.{Value}
 use Rattle.clover_map.specs.declared.bytes.Held.{Held}
 use Rattle.clover_map.specs.declared.call.Call.{Call}
@@ -88,15 +88,17 @@ Does x used (Swap k e v) (Differs t) = (tag_in x ≡ Some t) × (t ≢ e)
 Does x used (Swap k e v) Absent = x ≡ None
 Does _ _ _ _ = ⊥
 
--- the map, the used tags and both after an entry
+-- the map after a commit at a key
 abbrev pub changed : Map → List ℕ → Option Version → Map
 changed m k None = m
 changed m k (Some w) = at_key m k (pair_of w)
 
+-- the used tags after a commit
 abbrev pub grown : List ℕ → Option Version → List ℕ
 grown used None = used
 grown used (Some w) = w.tag ∷ used
 
+-- the map after an entry
 abbrev pub after : Map → Entry → Map
 after m e = changed m (key_of e) (commit_of e)
 
@@ -105,11 +107,12 @@ abbrev pub Legal : Map → List ℕ → List Entry → Type 0
 Legal m used [] = Unit {0}
 Legal m used (e ∷ h) = Does (m (key_of e)) used e.call e.reply × Legal (after m e) (grown used (commit_of e)) h
 
--- the map to which a history leads, and the tags used by then
+-- the map to which a history leads
 abbrev pub leads : Map → List Entry → Map
 leads m [] = m
 leads m (e ∷ h) = leads (after m e) h
 
+-- the tags used by the end of a history
 abbrev pub used_by : List ℕ → List Entry → List ℕ
 used_by used [] = used
 used_by used (e ∷ h) = used_by (grown used (commit_of e)) h
@@ -118,6 +121,10 @@ used_by used (e ∷ h) = used_by (grown used (commit_of e)) h
 abbrev pub own : ℕ → List Entry → List Entry
 own c [] = []
 own c (e ∷ h) = cond (eqb e.client c) (e ∷ own c h) (own c h)
+
+-- the longer of two histories
+abbrev pub longer : List Entry → List Entry → List Entry
+longer a b = cond (leb (length a) (length b)) b a
 
 -- a version at the front, if there is one
 abbrev pub joined : Option Version → List Version → List Version

@@ -1,6 +1,6 @@
 -- What a step leaves: what its actor knows afterwards, the history, and the words.
 use Prim.Native.Nat.{suc}
-use Rattle.std.specs.Prelude.{ℕ, ◌+◌, ◌==◌, length, slice_index, slice_set, List, [], ◌∷◌, ◌++◌, Bool, cond, eqb, Option, Some, None}
+use Rattle.std.specs.Prelude.{ℕ, ◌+◌, ◌==◌, length, slice_index, slice_set, List, [], ◌∷◌, ◌++◌, Bool, cond, eqb, Option, Some, None, max}
 use Rattle.clover_words.specs.declared.pool.Pool.{Pool}
 use Rattle.clover_words.specs.Place.{address_of}
 use Rattle.clover_words.specs.Tag.{home, age}
@@ -10,7 +10,6 @@ use Rattle.clover_map.specs.declared.call.Reply.{Reply}
 use Rattle.clover_map.specs.declared.call.Reply.TheVariants.{Absent}
 use Rattle.clover_map.specs.declared.call.Entry.{Entry}
 use Rattle.clover_rule.specs.Asks.{key_words}
-use Rattle.clover_rule.specs.Changes.{greatest}
 use Rattle.clover_rule.specs.Knowing.{link_entry, link_view, stored_view, flushed_view}
 use Rattle.clover_rule.specs.Memory.{Next, word}
 use Rattle.clover_rule.specs.Steps.{Step, LoadNext, DecideNext, RaiseNext, LinkNext, StoreContent, FlushContent, LoadContent, ReadRoot, ReadShort, StoreShort, ReadCount, AbsentCount, ReadVersion, FlushLink, StoreRoot, FlushRoot, PassRoot, FreeRoot, StoreTombstone, FlushTombstone, StoreKey, FlushKey, BindRoot, FlushBoundRoot, StoreCount, Restart, word_of, side_of, becomes, act_of, client, reply_of}
@@ -29,16 +28,17 @@ abbrev pub seen : ℕ → ℕ → View → Next → View
 seen s t v (word a None) = record v { pass = record v.pass { words = shown (home t) a None ∷ v.pass.words } }
 seen s t v (word a (Some u)) = record v { pass = record v.pass { words = shown (home t) a (Some u) ∷ v.pass.words; links = cond (eqb a (age t)) (record { slot = s; from = t; to = u } ∷ v.pass.links) v.pass.links } }
 
--- a call that the tail decided, and a count that was loaded
+-- a call that the tail decided
 abbrev pub decided : View → List Entry → ℕ → Call → Reply → View
 decided v h t c r = record v { pass = record v.pass { calls = v.pass.calls ++ link_entry v (client v) c r ∷ []; history = h ++ link_entry v (client v) c r ∷ []; words = shown (home t) (age t) None ∷ v.pass.words } }
 
+-- a count that was loaded
 abbrev pub counts : View → ℕ → View
-counts v x = record v { pass = record v.pass { most = greatest v.pass.most x } }
+counts v x = record v { pass = record v.pass { most = max v.pass.most x } }
 
 -- a call that the count decided
 abbrev pub missed : View → List Entry → Call → ℕ → View
-missed v h c x = record v { pass = record v.pass { calls = v.pass.calls ++ link_entry v (client v) c Absent ∷ []; history = h ++ link_entry v (client v) c Absent ∷ []; most = greatest v.pass.most x } }
+missed v h c x = record v { pass = record v.pass { calls = v.pass.calls ++ link_entry v (client v) c Absent ∷ []; history = h ++ link_entry v (client v) c Absent ∷ []; most = max v.pass.most x } }
 
 -- a root or a shortcut that was loaded
 abbrev pub started : ℕ → View → Option ℕ → View
@@ -151,9 +151,10 @@ counted first act n v = record v {
 abbrev pub next_view : Bool → Step → List Entry → View → ℕ → View
 next_view first a h v x = counted first (act_of a x) (turn_of a x) (learned a h v x)
 
--- the number that the step finds, and the words after it
+-- the number that the step finds
 abbrev pub found : Pool → Step → List ℕ → ℕ
 found p a ws = slice_index ws (address_of p (word_of a) (side_of a))
 
+-- the words after the step
 abbrev pub words_after_step : Pool → Step → List ℕ → List ℕ
 words_after_step p a ws = slice_set ws (address_of p (word_of a) (side_of a)) (becomes a (found p a ws))

@@ -6,10 +6,11 @@ use Rattle.std.specs.Prelude.{ℕ, ◌+◌, cond, ltb, Option, Some, None}
 pub data Next : Type 0 where
   word : ℕ → Option ℕ → Next
 
--- the generation and the link of a next word
+-- the generation of a next word
 abbrev pub gen : Next → ℕ
 gen (word a l) = a
 
+-- the link of a next word
 abbrev pub link : Next → Option ℕ
 link (word a l) = l
 

@@ -49,17 +49,19 @@ pub record Keyed (l : Pool) (m : Mem) (st : Story) : Type 0 where
 abbrev pub Settled : Story → ℕ → Type 0
 Settled st s = (st.lead s ≡ st.gone s) × (st.flead s ≡ st.gone s)
 
--- the slot whose two root copies are on their way, the slot that waits for its count, and the buffer that the task holds
+-- the slot whose two root copies are on their way
 abbrev pub moving : ServerTask → Option ℕ
 moving (Led c) = Some c.slot
 moving (Both c) = Some c.slot
 moving _ = None
 
+-- the slot that waits for its count
 abbrev pub unnamed : ServerTask → Option ℕ
 unnamed (Rooted b) = Some b.slot
 unnamed (Waiting b) = Some b.slot
 unnamed _ = None
 
+-- the buffer that the task holds
 abbrev pub holding : ServerTask → Option ℕ
 holding (Storing b n) = Some (home b.tag)
 holding (Exchanged c) = Some (home c.root)

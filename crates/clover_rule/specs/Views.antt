@@ -45,10 +45,11 @@ abbrev pub find_root : List (ℕ × ℕ) → ℕ → Option ℕ
 find_root [] s = None
 find_root (x ∷ xs) s = cond (eqb x.0 s) (Some x.1) (find_root xs s)
 
--- the books and the roots of a server
+-- the books of a server
 abbrev pub book_at : Server → ℕ → Book
 book_at sv = find_book sv.books
 
+-- the roots of a server
 abbrev pub root_at : Server → ℕ → Option ℕ
 root_at sv = find_root sv.roots
 

@@ -13,10 +13,11 @@ use Rattle.clover_rule.specs.Memory.{Next, word, Mem}
 abbrev pub next_code : Next → ℕ
 next_code (word a x) = a * 2 ^ 43 + root_code x
 
--- what a number says as a root, and as a next word
+-- what a number says as a root
 abbrev pub root_of : ℕ → Option ℕ
 root_of n = cond (nat_lt n 4398046511104) None (Some (n - 4398046511104))
 
+-- what a number says as a next word
 abbrev pub next_of : ℕ → Next
 next_of n = word (n / 8796093022208) (root_of (n % 8796093022208))
 
