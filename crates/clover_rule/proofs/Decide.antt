@@ -10,7 +10,8 @@ use Rattle.clover_map.specs.declared.call.Reply.{Reply}
 use Rattle.clover_map.specs.declared.call.Entry.{Entry}
 use Rattle.clover_map.specs.declared.bytes.Held.{Held}
 use Rattle.clover_rule.specs.Content.{content}
-use Rattle.clover_rule.specs.History.{pair_of, Version, Map, own, used_by, commits, ends, joined, key_of, commit_of, lost_in, grown, Does, named, committed, leads, same_key}
+use Rattle.std.specs.Str.{bytes_eq}
+use Rattle.clover_rule.specs.History.{pair_of, Version, Map, own, used_by, commits, ends, joined, key_of, commit_of, lost_in, grown, Does, named, committed, leads}
 use Rattle.clover_rule.specs.Knowing.{link_entry}
 use Rattle.clover_rule.specs.Lists.{Each, nth, Within}
 use Rattle.clover_rule.specs.Memory.{word, gen, Mem}

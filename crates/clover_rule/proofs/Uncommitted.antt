@@ -5,7 +5,8 @@ use Rattle.std.specs.Prelude.{Option, Some, None}
 use Rattle.clover_map.specs.declared.call.Call.{Call}
 use Rattle.clover_map.specs.declared.call.Reply.{Reply}
 use Rattle.clover_map.specs.declared.call.Entry.{Entry}
-use Rattle.clover_rule.specs.History.{Version, Map, own, used_by, commits, joined, key_of, commit_of, lost_in, grown, Does, named, committed, leads, same_key}
+use Rattle.std.specs.Str.{bytes_eq}
+use Rattle.clover_rule.specs.History.{Version, Map, own, used_by, commits, joined, key_of, commit_of, lost_in, grown, Does, named, committed, leads}
 use Rattle.clover_rule.specs.Knowing.{link_entry}
 use Rattle.clover_rule.specs.Lists.{Each, nth, Within}
 use Rattle.clover_rule.specs.Memory.{word, Mem}
@@ -42,7 +43,7 @@ module _ (m0 : Map) (used : List ℕ) (m : Mem) (vs : List View) (st : Story) (h
   v' = answered v h n words most call reply
 
   none_more : (k1 : List ℕ) → commits k1 (e ∷ []) ≡ []
-  none_more k1 = ap (λ (o : Option Version). cond (same_key (named call) k1) (joined o []) []) cm ∙ both (same_key (named call) k1)
+  none_more k1 = ap (λ (o : Option Version). cond (bytes_eq (named call) k1) (joined o []) []) cm ∙ both (bytes_eq (named call) k1)
     where
       both : (b : Bool) → ◌≡◌ {A = List Version} (cond b (joined None []) []) []
       both true = refl

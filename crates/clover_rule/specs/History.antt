@@ -1,5 +1,6 @@
 -- Calls, replies, and histories of a tagged map.
 use Rattle.std.specs.Prelude.{◌≡◌, ℕ, ◌≢◌, ◌&&◌, List, [], ◌∷◌, length, Bool, true, false, cond, eqb, leb, Option, Some, None}
+use Rattle.std.specs.Str.{bytes_eq}
 use Rattle.clover_map.specs.declared.bytes.Value.{Value}
 use Rattle.clover_map.specs.declared.bytes.Held.{Held}
 use Rattle.clover_map.specs.declared.call.Call.{Call}
@@ -11,13 +12,6 @@ use Rattle.clover_map.specs.Does.{held}
 use Rattle.clover_map.specs.Tagged.{Tagged}
 use Rattle.std.specs.FinMap.{get}
 use Rattle.clover_rule.specs.Lists.{Each}
-
--- two keys are the same
-abbrev pub same_key : List ℕ → List ℕ → Bool
-same_key [] [] = true
-same_key [] (y ∷ ys) = false
-same_key (x ∷ xs) [] = false
-same_key (x ∷ xs) (y ∷ ys) = eqb x y && same_key xs ys
 
 -- a version: its tag, and its value, or none for a tombstone
 pub record Version : Type 0 where
@@ -34,7 +28,7 @@ shows m = λ (k : List ℕ). get m k
 
 -- a function of keys with another value at one key
 abbrev pub at_key : {A : Type 0} → (List ℕ → A) → List ℕ → A → List ℕ → A
-at_key f k a = λ (j : List ℕ). cond (same_key k j) a (f j)
+at_key f k a = λ (j : List ℕ). cond (bytes_eq k j) a (f j)
 
 -- the key that a call names
 abbrev pub named : Call → List ℕ
@@ -134,7 +128,7 @@ joined (Some w) ws = w ∷ ws
 -- the versions that a history commits at a key, in order
 abbrev pub commits : List ℕ → List Entry → List Version
 commits k [] = []
-commits k (e ∷ h) = cond (same_key (key_of e) k) (joined (commit_of e) (commits k h)) (commits k h)
+commits k (e ∷ h) = cond (bytes_eq (key_of e) k) (joined (commit_of e) (commits k h)) (commits k h)
 
 -- what a key has once these versions were committed behind what it had
 abbrev pub ends : Option Held → List Version → Option Held
