@@ -1,6 +1,6 @@
 -- A get of a slot's key: where it stands, which step its next access is, and how it goes on by what that access found.
 use Prim.Native.Nat.{suc}
-use Rattle.std.specs.Prelude.{◌≡◌, ℕ, ◌*◌, ◌==◌, List, cond, ltb, take, Option, Some, None, IfSome}
+use Rattle.std.specs.Prelude.{◌≡◌, ℕ, ◌*◌, ◌==◌, List, ltb, take, Option, Some, None, IfSome, if◌then◌else◌}
 use Rattle.clover_words.specs.declared.bytes.ValueBuf.{ValueBuf}
 use Rattle.clover_words.specs.declared.meta.Kind.{Kind}
 use Rattle.clover_words.specs.declared.meta.Kind.TheVariants.{Value as IsValue, Tombstone}
@@ -65,11 +65,11 @@ sought w = getting w (stage_at w.stand)
 
 -- the next value word of a value of so many bytes, or the last load
 abbrev pub valued : ℕ → ℕ → ℕ → ℕ → Stage
-valued t f size j = cond (ltb j (words_of size)) (AtValue t f j) (AtFound t f)
+valued t f size j = if ltb j (words_of size) then AtValue t f j else AtFound t f
 
 -- what a meta word leads to: a value that the buffers have room for, a tombstone, or neither
 abbrev pub read_kind : Pool → ℕ → Kind → ℕ → ℕ → Stage
-read_kind p t IsValue f size = cond (ltb (8 * p.words) size) (AtBad t) (valued t f size 0)
+read_kind p t IsValue f size = if ltb (8 * p.words) size then AtBad t else valued t f size 0
 read_kind p t Tombstone f size = AtDead t
 
 abbrev pub read_stage : Pool → ℕ → Option MetaParts → Stage
@@ -86,8 +86,8 @@ abbrev pub GoesFrom : Stage → Walking → ℕ → ℕ → Getting → Type 0
 GoesFrom Seeking w size x g = g ≡ sought (goes_on w x)
 GoesFrom (AtMeta t) w size x g = (o : Option MetaParts) × Reads x o × (g ≡ getting w (read_stage w.pool t o))
 GoesFrom (AtValue t f j) w size x g = g ≡ getting w (valued t f size (suc j))
-GoesFrom (AtFound t f) w size x g = g ≡ cond (x == unlinked t) (getting w Over) (sought (goes_on w x))
-GoesFrom (AtDead t) w size x g = g ≡ cond (x == unlinked t) (getting w Over) (sought (goes_on w x))
+GoesFrom (AtFound t f) w size x g = g ≡ (if x == unlinked t then getting w Over else sought (goes_on w x))
+GoesFrom (AtDead t) w size x g = g ≡ (if x == unlinked t then getting w Over else sought (goes_on w x))
 GoesFrom (AtBad t) w size x g = g ≡ sought (goes_on w x)
 GoesFrom Over w size x g = ⊥
 

@@ -1,5 +1,5 @@
 -- What contracts see of a plain pool, and how an access changes it.
-use Rattle.std.specs.Prelude.{◌≡◌, ℕ, ◌+◌, ◌-◌, ◌^◌, ◌≤◌, ◌<◌, ◌&&◌, ◌⊎◌, cond, min, nat_lt, slice_index_or, slice_set, List, [], ◌∷◌, ◌++◌, length, Bool, true, false}
+use Rattle.std.specs.Prelude.{◌≡◌, ℕ, ◌+◌, ◌-◌, ◌^◌, ◌≤◌, ◌<◌, ◌&&◌, ◌⊎◌, min, nat_lt, slice_index_or, slice_set, List, [], ◌∷◌, ◌++◌, length, Bool, true, false, if◌then◌else◌}
 use Prim.Native.Nat.{zero, suc}
 use Rattle.std.specs.FinMap as finite
 use Rattle.atomic_table.specs.Seated.{TableId}
@@ -22,7 +22,12 @@ use Rattle.clover_rule.specs.declared.view.Role.{Role}
 use Rattle.clover_rule.specs.declared.view.Role.TheVariants.{Client as ClientRole, Serving}
 use Rattle.clover_rule.specs.declared.view.View.{View}
 use Rattle.std.specs.Prelude.{Some}
+use Rattle.clover_words.specs.declared.word.Word.{Word}
+use Rattle.clover_words.specs.declared.word.Side.{Side}
+use Rattle.clover_words.specs.declared.word.Side.TheVariants.{Current, Flushed}
 use Rattle.clover_port.specs.Told.{Open}
+use Rattle.clover_port.specs.declared.op.Op.{Op}
+use Rattle.clover_port.specs.declared.op.Op.TheVariants.{Load as ToLoad, Store as ToStore, Exchange as ToExchange, Raise as ToRaise}
 
 pub record Plain : Type 0 where
   pub setup : Setup
@@ -69,6 +74,20 @@ history p = longest (p.views ++ p.absent)
 abbrev pub open_of : Plain → Open
 open_of p = record { words = p.words; history = history p }
 
+-- the word that an access is on
+abbrev pub op_word : Op → Word
+op_word (ToLoad w) = w
+op_word (ToStore w side y) = w
+op_word (ToExchange w expected new) = w
+op_word (ToRaise w y) = w
+
+-- the copy of the word that an access is on
+abbrev pub op_side : Op → Side
+op_side (ToLoad w) = Current
+op_side (ToStore w side y) = side
+op_side (ToExchange w expected new) = Current
+op_side (ToRaise w y) = Flushed
+
 -- the words after these acts
 abbrev pub after_acts : Pool → List ℕ → List Act → List ℕ
 after_acts p ws [] = ws
@@ -95,10 +114,10 @@ IsActor p a = (seat : ℕ) × HasSeat p a seat
 
 -- the actor of a seat, and the role of what it knows
 abbrev pub actor_at : Setup → ℕ → Actor
-actor_at s seat = cond (nat_lt seat s.clients) (Client (suc seat)) Server
+actor_at s seat = if nat_lt seat s.clients then Client (suc seat) else Server
 
 abbrev pub role_at : Setup → ℕ → Role
-role_at s seat = cond (nat_lt seat s.clients) (ClientRole (suc seat)) Serving
+role_at s seat = if nat_lt seat s.clients then ClientRole (suc seat) else Serving
 
 abbrev pub HasRole : Actor → View → Type 0
 HasRole (Client n) v = v.pass.role ≡ ClientRole n
@@ -142,7 +161,7 @@ numbers (suc n) = suc n ∷ numbers n
 
 -- what the actor of a seat knows as a run begins from words of 0
 abbrev pub first_view : Setup → ℕ → View
-first_view s seat = record (alone (start_pass s.pool finite.empty [] (role_at s seat))) { server = record no_server { clients = cond (nat_lt seat s.clients) [] (numbers s.clients) } }
+first_view s seat = record (alone (start_pass s.pool finite.empty [] (role_at s seat))) { server = record no_server { clients = if nat_lt seat s.clients then [] else numbers s.clients } }
 
 -- there is room for one access and one entry
 pub record HasRoom (p : Plain) : Type 0 where

@@ -156,6 +156,7 @@ changed_in f g i k a here else j l = by (ℕ_discrete j i) (ℕ_discrete l k)
     by (yes d) (yes e) = rw (d, e) (here ∙ sym (ap (λ (q : ℕ → ℕ). q k) (upd_same g i (upd (g i) k a)) ∙ upd_same (g i) k a))
     by (yes d) (no e) = else j l (λ x y. e y) ∙ rw d (sym (ap (λ (q : ℕ → ℕ). q l) (upd_same g i (upd (g i) k a)) ∙ upd_else (g i) k l a e))
     by (no d) e = else j l (λ x y. d x) ∙ sym (ap (λ (q : ℕ → ℕ). q l) (upd_else g i j (upd (g i) k a) d))
+
 -- the codes and what they say
 pub root_again : (x : Option ℕ) → root_of (root_code x) ≡ x
 root_again None = refl
@@ -165,7 +166,6 @@ pub next_again : (a : ℕ) (x : Option ℕ) → root_code x < 8796093022208 → 
 next_again a x h = let n : ℕ = root_code x in
     let q : (a * 8796093022208 + n) / 8796093022208 ≡ a = omega arith in let r : (a * 8796093022208 + n) % 8796093022208 ≡ n = omega arith in
     ap (λ (y : ℕ). word y (root_of ((a * 8796093022208 + n) % 8796093022208))) q ∙ ap (λ (y : ℕ). word a (root_of y)) r ∙ ap (word a) (root_again x)
-
 
 -- the decoded words of m are those of n, each kind and side but those of a written copy
 record Others (m n : Mem) (j : ℕ) (s : Side) : Type 0 where
@@ -179,7 +179,6 @@ record Others (m n : Mem) (j : ℕ) (s : Side) : Type 0 where
   pub count : Apart j s 5 Current → m.count ≡ n.count
   pub key : Apart j s 3 Current → (b k : ℕ) → m.key b k ≡ n.key b k
   pub fkey : Apart j s 3 Flushed → (b k : ℕ) → m.fkey b k ≡ n.fkey b k
-
 
 -- one copy of one word is written: each other one is as before
 module _ (p : Pool) (ws : List ℕ) (w : Word) (s0 : Side) (n : ℕ) (hw : IsWithin p w) (hs : HasSide w s0) where

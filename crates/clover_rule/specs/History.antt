@@ -1,5 +1,5 @@
 -- Calls, replies, and histories of a tagged map.
-use Rattle.std.specs.Prelude.{◌≡◌, ℕ, ◌≢◌, ◌&&◌, List, [], ◌∷◌, length, Bool, true, false, cond, eqb, leb, Option, Some, None}
+use Rattle.std.specs.Prelude.{◌≡◌, ℕ, ◌≢◌, ◌&&◌, List, [], ◌∷◌, length, Bool, true, false, leb, Option, Some, None, if◌then◌else◌, ◌==◌}
 use Rattle.std.specs.Str.{bytes_eq}
 use Rattle.clover_map.specs.declared.bytes.Value.{Value}
 use Rattle.clover_map.specs.declared.bytes.Held.{Held}
@@ -28,7 +28,7 @@ shows m = λ (k : List ℕ). get m k
 
 -- a function of keys with another value at one key
 abbrev pub at_key : {A : Type 0} → (List ℕ → A) → List ℕ → A → List ℕ → A
-at_key f k a = λ (j : List ℕ). cond (bytes_eq k j) a (f j)
+at_key f k a = λ (j : List ℕ). if bytes_eq k j then a else f j
 
 -- the key that a call names
 abbrev pub named : Call → List ℕ
@@ -114,11 +114,11 @@ used_by used (e ∷ h) = used_by (grown used (commit_of e)) h
 -- the entries of one client
 abbrev pub own : ℕ → List Entry → List Entry
 own c [] = []
-own c (e ∷ h) = cond (eqb e.client c) (e ∷ own c h) (own c h)
+own c (e ∷ h) = if e.client == c then e ∷ own c h else own c h
 
 -- the longer of two histories
 abbrev pub longer : List Entry → List Entry → List Entry
-longer a b = cond (leb (length a) (length b)) b a
+longer a b = if leb (length a) (length b) then b else a
 
 -- a version at the front, if there is one
 abbrev pub joined : Option Version → List Version → List Version
@@ -128,7 +128,7 @@ joined (Some w) ws = w ∷ ws
 -- the versions that a history commits at a key, in order
 abbrev pub commits : List ℕ → List Entry → List Version
 commits k [] = []
-commits k (e ∷ h) = cond (bytes_eq (key_of e) k) (joined (commit_of e) (commits k h)) (commits k h)
+commits k (e ∷ h) = if bytes_eq (key_of e) k then joined (commit_of e) (commits k h) else commits k h
 
 -- what a key has once these versions were committed behind what it had
 abbrev pub ends : Option Held → List Version → Option Held
@@ -143,7 +143,7 @@ lost_in lost (Some w) = lost w.tag
 -- the history without the commits of the lost tags
 abbrev pub kept : (ℕ → Bool) → List Entry → List Entry
 kept lost [] = []
-kept lost (e ∷ h) = cond (lost_in lost (commit_of e)) (kept lost h) (e ∷ kept lost h)
+kept lost (e ∷ h) = if lost_in lost (commit_of e) then kept lost h else e ∷ kept lost h
 
 -- no entry names the key
 abbrev pub Silent : List ℕ → List Entry → Type 0

@@ -1,5 +1,5 @@
 -- The server's view, and what its unfinished task holds.
-use Rattle.std.specs.Prelude.{◌≡◌, ℕ, cond, eqb, List, Option, Some, None}
+use Rattle.std.specs.Prelude.{◌≡◌, ℕ, List, Option, Some, None, if◌then◌else◌, ◌==◌}
 use Rattle.clover_words.specs.Tag.{home}
 use Rattle.clover_rule.specs.Lists.{nth}
 use Rattle.clover_rule.specs.declared.view.Role.TheVariants.{Serving}
@@ -13,9 +13,9 @@ IsServer vs v = (i : ℕ) × (nth vs i ≡ Some v) × (v.pass.role ≡ Serving)
 
 -- the version under recycling of a slot: the old root version, from the store of the root on
 abbrev pub recycled_by : ServerTask → ℕ → Option ℕ
-recycled_by (Led c) s = cond (eqb c.slot s) (Some c.root) None
-recycled_by (Both c) s = cond (eqb c.slot s) (Some c.root) None
-recycled_by (Exchanged c) s = cond (eqb c.slot s) (Some c.root) None
+recycled_by (Led c) s = if c.slot == s then Some c.root else None
+recycled_by (Both c) s = if c.slot == s then Some c.root else None
+recycled_by (Exchanged c) s = if c.slot == s then Some c.root else None
 recycled_by _ s = None
 
 -- the buffer that the task holds: a binding's until its root is stored, or that of the version under recycling

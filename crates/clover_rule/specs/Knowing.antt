@@ -9,7 +9,7 @@ use Rattle.clover_rule.specs.declared.view.Content.{Content}
 use Rattle.clover_rule.specs.declared.view.Role.TheVariants.{Client}
 use Rattle.clover_rule.specs.declared.view.View.{View}
 use Prim.Native.Nat.{suc}
-use Rattle.std.specs.Prelude.{◌≡◌, ℕ, ◌^◌, ◌<◌, ◌≤◌, ◌&&◌, List, [], ◌∷◌, ◌++◌, length, cond, eqb, Option, Some}
+use Rattle.std.specs.Prelude.{◌≡◌, ℕ, ◌^◌, ◌<◌, ◌≤◌, ◌&&◌, List, [], ◌∷◌, ◌++◌, length, Option, Some, if◌then◌else◌, ◌==◌}
 use Rattle.clover_map.specs.declared.bytes.Value.{Value}
 use Rattle.clover_map.specs.declared.call.Call.{Call}
 use Rattle.clover_map.specs.declared.call.Reply.{Reply}
@@ -65,7 +65,7 @@ pub record CopiedValue (v : View) (s t : ℕ) (x : Value) : Type 0 where
 -- what a seat had stored at this place of its buffer is forgotten
 abbrev pub dropped : ℕ → ℕ → List Content → List Content
 dropped t j [] = []
-dropped t j (c ∷ cs) = cond (eqb c.tag t && eqb c.place j) (dropped t j cs) (c ∷ dropped t j cs)
+dropped t j (c ∷ cs) = if c.tag == t && c.place == j then dropped t j cs else c ∷ dropped t j cs
 
 -- the view after a store of a content word
 abbrev pub stored_view : View → ℕ → ℕ → ℕ → View

@@ -1,6 +1,6 @@
 -- The helping facts beside the core: ranges, keys, stages, names, and what the view of the server says.
 use Prim.Native.Nat.{suc}
-use Rattle.std.specs.Prelude.{◌≡◌, ℕ, ◌+◌, ◌<◌, ◌≤◌, ◌≢◌, ◌⊎◌, List, [], ◌∷◌, ◌++◌, length, Bool, true, false, cond, eqb, Option, Some, None}
+use Rattle.std.specs.Prelude.{◌≡◌, ℕ, ◌+◌, ◌<◌, ◌≤◌, ◌≢◌, ◌⊎◌, List, [], ◌∷◌, ◌++◌, length, Bool, true, false, Option, Some, None, if◌then◌else◌, ◌==◌}
 use Rattle.clover_words.specs.Meta.{tombstone}
 use Rattle.clover_words.specs.Tag.{home, age}
 use Rattle.clover_map.specs.declared.call.Entry.{Entry}
@@ -137,9 +137,9 @@ pub record Help (l : Pool) (m : Mem) (st : Story) : Type 0 where
 
 -- where the server's directory lags behind the story, which root it has: none of a slot that is being bound, the old one of a recycling
 abbrev pub lagging : ServerTask → ℕ → Option (Option ℕ)
-lagging (Rooted b) s = cond (eqb b.slot s) (Some None) None
-lagging (Waiting b) s = cond (eqb b.slot s) (Some None) None
-lagging (Exchanged c) s = cond (eqb c.slot s) (Some (Some c.root)) None
+lagging (Rooted b) s = if b.slot == s then Some None else None
+lagging (Waiting b) s = if b.slot == s then Some None else None
+lagging (Exchanged c) s = if c.slot == s then Some (Some c.root) else None
 lagging _ s = None
 
 -- what is there, or else the other
@@ -154,7 +154,7 @@ root_in task st s = or_else (lagging task s) (tag_at st s (st.gone s))
 -- the tag is one of the buffer
 abbrev pub is_home : Option ℕ → ℕ → Bool
 is_home None b = false
-is_home (Some t) b = eqb (home t) b
+is_home (Some t) b = home t == b
 
 -- what the books say of the buffer that the task holds
 abbrev pub held_book : ServerTask → ℕ → Book
@@ -163,7 +163,7 @@ held_book _ g = book g IsOut
 
 -- what the books say of a buffer at a place
 abbrev pub book_of : ServerTask → Story → Place → ℕ → ℕ → Book
-book_of task st (Chained s) g b = book g (cond (is_home (root_in task st s) b) IsBound IsOut)
+book_of task st (Chained s) g b = book g (if is_home (root_in task st s) b then IsBound else IsOut)
 book_of task st (Stocked i) g b = book g IsOut
 book_of task st Free g b = book g IsFree
 book_of task st Worn g b = book g IsWorn
