@@ -4,7 +4,7 @@ use Rattle.atomic_table.specs.Table.{keeps}
 use Rattle.clover_rule.specs.declared.view.View.{View}
 use Rattle.clover_plain.specs.Kept.{views_of, view_of}
 use Rattle.clover_plain.proofs.Seating.{views_of-set, fit_set, fit_at, view_here}
-use Rattle.clover_plain.proofs.seats.deal_view.Goals as goal
+use Rattle.clover_plain.proofs.seats.renew.Goals as goal
 
 pub load-requires : goal.load-requires
 load-requires g c = (fit_at _ _ c.args.at _ c.requires.fits.0 c.requires.at c.index_mut-seat.ensures.value, c.requires.fits.1, λ s u len at below. (g.J.ViewName.becomes c.index_mut-seat.result.now.me.0, keeps, tt, tt, refl))
