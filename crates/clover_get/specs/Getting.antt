@@ -29,6 +29,7 @@ pub record Getting : Type 0 where
   pub walk : Walking
   pub stage : Stage
 
+-- a get with this walk at this stage
 abbrev pub getting : Walking → Stage → Getting
 getting w s = record { walk = w; stage = s }
 
@@ -51,6 +52,7 @@ step_from (AtDead t) w k into = DecideNext w.slot t (Get k) Absent
 step_from (AtBad t) w k into = LoadNext w.slot t
 step_from Over w k into = walk_step w
 
+-- the step that the next access of the get is
 abbrev pub get_step : Getting → List ℕ → ValueBuf → Step
 get_step g k into = step_from g.stage g.walk k into
 
@@ -60,6 +62,7 @@ stage_at (OnTail t) = AtMeta t
 stage_at Ended = Over
 stage_at s = Seeking
 
+-- a get that goes with its walk
 abbrev pub sought : Walking → Getting
 sought w = getting w (stage_at w.stand)
 
@@ -72,6 +75,7 @@ abbrev pub read_kind : Pool → ℕ → Kind → ℕ → ℕ → Stage
 read_kind p t IsValue f size = if ltb (8 * p.words) size then AtBad t else valued t f size 0
 read_kind p t Tombstone f size = AtDead t
 
+-- the stage behind the load of a meta word
 abbrev pub read_stage : Pool → ℕ → Option MetaParts → Stage
 read_stage p t None = AtBad t
 read_stage p t (Some m) = read_kind p t m.kind m.flags m.length
@@ -91,6 +95,7 @@ GoesFrom (AtDead t) w size x g = g ≡ (if x == unlinked t then getting w Over e
 GoesFrom (AtBad t) w size x g = g ≡ sought (goes_on w x)
 GoesFrom Over w size x g = ⊥
 
+-- how the get goes on where its access found this number
 abbrev pub GoesOn : Getting → ℕ → ℕ → Getting → Type 0
 GoesOn g size x g1 = GoesFrom g.stage g.walk size x g1
 

@@ -29,6 +29,7 @@ use Rattle.clover_port.specs.Told.{Open}
 use Rattle.clover_port.specs.declared.op.Op.{Op}
 use Rattle.clover_port.specs.declared.op.Op.TheVariants.{Load as ToLoad, Store as ToStore, Exchange as ToExchange, Raise as ToRaise}
 
+-- what contracts see of a plain pool
 pub record Plain : Type 0 where
   pub setup : Setup
   -- the map and the used tags with which the run began
@@ -54,11 +55,12 @@ pub record Plain : Type 0 where
   pub access_room : ℕ
   pub entry_room : ℕ
 
--- the map and the used tags with which the run of these views began; each view has them
+-- the map with which the run of these views began; each view has it
 abbrev pub first_of : List View → Tagged
 first_of [] = finite.empty
 first_of (v ∷ vs) = v.pass.map
 
+-- the used tags with which it began
 abbrev pub used_of : List View → List ℕ
 used_of [] = []
 used_of (v ∷ vs) = v.pass.used
@@ -71,6 +73,7 @@ view_at p i = slice_index_or p.views i nobody
 abbrev pub history : Plain → List Entry
 history p = longest (p.views ++ p.absent)
 
+-- the words and the history of the moment
 abbrev pub open_of : Plain → Open
 open_of p = record { words = p.words; history = history p }
 
@@ -109,16 +112,19 @@ HasSeat p (Client n) seat = (1 ≤ n) × (n ≤ p.setup.clients) × (suc seat �
 HasSeat p Server seat = (seat ≡ p.setup.clients) × (seat < length p.views)
 HasSeat p Restart seat = ⊥
 
+-- the actor has a seat
 abbrev pub IsActor : Plain → Actor → Type 0
 IsActor p a = (seat : ℕ) × HasSeat p a seat
 
--- the actor of a seat, and the role of what it knows
+-- the actor of a seat
 abbrev pub actor_at : Setup → ℕ → Actor
 actor_at s seat = if nat_lt seat s.clients then Client (suc seat) else Server
 
+-- the role of what the actor of a seat knows
 abbrev pub role_at : Setup → ℕ → Role
 role_at s seat = if nat_lt seat s.clients then ClientRole (suc seat) else Serving
 
+-- what this actor knows has its role
 abbrev pub HasRole : Actor → View → Type 0
 HasRole (Client n) v = v.pass.role ≡ ClientRole n
 HasRole Server v = v.pass.role ≡ Serving
@@ -168,6 +174,7 @@ pub record HasRoom (p : Plain) : Type 0 where
   pub access : p.traced ≡ true → 1 ≤ p.access_room
   pub entry : 1 ≤ p.entry_room
 
+-- an access of the actor of a seat, refused or not
 abbrev pub access : Setup → ℕ → Act → Bool → Access
 access s seat a refused = record { actor = actor_at s seat; act = a; refused = refused }
 

@@ -33,6 +33,7 @@ tag_at p n = tag_number (record { node = n / p.buffers; index = n % p.buffers; g
 abbrev pub tomb : Pool → ℕ → ℕ
 tomb p s = tag_at p (tombstone_number p s)
 
+-- the number, or 0
 abbrev pub or_zero : Option ℕ → ℕ
 or_zero None = 0
 or_zero (Some x) = x
@@ -52,6 +53,7 @@ preset_word s keys (Key n k) = key_word (nth keys n) k
 preset_word s keys (Short n) = 0
 preset_word s keys Count = length keys
 
+-- both copies of each word are so
 abbrev pub IsPreset : Setup → List (List ℕ) → List ℕ → Type 0
 IsPreset s keys ws = (w : Word) (side : Side) → IsWithin s.pool w → HasSide w side → copy_in s.pool ws w side ≡ preset_word s keys w
 
@@ -60,6 +62,7 @@ abbrev pub dealt_from : Setup → ℕ → ℕ → ℕ → List ℕ
 dealt_from s c put zero = []
 dealt_from s c put (suc n) = if nat_lt (dealt_number s c put + s.pool.slots) (buffers_total s.pool) then tag_at s.pool (dealt_number s c put) ∷ dealt_from s c (suc put) n else []
 
+-- a pass with this stock and these names
 abbrev pub knowing : Pass → List ℕ → List (ℕ × List ℕ) → Pass
 knowing v stock names = record v { stock = stock; names = names }
 

@@ -38,6 +38,7 @@ Owns AtShort c v = Unit {0}
 Owns Over c v = ⊥
 Owns _ c v = (rest : List ℕ) × (v.pass.stock ≡ c.own ∷ rest)
 
+-- the put is at this tail
 abbrev pub IsAt : Putting → ℕ → Type 0
 IsAt c u = (c.walk.stand ≡ OnTail u) × InRange c.walk.pool u
 
@@ -68,6 +69,7 @@ Looks _ c v = IsOnWay c.walk.stand
 abbrev pub behind_it : Putting → ℕ
 behind_it c = 2 * length (body c) + 5 * c.walk.turns
 
+-- the accesses of the call at most
 abbrev pub most : Stage → Putting → ℕ
 most (Storing j) c = j
 most (Flushing j) c = length (body c) + j

@@ -56,10 +56,11 @@ call_of (Swap t) k x = SwapCall k (tag_number t) x
 abbrev pub call_at : Putting → View → Call
 call_at c v = call_of c.job (key_at v.pass.names c.walk.slot) c.value
 
--- the words of the version that is committed, and the one at a place
+-- the words of the version that is committed
 abbrev pub body : Putting → List ℕ
 body c = content (commits c.job c.value)
 
+-- the content word of the own version at a place
 abbrev pub body_word : Job → Value → ℕ → ℕ
 body_word Delete x j = tombstone
 body_word Put x zero = value_meta x
@@ -95,13 +96,15 @@ made_put w j t x = record { walk = w; job = j; own = t; value = x; stage = Stori
 abbrev pub staged : Putting → Stage → Putting
 staged c at = record c { stage = at }
 
--- a content word more was stored, or flushed
+-- the stage after a content word more was stored
 abbrev pub after_store : ℕ → ℕ → Stage
 after_store n j = if ltb (suc j) n then Storing (suc j) else Flushing 0
 
+-- the stage after a content word more was flushed
 abbrev pub after_flush : ℕ → ℕ → Stage
 after_flush n j = if ltb (suc j) n then Flushing (suc j) else Seeking
 
+-- a put that has stored or flushed a content word more
 abbrev pub filled : Putting → Stage → Putting
 filled c at = record c { walk = begun c.walk; stage = at }
 
@@ -111,6 +114,7 @@ at_tail Put t = AtLink t
 at_tail Delete t = AtMeta t
 at_tail (Swap e) t = AtMeta t
 
+-- the stage of a put whose walk stands there
 abbrev pub reached : Job → Stand → Stage
 reached j ToShort = Seeking
 reached j AtRoot = Seeking
@@ -129,6 +133,7 @@ on_value Put t = AtLink t
 on_value Delete t = AtLink t
 on_value (Swap e) t = if tag_number e == t then AtLink t else Deciding t (Differs t)
 
+-- the stage behind the load of the meta word
 abbrev pub on_meta : Job → ℕ → Option Kind → Stage
 on_meta j t (Some IsValue) = on_value j t
 on_meta j t (Some Tombstone) = Deciding t Absent

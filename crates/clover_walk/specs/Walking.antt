@@ -48,6 +48,7 @@ begins FromCursor = AtShort
 begins FromShort = AtShort
 begins FromRoot = AtRoot
 
+-- where a walk begins after this start was stale
 abbrev pub next_start : Start → Start
 next_start FromCursor = FromShort
 next_start FromShort = FromRoot
@@ -80,6 +81,7 @@ step_at s (AtLink t u) = RaiseNext (record { slot = s; from = t; to = u })
 step_at s (OnTail t) = LoadNext s t
 step_at s Ended = ReadRoot s
 
+-- the step that the next access of the walk is
 abbrev pub walk_step : Walking → Step
 walk_step w = step_at w.slot w.stand
 
@@ -128,6 +130,7 @@ goes_from (AtLink t u) w x = placed w (AtTag u)
 goes_from (OnTail t) w x = followed w t (next_of x)
 goes_from Ended w x = w
 
+-- how the walk goes on where its access found this number
 abbrev pub goes_on : Walking → ℕ → Walking
 goes_on w x = goes_from w.stand w x
 
@@ -170,6 +173,7 @@ abbrev pub ShowsFrom : Stand → Walking → View → ℕ → Type 0
 ShowsFrom (OnTail t) w v x = Shows w t v x
 ShowsFrom at w v x = ⊥
 
+-- the next word that the access shows at the tail
 abbrev pub ShowsNext : Walking → View → ℕ → Type 0
 ShowsNext w v x = ShowsFrom w.stand w v x
 
