@@ -1,14 +1,14 @@
 -- The put's exchange, the raise and the quiet steps of a client over the whole rule.
-use Rattle.std.proofs.Common.{◌≡◌, ℕ, ◌≤◌, List, refl, sym, ap, ◌∙◌, arith}
+use Rattle.std.proofs.Common.{◌≡◌, ℕ, List, refl, sym, ap, ◌∙◌, arith}
 use native.Mathlib.Decide.{ℕ_discrete}
 use mathlib.Core.Logic.{dite}
 use Rattle.std.specs.Prelude.{Some}
-use Rattle.clover_words.specs.Tag.{home, age}
+use Rattle.clover_words.specs.Tag.{home}
 use Rattle.clover_map.specs.declared.call.Entry.{Entry}
 use Rattle.clover_rule.specs.Changes.{raised_mem, raised_story}
 use Rattle.clover_rule.specs.History.{Map, used_by}
 use Rattle.clover_rule.specs.Lists.{nth, upd, Within}
-use Rattle.clover_rule.specs.Memory.{word, gen, Mem, greater}
+use Rattle.clover_rule.specs.Memory.{Mem}
 use Rattle.clover_rule.specs.Server.{AtStage, Whole}
 use Rattle.clover_rule.specs.Story.{Story, Durable}
 use Rattle.clover_rule.specs.Views.{ViewOk, Basis, renewed, raise_view}

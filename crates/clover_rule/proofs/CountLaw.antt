@@ -1,31 +1,25 @@
 -- A load of the count that equals the length of a copy without the key decides that the key is absent.
-use Rattle.std.proofs.Common.{◌≡◌, ℕ, ◌<◌, ◌≤◌, ◌≢◌, ◌⊎◌, List, [], ◌∷◌, ◌++◌, length, append-nil, Bool, true, false, cond, leb, refl, sym, ap, ◌∙◌, inl, inr, ⊎_elim, arith, subst, eq-eqb, ne_eqb, true≢false}
-use mathlib.Core.Logic.{dite}
+use Rattle.std.proofs.Common.{◌≡◌, ℕ, ◌<◌, ◌≤◌, ◌≢◌, List, [], ◌∷◌, ◌++◌, length, true, false, leb, refl, sym, ap, ◌∙◌, ⊎_elim, arith, subst, true≢false}
 use Rattle.std.specs.Prelude.{Option, Some, None, max}
 use Rattle.std.proofs.lemmas.Bool.Decides.{nat_tests}
 use Rattle.clover_words.specs.Tag.{home, age}
 use Rattle.clover_map.specs.declared.call.Call.{Call}
 use Rattle.clover_map.specs.declared.call.Reply.{Reply}
 use Rattle.clover_map.specs.declared.call.Entry.{Entry}
-use Rattle.std.specs.Str.{bytes_eq}
-use Rattle.clover_rule.specs.History.{Version, Map, own, used_by, commits, joined, key_of, commit_of, lost_in, grown, Does, named, committed, leads}
+use Rattle.clover_rule.specs.History.{Version, Map, used_by, commits, key_of, commit_of, lost_in, grown, Does, named, committed, leads}
 use Rattle.clover_rule.specs.Knowing.{link_entry}
 use Rattle.clover_rule.specs.Lists.{Each, nth, Within}
 use Rattle.clover_rule.specs.Memory.{gen, Mem}
 use Rattle.clover_rule.specs.Server.{Whole, Stage, unnamed}
-use Rattle.clover_rule.specs.Story.{Story, tag_in_version, Tale, unsure}
-use Rattle.clover_rule.specs.Views.{OwnCalls, ViewOk, Spent, Basis, renewed}
-use Rattle.clover_rule.specs.declared.view.Role.{Role}
+use Rattle.clover_rule.specs.Story.{Story, tag_in_version, unsure}
+use Rattle.clover_rule.specs.Views.{ViewOk, Basis, renewed}
 use Rattle.clover_rule.specs.declared.view.Role.TheVariants.{Client}
 use Rattle.clover_rule.specs.declared.view.ServerTask.{ServerTask}
 use Rattle.clover_rule.specs.declared.view.ServerTask.TheVariants.{Idle, Storing, Rooted, Waiting, Loaded, Raised, Led, Both, Exchanged}
 use Rattle.clover_rule.specs.declared.view.View.{View}
 use Rattle.clover_words.specs.declared.pool.Pool.{Pool}
-use Rattle.clover_rule.proofs.Keys.{key_discrete}
 use Rattle.clover_rule.proofs.Tools.{nth_within}
-use Rattle.clover_rule.proofs.Histories.{legal_snoc, commits_snoc}
-use Rattle.clover_rule.proofs.Snocs.{unread_snoc, within_nth, within_commits, within_back, used_snoc, own_snoc}
-use Rattle.clover_rule.proofs.Steps.{prefix_self, Grows, view_kept, nth_set, set_here, role_was}
+use Rattle.clover_rule.proofs.Snocs.{within_nth, within_commits, within_back, used_snoc}
 use Rattle.clover_rule.proofs.AbsentLaw.{same_option, absent_map, whole_prefix}
 use Rattle.clover_rule.proofs.Uncommitted.{answered, answered_rule}
 use Rattle.clover_rule.proofs.ClientSteps.{each_snoc, client_whole}

@@ -1,5 +1,5 @@
 -- What the tail's unlinked next word says of the map, and the law of any deciding load at the tail.
-use Rattle.std.proofs.Common.{◌≡◌, ℕ, suc, ◌≤◌, ◌≢◌, ◌⊎◌, List, [], ◌∷◌, ◌++◌, length, append-nil, Bool, true, false, cond, leb, refl, sym, ap, ◌∙◌, inl, inr, ⊎_elim, arith, subst, eq-eqb, ne_eqb, true≢false}
+use Rattle.std.proofs.Common.{◌≡◌, ℕ, suc, ◌≤◌, ◌≢◌, List, [], ◌∷◌, ◌++◌, length, true, false, leb, refl, sym, ap, ◌∙◌, inl, ⊎_elim, arith, subst, true≢false}
 use native.Mathlib.Decide.{dec_le}
 use mathlib.Core.Logic.{dite}
 use Rattle.std.specs.Prelude.{Option, Some, None}
@@ -10,23 +10,21 @@ use Rattle.clover_map.specs.declared.call.Reply.{Reply}
 use Rattle.clover_map.specs.declared.call.Entry.{Entry}
 use Rattle.clover_map.specs.declared.bytes.Held.{Held}
 use Rattle.clover_rule.specs.Content.{content}
-use Rattle.std.specs.Str.{bytes_eq}
-use Rattle.clover_rule.specs.History.{pair_of, Version, Map, own, used_by, commits, ends, joined, key_of, commit_of, lost_in, grown, Does, named, committed, leads}
+use Rattle.clover_rule.specs.History.{pair_of, Version, Map, used_by, commits, ends, key_of, commit_of, lost_in, Does, named, committed, leads}
 use Rattle.clover_rule.specs.Knowing.{link_entry}
-use Rattle.clover_rule.specs.Lists.{Each, nth, Within}
+use Rattle.clover_rule.specs.Lists.{nth, Within}
 use Rattle.clover_rule.specs.Memory.{word, gen, Mem}
-use Rattle.clover_rule.specs.Story.{Story, tag_in_version, tag_at, Tale, Durable, unsure}
-use Rattle.clover_rule.specs.Views.{IsCopied, OwnCalls, ViewOk, Spent, Basis, renewed, shown}
-use Rattle.clover_rule.specs.declared.view.Role.{Role}
+use Rattle.clover_rule.specs.Story.{Story, tag_in_version, tag_at, Durable, unsure}
+use Rattle.clover_rule.specs.Views.{IsCopied, ViewOk, Basis, renewed, shown}
 use Rattle.clover_rule.specs.declared.view.Role.TheVariants.{Client}
 use Rattle.clover_rule.specs.declared.view.View.{View}
 use Rattle.clover_rule.proofs.Histories.{ends_more, ends_last}
 use Rattle.clover_rule.proofs.Tools.{nth_within}
 use Rattle.clover_rule.proofs.Uncommitted.{answered, answered_rule}
 use Rattle.clover_rule.proofs.Standings.{tag_there, tag_within, tag_past}
-use Rattle.clover_rule.proofs.Histories.{legal_snoc, leads_commits, commits_snoc}
-use Rattle.clover_rule.proofs.Snocs.{unread_snoc, within_nth, within_commits, within_back, used_snoc, own_snoc}
-use Rattle.clover_rule.proofs.Steps.{each_within, prefix_self, within_prefix, Grows, view_kept, nth_set, set_here, role_was}
+use Rattle.clover_rule.proofs.Histories.{leads_commits}
+use Rattle.clover_rule.proofs.Snocs.{within_nth, within_commits, within_back}
+use Rattle.clover_rule.proofs.Steps.{each_within, within_prefix}
 
 module _ (m0 : Map) (used : List ℕ) (m : Mem) (vs : List View) (st : Story) (h : List Entry) (r : Basis m0 used m vs st h)
     (id : ℕ) (v : View) (at : nth vs id ≡ Some v) (s : ℕ) (k : List ℕ) (t : ℕ) (tail : Within (s, t) v.pass.durable) (name : Within (s, k) v.pass.names) (found : m.next (home t) ≡ word (age t) None) where

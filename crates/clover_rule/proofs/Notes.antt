@@ -1,22 +1,19 @@
 -- A note is joined to the server's view, which then has the longer of the two histories.
-use Rattle.std.proofs.Common.{◌≡◌, ℕ, ◌≤◌, ◌≢◌, ◌⊎◌, List, [], length, length-append, set, Bool, true, false, cond, leb, refl, sym, ap, ◌∙◌, inl, inr, ⊎_elim, arith, subst}
-use native.Mathlib.Decide.{ℕ_discrete}
+use Rattle.std.proofs.Common.{◌≡◌, ℕ, ◌≤◌, ◌≢◌, List, [], length, length-append, set, Bool, true, false, cond, leb, refl, sym, ap, arith, subst}
 use Rattle.std.specs.Prelude.{Some}
 use Rattle.std.proofs.lemmas.Bool.{leb-true, leb-false}
 use Rattle.clover_map.specs.declared.call.Entry.{Entry}
 use Rattle.clover_rule.specs.History.{Map, longer}
-use Rattle.clover_rule.specs.Lists.{Each, nth, Within, IsPrefix}
+use Rattle.clover_rule.specs.Lists.{nth, IsPrefix}
 use Rattle.clover_rule.specs.Memory.{Mem}
-use Rattle.clover_rule.specs.Server.{Serves, Whole}
-use Rattle.clover_rule.specs.Story.{Stocked, Story}
+use Rattle.clover_rule.specs.Server.{Whole}
+use Rattle.clover_rule.specs.Story.{Story}
 use Rattle.clover_rule.specs.Views.{OwnCalls, ViewOk}
 use Rattle.clover_rule.specs.Moves.{noted, spent}
 use Rattle.clover_rule.specs.declared.view.Role.{Role}
-use Rattle.clover_rule.specs.declared.view.Role.TheVariants.{Serving, Noting, Joined}
-use Rattle.clover_rule.specs.declared.view.Server.{Server}
+use Rattle.clover_rule.specs.declared.view.Role.TheVariants.{Serving, Noting}
 use Rattle.clover_rule.specs.declared.view.View.{View}
 use Rattle.clover_words.specs.declared.pool.Pool.{Pool}
-use Rattle.clover_rule.proofs.Steps.{nth_set, set_here, set_away}
 use Rattle.clover_rule.proofs.Joins.{take_in}
 use Rattle.clover_rule.proofs.AbsentLaw.{whole_prefix}
 

@@ -1,6 +1,5 @@
 -- The law of the raise over a link.
-use Rattle.std.proofs.Common.{◌≡◌, ℕ, suc, ◌<◌, ◌≤◌, ◌≢◌, ◌⊎◌, List, true, refl, ◌∙◌, inl, inr, arith}
-use native.Mathlib.Decide.{ℕ_discrete}
+use Rattle.std.proofs.Common.{◌≡◌, ℕ, suc, ◌<◌, ◌≢◌, ◌⊎◌, List, true, refl, ◌∙◌, inl, inr, arith}
 use Rattle.std.specs.Prelude.{Some}
 use Rattle.clover_map.specs.declared.call.Entry.{Entry}
 use Rattle.clover_rule.specs.Changes.{raised_mem, raised_story}
@@ -11,7 +10,6 @@ use Rattle.clover_rule.specs.Story.{Stocked, Story, Core, Tale, unsure}
 use Rattle.clover_rule.specs.Views.{IsLink, ViewOk, Basis, renewed, raise_view}
 use Rattle.clover_rule.specs.declared.view.Link.{Link}
 use Rattle.clover_rule.specs.declared.view.View.{View}
-use Rattle.clover_rule.proofs.Tools.{upd_same, upd_else}
 use Rattle.clover_rule.proofs.Steps.{each_within, prefix_self, Grows, Leaves, view_kept, nth_set, role_was, longest_was}
 use Rattle.clover_rule.proofs.Raising.{raise_core, raised_more, raised_now}
 use Rattle.clover_rule.proofs.Cuts.{unread_less, unsure_less}

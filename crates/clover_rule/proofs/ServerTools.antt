@@ -2,14 +2,14 @@
 use Rattle.std.proofs.Common.{◌≡◌, ℕ, ◌≤◌, ◌≢◌, List, Bool, true, false, cond, refl, sym, ap, ◌∙◌, inl, inr, ⊎_elim, arith, subst}
 use native.Mathlib.Decide.{ℕ_discrete}
 use mathlib.Core.Logic.{dite}
-use Rattle.std.specs.Prelude.{Option, Some, None}
+use Rattle.std.specs.Prelude.{Option, Some}
 use Rattle.clover_words.specs.Tag.{home, age}
 use Rattle.clover_map.specs.declared.call.Entry.{Entry}
 use Rattle.clover_rule.specs.History.{Version, Map, used_by}
 use Rattle.clover_rule.specs.Lists.{Each, nth, upd, Within}
-use Rattle.clover_rule.specs.Memory.{gen, link, Mem}
+use Rattle.clover_rule.specs.Memory.{gen, Mem}
 use Rattle.clover_rule.specs.Server.{Help, root_in, is_home, held_book, book_of, Serves, Whole}
-use Rattle.clover_rule.specs.Story.{Place, Chained, Stocked, Free, Worn, Taken, Loose, Story, Core, Tale}
+use Rattle.clover_rule.specs.Story.{Place, Chained, Stocked, Free, Worn, Taken, Story, Core, Tale}
 use Rattle.clover_rule.specs.Views.{book, Holds, Stands, ViewOk, Spent, Basis, renewed}
 use Rattle.clover_rule.specs.declared.view.BufferState.{BufferState}
 use Rattle.clover_rule.specs.declared.view.BufferState.TheVariants.{Free as IsFree, Bound as IsBound, Out as IsOut}

@@ -3,7 +3,7 @@ use Rattle.std.proofs.Common.{◌≡◌, ℕ, zero, suc, ◌+◌, ◌*◌, ◌/�
 use Rattle.std.specs.Prelude.{Option, Some, None, slice_index}
 use Rattle.std.proofs.lemmas.Option.{same_Some}
 use Rattle.std.proofs.lemmas.List.{ext_get_or}
-use Rattle.clover_words.specs.Pack.{AreBytes, words_of, packed, eight_at}
+use Rattle.clover_words.specs.Pack.{AreBytes, words_of, packed}
 use Rattle.std.specs.Int.{w64, to_be_bytes}
 use Rattle.clover_words.specs.Meta.{meta_word, tombstone}
 use Rattle.clover_words.proofs.Packing.{one_byte, packed_spells, eight_byte}

@@ -1,16 +1,15 @@
 -- The laws of a recycling's steps, of a binding's flushed root and of the count.
-use Rattle.std.proofs.Common.{◌≡◌, ℕ, suc, ◌<◌, ◌≤◌, ◌≢◌, ◌⊎◌, List, [], ◌∷◌, ◌++◌, length, length-append, append-nil, Bool, true, false, cond, ltb, refl, sym, ap, ◌∙◌, inl, inr, ⊎_elim, arith, true≢false, eqb, eq-eqb, ne_eqb, subst}
+use Rattle.std.proofs.Common.{◌≡◌, ℕ, suc, ◌<◌, ◌≤◌, ◌≢◌, ◌⊎◌, List, [], ◌∷◌, ◌++◌, length, length-append, append-nil, Bool, true, false, cond, refl, sym, ap, ◌∙◌, inl, inr, ⊎_elim, arith, true≢false, eqb, eq-eqb, ne_eqb, subst}
 use native.Mathlib.Decide.{ℕ_discrete}
 use mathlib.Core.Logic.{dite}
 use Rattle.std.specs.Prelude.{Option, Some, None}
-use Rattle.std.proofs.lemmas.Bool.Decides.{nat_tests}
 use Rattle.clover_words.specs.Tag.{home, age}
 use Rattle.clover_map.specs.declared.call.Entry.{Entry}
 use Rattle.clover_rule.specs.Changes.{raised_mem, raised_story}
 use Rattle.clover_rule.specs.Content.{inside}
 use Rattle.clover_rule.specs.History.{Version, Map}
 use Rattle.clover_rule.specs.Lists.{Each, nth, upd, Within, IsPrefix}
-use Rattle.clover_rule.specs.Memory.{Next, word, gen, Mem, greater, order}
+use Rattle.clover_rule.specs.Memory.{Next, word, gen, Mem}
 use Rattle.clover_rule.specs.Server.{AtStage, Help, Settled, moving, unnamed, holding, waiting_name, IsRecycling, Stage, or_else, root_in, is_home, book_of, Serves, Whole}
 use Rattle.clover_rule.specs.Learned.{at_task, looked, link_flushed, entered}
 use Rattle.clover_rule.specs.Story.{Core, Tale, Taken, Story, tag_at, now_at, unsure, Place, Chained, Standing}

@@ -1,5 +1,5 @@
 -- A write to one copy of a word changes the decoded words at that place alone.
-use Rattle.std.proofs.Common.{◌≡◌, ℕ, zero, suc, ◌+◌, ◌-◌, ◌*◌, ◌/◌, ◌%◌, ◌<◌, ◌≢◌, ◌⊎◌, ◌&&◌, List, length, Bool, true, false, cond, eqb, refl, sym, ap, ◌∙◌, arith, nat_lt, eq-eqb, true≢false}
+use Rattle.std.proofs.Common.{◌≡◌, ℕ, zero, suc, ◌+◌, ◌-◌, ◌*◌, ◌/◌, ◌%◌, ◌<◌, ◌≢◌, ◌&&◌, List, length, Bool, true, false, cond, eqb, refl, sym, ap, ◌∙◌, arith, nat_lt, eq-eqb, true≢false}
 use native.Mathlib.Decide.{ℕ_discrete}
 use Rattle.std.specs.Prelude.{Option, Some, None, slice_set}
 use Rattle.std.proofs.lemmas.Bool.Decides.{nat_tests}

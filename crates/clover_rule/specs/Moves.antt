@@ -1,12 +1,11 @@
 -- What the moves of seats make of the views, and what a move asks of the views that it changes.
-use Rattle.std.specs.Prelude.{◌≡◌, ℕ, List, [], ◌∷◌, ◌++◌, length, slice_set, leb, true}
+use Rattle.std.specs.Prelude.{◌≡◌, ℕ, List, [], ◌∷◌, ◌++◌, length, slice_set, true}
 use Rattle.clover_rule.specs.History.{longer}
 use Rattle.std.specs.FinMap as finite
 use Rattle.std.proofs.Common.{refl, ◌*◌}
 use Rattle.std.proofs.lemmas.Bool.{leb-true}
 use Rattle.clover_words.specs.declared.pool.Pool.{Pool}
 use Rattle.clover_words.specs.Tag.{home, age}
-use Rattle.clover_map.specs.declared.call.Entry.{Entry}
 use Rattle.clover_rule.specs.Content.{inside}
 use Rattle.clover_rule.specs.Lists.{Each, IsPart, Within}
 use Rattle.clover_rule.specs.Server.{waiting_name}
