@@ -1,7 +1,6 @@
 pub mod Record
 pub mod Folds
 pub mod Ends
-pub mod Calling
 pub mod Run
 pub mod Lines
 pub mod Text

@@ -9,8 +9,8 @@ use Rattle.clover_rule.specs.Steps.{Step, RaiseNext, StoreShort, act_of}
 use Rattle.clover_rule.specs.Words.{next_of, root_of}
 use Rattle.clover_rule.specs.declared.access.Act.{Act}
 use Rattle.clover_walk.specs.Walking.{Walking, Stand, AtShort, AtRoot, AtTag, AtLink, OnTail, Ended, IsOnWay, begun, goes_from, goes_on, followed, hops, turned, shortened, rooted, next_start, begins, step_at}
-use Rattle.clover_sched.specs.Calling.{Calling, Deed, Reads, Links, Ends, Leaves, deed, deed_step, done, due, after, LeadsTo}
-use Rattle.clover_sched.specs.Calls.{reads}
+use Rattle.clover_node.specs.Calling.{Calling, Deed, Reads, Links, Ends, Leaves, deed, deed_step, done, due, after, LeadsTo}
+use Rattle.clover_node.specs.Mirroring.{reads}
 
 begun_hops : (w : Walking) (t : ℕ) (l : Option ℕ) → hops (begun w) t l ≡ begun (hops w t l)
 begun_hops w t None = refl
