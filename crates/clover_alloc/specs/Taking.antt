@@ -28,6 +28,12 @@ pub record Takes (before : Ledger) (count : ℕ) (tags : List TagParts) (after :
   pub each : Given before tags after
   pub many : length tags ≡ min count (count_of Free before)
 
+-- the tags' buffers were free at the tags' generations and are out there; each other buffer has the line that it had
+pub record AreTaken (before : Ledger) (tags : List TagParts) (after : Ledger) : Type 0 where
+  pub free : All (λ t. book before (buffer_of_tag t) ≡ line t.generation Free) tags
+  pub out : All (λ t. book after (buffer_of_tag t) ≡ line t.generation Out) tags
+  pub others : (b : Buffer) → All (λ t. b ≢ buffer_of_tag t) tags → book after b ≡ book before b
+
 -- the tags are new ones: of buffers of the pool that differ, below the wear, not spent before and spent after
 pub record AreNew (before : Ledger) (tags : List TagParts) (after : Ledger) : Type 0 where
   pub within : All (λ t. IsBuffer before.pool (buffer_of_tag t)) tags

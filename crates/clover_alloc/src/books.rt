@@ -41,7 +41,7 @@ impl Model for Books {
 
 impl Books {
     ghost use Rattle.clover_alloc.specs.Ledger.{book, with_line, count_of, total_of, new_ledger, buffer_of_tag, KeepsSpent, IsLedger, MayHave};
-    ghost use Rattle.clover_alloc.specs.Taking.{IsBalanced, Takes, AreNew, with_out};
+    ghost use Rattle.clover_alloc.specs.Taking.{IsBalanced, Takes, AreTaken, AreNew, with_out};
     ghost use Rattle.clover_alloc.specs.Calls.{next_line};
     ghost use Rattle.clover_alloc.specs.Kept.{IsCounted};
 
@@ -76,6 +76,7 @@ impl Books {
     pub fn take(&mut self, count: u32) -> Batch
         requires { count ≤ 64 }
         ensures taken { Takes self.old count (tags_of result) self.new }
+        ensures moved { AreTaken self.old (tags_of result) self.new }
         ensures new { AreNew self.old (tags_of result) self.new }
         ensures spent { KeepsSpent self.old self.new }
         ensures whole { IsLedger self.new }
@@ -134,6 +135,8 @@ impl Books {
         ensures spent { KeepsSpent self.old self.new }
         ensures whole { IsLedger self.new }
     {
+        // Read for the books' invariant alone.
+        let _pool = &self.pool;
         let bound = Line {
             generation: tag.generation,
             place: Place::Bound,
