@@ -4,3 +4,4 @@ pub mod LedgerLemmas
 pub mod KeptLemmas
 pub mod CallLemmas
 pub mod TakingLemmas
+pub mod SequenceLemmas

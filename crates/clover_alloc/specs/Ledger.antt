@@ -40,6 +40,10 @@ new_ledger pool = record { pool = pool; nodes = replicate pool.nodes (replicate 
 abbrev pub buffer_of_tag : TagParts → Buffer
 buffer_of_tag t = record { node = t.node; index = t.index }
 
+-- the tag's buffer is in the place at the tag's generation
+abbrev pub IsAt : Place → Ledger → TagParts → Type 0
+IsAt p books t = book books (buffer_of_tag t) ≡ line t.generation p
+
 -- a tag that can be given no more: below the books' generation of its buffer, or at it and not free
 pub record Spent (books : Ledger) (t : TagParts) : Type 0 where
   pub passed : t.generation ≤ (book books (buffer_of_tag t)).generation

@@ -40,7 +40,7 @@ impl Model for Books {
 }
 
 impl Books {
-    ghost use Rattle.clover_alloc.specs.Ledger.{book, with_line, count_of, total_of, new_ledger, buffer_of_tag, KeepsSpent, IsLedger, MayHave};
+    ghost use Rattle.clover_alloc.specs.Ledger.{book, with_line, count_of, total_of, new_ledger, buffer_of_tag, IsAt, KeepsSpent, IsLedger, MayHave};
     ghost use Rattle.clover_alloc.specs.Taking.{IsBalanced, Takes, AreTaken, AreNew, with_out};
     ghost use Rattle.clover_alloc.specs.Calls.{next_line};
     ghost use Rattle.clover_alloc.specs.Kept.{IsCounted};
@@ -130,7 +130,7 @@ impl Books {
 
     /// The buffer of the tag, which is out at the tag's generation, becomes a slot's root version.
     pub fn bind(&mut self, tag: Tag)
-        requires { book self.old (buffer_of_tag tag) ≡ line tag.generation Out }
+        requires { IsAt Out self.old tag }
         ensures bound { self.new ≡ with_line self.old (buffer_of_tag tag) (line tag.generation Bound) }
         ensures spent { KeepsSpent self.old self.new }
         ensures whole { IsLedger self.new }
@@ -147,7 +147,7 @@ impl Books {
     /// The buffer of the tag, which is a slot's root version at the tag's generation, becomes free at the next
     /// generation, or worn there.
     pub fn give_back(&mut self, tag: Tag)
-        requires { book self.old (buffer_of_tag tag) ≡ line tag.generation Bound }
+        requires { IsAt Bound self.old tag }
         ensures back { self.new ≡ with_line self.old (buffer_of_tag tag) (next_line self.old.pool.wear tag.generation) }
         ensures spent { KeepsSpent self.old self.new }
         ensures whole { IsLedger self.new }
