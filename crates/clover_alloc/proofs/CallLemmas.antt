@@ -1,15 +1,14 @@
 -- What binding and giving back make of whole books.
-use Rattle.std.proofs.Common.{◌≡◌, ◌≢◌, ◌∙◌, ℕ, ◌+◌, ◌<◌, ◌≤◌, Bool, true, false, refl, sym, ap, subst, ⊎_elim, arith, nat_eq}
-use Rattle.std.proofs.lemmas.Bool.{cases_lt, eqb-true, eqb-false, eq-eqb}
+use Rattle.std.proofs.Common.{◌≡◌, ◌≢◌, ℕ, ◌+◌, ◌<◌, Bool, true, false, refl, sym, ap, subst, ⊎_elim, arith, nat_eq}
+use Rattle.std.proofs.lemmas.Bool.{cases_lt, eqb-true, eqb-false}
 use Rattle.std.specs.Prelude.{if◌then◌else◌}
 use Rattle.clover_words.specs.declared.word.Buffer.{Buffer}
 use Rattle.clover_words.specs.Place.{IsBuffer}
-use Rattle.clover_words.specs.Tag.{TagParts}
 use Rattle.clover_alloc.specs.declared.line.Place.{Place}
-use Rattle.clover_alloc.specs.declared.line.Place.TheVariants.{Free, Worn, Bound, Out}
+use Rattle.clover_alloc.specs.declared.line.Place.TheVariants.{Free, Worn}
 use Rattle.clover_alloc.specs.declared.line.Line.{Line}
 use Rattle.clover_alloc.specs.Lines.{line}
-use Rattle.clover_alloc.specs.Ledger.{Ledger, book, with_line, buffer_of_tag, KeepsSpent, IsLedger, MayHave}
+use Rattle.clover_alloc.specs.Ledger.{Ledger, book, with_line, KeepsSpent, IsLedger, MayHave}
 use Rattle.clover_alloc.specs.Calls.{next_line}
 use Rattle.clover_alloc.proofs.LedgerLemmas.{is_within, IsLedger-with_line, KeepsSpent-with_line}
 

@@ -1,5 +1,5 @@
 -- The counts beside books in which one buffer has another line.
-use Rattle.std.proofs.Common.{◌≡◌, ◌∙◌, ℕ, ◌+◌, ◌<◌, ◌≤◌, Bool, true, List, [], length, set, get_or, refl, sym, ap, subst, arith, cond}
+use Rattle.std.proofs.Common.{◌≡◌, ◌∙◌, ◌+◌, ◌<◌, true, List, [], length, set, get_or, refl, sym, ap, subst, arith, cond}
 use Rattle.std.proofs.lemmas.List.{get_or_read}
 use Rattle.std.proofs.lemmas.List.Sums.{get_or-le-sum_by}
 use Rattle.clover_words.specs.declared.word.Buffer.{Buffer}
@@ -10,7 +10,7 @@ use Rattle.clover_alloc.specs.declared.line.Line.{Line}
 use Rattle.clover_alloc.specs.declared.line.Counts.{Counts}
 use Rattle.clover_alloc.specs.Lines.{line, same_place, count_in, number_of, sum_of}
 use Rattle.clover_alloc.specs.Ledger.{Ledger, book, with_line, count_of, MayHave}
-use Rattle.clover_alloc.specs.Kept.{AreKept, IsCounted, line_at, one_at}
+use Rattle.clover_alloc.specs.Kept.{AreKept, line_at, one_at}
 use Rattle.clover_alloc.proofs.LedgerLemmas.{IsLedger-with_line, count_of-with_line}
 
 same_place-same : (p : Place) → same_place p p ≡ true

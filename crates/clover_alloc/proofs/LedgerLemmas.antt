@@ -1,17 +1,16 @@
 -- Books in which one buffer has another line: what they say of each buffer, that they stay whole, and how they count.
-use Rattle.std.proofs.Common.{◌≡◌, ◌≢◌, ◌∙◌, ℕ, ◌+◌, ◌<◌, ◌≤◌, ◌⊎◌, inl, inr, List, [], length, length-set, set, get_or, get_or-set_same, get_or-set_other, refl, sym, ap, subst, ⊎_elim, arith}
+use Rattle.std.proofs.Common.{◌≡◌, ◌≢◌, ◌∙◌, ◌+◌, ◌<◌, ◌≤◌, ◌⊎◌, inl, inr, List, [], length, length-set, set, get_or, get_or-set_same, get_or-set_other, sym, ap, subst, ⊎_elim, arith}
 use Rattle.std.proofs.lemmas.Bool.{cases_eq, cases_lt}
 use Rattle.std.proofs.lemmas.List.{get_or_past}
 use Rattle.std.proofs.lemmas.List.Sums.{sum_by-set}
 use Rattle.clover_words.specs.declared.word.Buffer.{Buffer}
 use Rattle.clover_words.specs.Place.{IsBuffer}
-use Rattle.clover_words.specs.Tag.{TagParts}
 use Rattle.clover_alloc.specs.declared.line.Place.{Place}
 use Rattle.clover_alloc.specs.declared.line.Place.TheVariants.{Free, Worn}
 use Rattle.clover_alloc.specs.declared.line.Line.{Line}
 use Rattle.clover_alloc.specs.Lines.{line, count_in}
 use Rattle.clover_alloc.specs.Ledger.{Ledger, book, with_line, count_of, buffer_of_tag, Spent, KeepsSpent, HasLines, MayHave, IsLedger}
-use Rattle.clover_alloc.specs.Kept.{line_at, one_at}
+use Rattle.clover_alloc.specs.Kept.{one_at}
 use Rattle.clover_alloc.proofs.NodeLemmas.{count_in-set}
 
 -- two buffers are one, or they differ

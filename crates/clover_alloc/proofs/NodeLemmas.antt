@@ -1,5 +1,5 @@
 -- A memory node's index of free buffers once one line is another.
-use Rattle.std.proofs.Common.{◌≡◌, ◌≢◌, ◌∙◌, ℕ, ◌+◌, ◌*◌, ◌/◌, ◌%◌, ◌<◌, ◌≤◌, List, length, length-set, set, get_or, get_or-set_same, get_or-set_other, refl, sym, ap, subst, ⊎_elim, arith, cond, Bool, true, false, ◌-◌, ◌^◌, zero, suc, [], ◌∷◌}
+use Rattle.std.proofs.Common.{◌≡◌, ◌≢◌, ◌∙◌, ℕ, ◌+◌, ◌*◌, ◌/◌, ◌%◌, ◌<◌, ◌≤◌, List, length, length-set, set, get_or, get_or-set_same, get_or-set_other, refl, sym, ap, subst, ⊎_elim, arith, cond, Bool, true, false, ◌-◌, ◌^◌, suc, [], ◌∷◌}
 use Rattle.std.proofs.lemmas.Bool.{cases_eq, cases_lt}
 use Rattle.std.proofs.lemmas.List.{get_or_read}
 use Rattle.std.proofs.lemmas.List.Sums.{sum_by-set, sum_by-cons, get_or-le-sum_by}
@@ -99,13 +99,16 @@ module _ (lines : List Line) (words : List ℕ) (free low : ℕ) (holds : IsInde
 
   -- the search ends before the last word does
   pub low_within : 0 < count_in Free lines → (low < length words) × (64 * low < 65536)
-  low_within some = let k = free_line some in (⊎_elim
-      (λ below. below)
-      (λ past. absurd (holds.none_below k.0 (omega (arith, k.1, holds.room)) k.2))
-      (cases_lt low (length words)), ⊎_elim
-      (λ below. below)
-      (λ past. absurd (holds.none_below k.0 (omega (arith, k.1, holds.few)) k.2))
-      (cases_lt (64 * low) 65536))
+  low_within some = let k = free_line some in (
+    ⊎_elim
+        (λ below. below)
+        (λ past. absurd (holds.none_below k.0 (omega (arith, k.1, holds.room)) k.2))
+        (cases_lt low (length words)),
+    ⊎_elim
+        (λ below. below)
+        (λ past. absurd (holds.none_below k.0 (omega (arith, k.1, holds.few)) k.2))
+        (cases_lt (64 * low) 65536),
+  )
 
   -- a word that is 0 has no free buffer
   pub IsIndexed-next : get_or words low 0 ≡ 0 → IsIndexed lines words free (low + 1)

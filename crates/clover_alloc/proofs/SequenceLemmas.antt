@@ -1,16 +1,15 @@
 -- No tag is given twice, whatever calls are made.
-use Rattle.std.proofs.Common.{◌≡◌, ◌≢◌, ◌∙◌, ℕ, zero, suc, ◌+◌, ◌<◌, ◌≤◌, Bool, true, false, List, [], ◌∷◌, ◌++◌, length, get_or, refl, sym, ap, subst, arith, All, AllPairs}
+use Rattle.std.proofs.Common.{◌≡◌, ◌≢◌, ◌∙◌, ℕ, suc, ◌<◌, true, false, List, [], ◌∷◌, ◌++◌, length, get_or, refl, sym, ap, subst, arith, All, AllPairs}
 use Rattle.std.proofs.lemmas.List.{length-replicate, get_or-replicate}
 use Rattle.std.proofs.lemmas.List.Elements.{All-nil, All-append, All-head, All-tail, All-weaker}
 use Rattle.std.proofs.lemmas.List.Kept.{AllPairs-cons}
 use Rattle.clover_words.specs.declared.pool.Pool.{Pool}
-use Rattle.clover_words.specs.Place.{IsBuffer}
 use Rattle.clover_words.specs.Tag.{TagParts}
 use Rattle.clover_alloc.specs.declared.line.Place.TheVariants.{Free, Worn, Bound, Out}
 use Rattle.clover_alloc.specs.declared.line.Line.{Line}
 use Rattle.clover_alloc.specs.Lines.{line}
-use Rattle.clover_alloc.specs.Ledger.{Ledger, book, with_line, new_ledger, buffer_of_tag, Spent, KeepsSpent, IsLedger, MayHave}
-use Rattle.clover_alloc.specs.Taking.{with_out, Given, AreNew}
+use Rattle.clover_alloc.specs.Ledger.{Ledger, new_ledger, buffer_of_tag, Spent, KeepsSpent, IsLedger, MayHave}
+use Rattle.clover_alloc.specs.Taking.{with_out, Given}
 use Rattle.clover_alloc.specs.Calls.{BookCall, Taking, Binding, GivingBack, Restoring, Makes, Leads, given_by, NoTagTwiceLaw}
 use Rattle.clover_alloc.proofs.LedgerLemmas.{IsLedger-with_line}
 use Rattle.clover_alloc.proofs.CallLemmas.{may_serve, moved_whole, moved_keeps, back_whole, back_keeps}
@@ -39,26 +38,26 @@ Given-pool before (t ∷ ts) after given = Given-pool (with_out before t) ts aft
 module _ (before after : Ledger) (whole : IsLedger before) where
   makes_whole : (call : BookCall) → Makes call before after → IsLedger after
   makes_whole (Taking count ts) made = Given-whole before ts after whole made.1.each
-  makes_whole (Binding t) made = subst IsLedger (sym made.1) (moved_whole before whole (buffer_of_tag t) t.generation Out (λ same. cc) made.0 Bound (λ same. cc))
-  makes_whole (GivingBack t) made = subst IsLedger (sym made.1) (back_whole before whole (buffer_of_tag t) t.generation Bound (λ same. cc) made.0)
-  makes_whole (Restoring b l) made = subst IsLedger (sym made.3) (IsLedger-with_line before b l whole made.0 made.1)
+  makes_whole (Binding t) made = subst IsLedger (sym made.1.value) (moved_whole before whole (buffer_of_tag t) t.generation Out (λ same. cc) made.0 Bound (λ same. cc))
+  makes_whole (GivingBack t) made = subst IsLedger (sym made.1.value) (back_whole before whole (buffer_of_tag t) t.generation Bound (λ same. cc) made.0)
+  makes_whole (Restoring b l) made = subst IsLedger (sym made.3.value) (IsLedger-with_line before b l whole made.0 made.1)
 
   makes_pool : (call : BookCall) → Makes call before after → after.pool ≡ before.pool
   makes_pool (Taking count ts) made = Given-pool before ts after made.1.each
-  makes_pool (Binding t) made = ap (λ (v : Ledger). v.pool) made.1
-  makes_pool (GivingBack t) made = ap (λ (v : Ledger). v.pool) made.1
-  makes_pool (Restoring b l) made = ap (λ (v : Ledger). v.pool) made.3
+  makes_pool (Binding t) made = ap (λ (v : Ledger). v.pool) made.1.value
+  makes_pool (GivingBack t) made = ap (λ (v : Ledger). v.pool) made.1.value
+  makes_pool (Restoring b l) made = ap (λ (v : Ledger). v.pool) made.3.value
 
   makes_used : (call : BookCall) → before.fresh ≡ false → Makes call before after → after.fresh ≡ false
   makes_used (Taking count ts) used made = Given-used before ts after used made.1.each
-  makes_used (Binding t) used made = ap (λ (v : Ledger). v.fresh) made.1 ∙ used
-  makes_used (GivingBack t) used made = ap (λ (v : Ledger). v.fresh) made.1 ∙ used
-  makes_used (Restoring b l) used made = ap (λ (v : Ledger). v.fresh) made.3 ∙ used
+  makes_used (Binding t) used made = ap (λ (v : Ledger). v.fresh) made.1.value ∙ used
+  makes_used (GivingBack t) used made = ap (λ (v : Ledger). v.fresh) made.1.value ∙ used
+  makes_used (Restoring b l) used made = ap (λ (v : Ledger). v.fresh) made.3.value ∙ used
 
   makes_keeps : (call : BookCall) → before.fresh ≡ false → Makes call before after → KeepsSpent before after
   makes_keeps (Taking count ts) used made = Given-keeps before ts after whole made.1.each
-  makes_keeps (Binding t) used made = subst (KeepsSpent before) (sym made.1) (moved_keeps before whole (buffer_of_tag t) t.generation Out (λ same. cc) made.0 Bound (λ same. cc))
-  makes_keeps (GivingBack t) used made = subst (KeepsSpent before) (sym made.1) (back_keeps before whole (buffer_of_tag t) t.generation Bound (λ same. cc) made.0 _)
+  makes_keeps (Binding t) used made = subst (KeepsSpent before) (sym made.1.value) (moved_keeps before whole (buffer_of_tag t) t.generation Out (λ same. cc) made.0 Bound (λ same. cc))
+  makes_keeps (GivingBack t) used made = subst (KeepsSpent before) (sym made.1.value) (back_keeps before whole (buffer_of_tag t) t.generation Bound (λ same. cc) made.0 _)
   makes_keeps (Restoring b l) used made = let both : true ≡ false = sym made.2 ∙ used in cc
 
 -- the tag is not spent
@@ -113,12 +112,13 @@ taken_once count [] us before between whole made unspent once = subst (λ (p : P
 taken_once count (u ∷ ts) us before between whole made unspent once =
     let new = AreNew-given before (u ∷ ts) between whole made.1.each in
     let used = Given-used (with_out before u) ts between refl made.1.each.1 in
-    let below = subst (λ (p : Pool). AreOnce p.wear us) (makes_pool before between whole (Taking count (u ∷ ts)) made) once in
-    (AllPairs-append (λ t v. t ≢ v) (u ∷ ts) us
-    (λ i j d below within same. new.differ i j d below within (ap buffer_of_tag same))
-    once.0
-    (All-weaker (Spent between) (λ t. All (λ v. t ≢ v) us) (λ t spent. All-weaker (IsUnspent between) (λ v. t ≢ v) (λ v fresh same. fresh (subst (Spent between) same spent)) us (unspent used)) (u ∷ ts) new.spent),
-    All-append (λ t. t.generation < before.pool.wear) (u ∷ ts) us new.serving below.1)
+    let below = subst (λ (p : Pool). AreOnce p.wear us) (makes_pool before between whole (Taking count (u ∷ ts)) made) once in (
+      AllPairs-append (λ t v. t ≢ v) (u ∷ ts) us
+          (λ i j d below within same. new.differ i j d below within (ap buffer_of_tag same))
+          once.0
+          (All-weaker (Spent between) (λ t. All (λ v. t ≢ v) us) (λ t spent. All-weaker (IsUnspent between) (λ v. t ≢ v) (λ v fresh same. fresh (subst (Spent between) same spent)) us (unspent used)) (u ∷ ts) new.spent),
+      All-append (λ t. t.generation < before.pool.wear) (u ∷ ts) us new.serving below.1,
+    )
 
 given_once : (calls : List BookCall) (before after : Ledger) → IsLedger before → Leads before calls after → AreOnce before.pool.wear (given_by calls)
 unfolding AreOnce

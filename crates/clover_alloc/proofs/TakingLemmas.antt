@@ -1,7 +1,6 @@
 -- The buffer that is due, and what tags that were taken one after the other leave.
-use Rattle.std.proofs.Common.{◌≡◌, ◌≢◌, ◌∙◌, ℕ, zero, suc, ◌+◌, ◌*◌, ◌<◌, ◌≤◌, min, List, [], ◌∷◌, ◌++◌, length, get_or, refl, sym, ap, subst, ⊎_elim, arith, All, AllPairs, Bool, false}
-use Rattle.std.proofs.lemmas.Bool.{cases_lt}
-use Rattle.std.proofs.lemmas.List.{get_or_read, length-append}
+use Rattle.std.proofs.Common.{◌≡◌, ◌≢◌, ◌∙◌, ℕ, ◌+◌, ◌*◌, ◌<◌, ◌≤◌, List, [], ◌∷◌, ◌++◌, length, get_or, sym, ap, subst, arith, All, AllPairs, false}
+use Rattle.std.proofs.lemmas.List.{get_or_read}
 use Rattle.std.proofs.lemmas.List.Elements.{All-nil, All-cons, All-head, All-tail, All-weaker}
 use Rattle.std.proofs.lemmas.List.Kept.{AllPairs-cons}
 use Rattle.std.specs.List.{IsFirstMaxByKey}
@@ -9,16 +8,15 @@ use Rattle.clover_words.specs.declared.pool.Pool.{Pool}
 use Rattle.clover_words.specs.declared.word.Buffer.{Buffer}
 use Rattle.clover_words.specs.Place.{IsBuffer}
 use Rattle.clover_words.specs.Tag.{TagParts, IsTag}
-use Rattle.clover_alloc.specs.declared.line.Place.{Place}
-use Rattle.clover_alloc.specs.declared.line.Place.TheVariants.{Free, Worn, Bound, Out}
+use Rattle.clover_alloc.specs.declared.line.Place.TheVariants.{Free, Worn, Out}
 use Rattle.clover_alloc.specs.declared.line.Line.{Line}
 use Rattle.clover_alloc.specs.Lines.{line, count_in}
-use Rattle.clover_alloc.specs.Ledger.{Ledger, book, with_line, count_of, buffer_of_tag, IsAt, Spent, KeepsSpent, HasLines, IsLedger, MayHave}
+use Rattle.clover_alloc.specs.Ledger.{Ledger, book, count_of, buffer_of_tag, IsAt, Spent, KeepsSpent, IsLedger}
 use Rattle.clover_alloc.specs.Taking.{IsBalanced, with_out, Given, AreTaken, AreNew}
 use Rattle.clover_alloc.specs.Kept.{line_at, one_at}
 use Rattle.clover_alloc.proofs.NodeLemmas.{found}
 use Rattle.clover_alloc.proofs.LedgerLemmas.{book-with_line_same, book-with_line_other, count_of-with_line}
-use Rattle.clover_alloc.proofs.CallLemmas.{line_within, line_serves, may_serve, moved_whole, moved_keeps}
+use Rattle.clover_alloc.proofs.CallLemmas.{line_within, line_serves, moved_whole, moved_keeps}
 
 module _ (books : Ledger) (at : ℕ) (full : IsFirstMaxByKey (count_in Free) books.nodes (length books.nodes) at) (row : List Line) (read : row ≡ get_or books.nodes at row) where
   row_is : row ≡ get_or books.nodes at []
@@ -125,7 +123,7 @@ AreTaken-given before [] after whole same = record { free = All-nil (IsAt Free b
 AreTaken-given before (t ∷ ts) after whole given =
     let rest = AreTaken-given (with_out before t) ts after (out_whole before whole t given.0) given.1 in
     let differ : All (IsOther t) ts = All-weaker (IsAt Free (with_out before t)) (IsOther t)
-        (λ u free same. apart (book (with_out before t) (buffer_of_tag t)) t.generation u.generation (out_same before whole t given.0) (ap (book (with_out before t)) (sym same) ∙ free)) ts rest.free in
+    (λ u free same. apart (book (with_out before t) (buffer_of_tag t)) t.generation u.generation (out_same before whole t given.0) (ap (book (with_out before t)) (sym same) ∙ free)) ts rest.free in
     let differ' : All (λ u. buffer_of_tag t ≢ buffer_of_tag u) ts = All-weaker (IsOther t) (λ u. buffer_of_tag t ≢ buffer_of_tag u) (λ u other same. other (sym same)) ts differ in
     record {
       free = All-cons (IsAt Free before) t ts given.0.free (free_before before whole t given.0 ts differ rest.free);

@@ -24,6 +24,12 @@ book books b = slice_index_or (slice_index_or books.nodes b.node []) b.index (li
 abbrev pub with_line : Ledger → Buffer → Line → Ledger
 with_line books b l = record books { nodes = slice_set books.nodes b.node (slice_set (slice_index_or books.nodes b.node []) b.index l) }
 
+-- one buffer has another line, and each other one the line that it had
+pub record Moves (before : Ledger) (b : Buffer) (l : Line) (after : Ledger) : Type 0 where
+  pub value : after ≡ with_line before b l
+  pub line : book after b ≡ l
+  pub others : (c : Buffer) → c ≢ b → book after c ≡ book before c
+
 -- how many buffers are in a place
 abbrev pub count_of : Place → Ledger → ℕ
 count_of p books = sum_by (count_in p) books.nodes

@@ -40,7 +40,7 @@ impl Model for Books {
 }
 
 impl Books {
-    ghost use Rattle.clover_alloc.specs.Ledger.{book, with_line, count_of, total_of, new_ledger, buffer_of_tag, IsAt, KeepsSpent, IsLedger, MayHave};
+    ghost use Rattle.clover_alloc.specs.Ledger.{book, Moves, count_of, total_of, new_ledger, buffer_of_tag, IsAt, KeepsSpent, IsLedger, MayHave};
     ghost use Rattle.clover_alloc.specs.Taking.{IsBalanced, Takes, AreTaken, AreNew, with_out};
     ghost use Rattle.clover_alloc.specs.Calls.{next_line};
     ghost use Rattle.clover_alloc.specs.Kept.{IsCounted};
@@ -131,7 +131,7 @@ impl Books {
     /// The buffer of the tag, which is out at the tag's generation, becomes a slot's root version.
     pub fn bind(&mut self, tag: Tag)
         requires { IsAt Out self.old tag }
-        ensures bound { self.new ≡ with_line self.old (buffer_of_tag tag) (line tag.generation Bound) }
+        ensures moves { Moves self.old (buffer_of_tag tag) (line tag.generation Bound) self.new }
         ensures spent { KeepsSpent self.old self.new }
         ensures whole { IsLedger self.new }
     {
@@ -148,7 +148,7 @@ impl Books {
     /// generation, or worn there.
     pub fn give_back(&mut self, tag: Tag)
         requires { IsAt Bound self.old tag }
-        ensures back { self.new ≡ with_line self.old (buffer_of_tag tag) (next_line self.old.pool.wear tag.generation) }
+        ensures moves { Moves self.old (buffer_of_tag tag) (next_line self.old.pool.wear tag.generation) self.new }
         ensures spent { KeepsSpent self.old self.new }
         ensures whole { IsLedger self.new }
     {
@@ -168,7 +168,7 @@ impl Books {
         requires generation { generation ≤ self.old.pool.wear }
         requires worn { (place ≡ Worn) ↔ (generation ≡ self.old.pool.wear) }
         requires fresh { self.old.fresh ≡ true }
-        ensures value { self.new ≡ with_line self.old buffer (line generation place) }
+        ensures moves { Moves self.old buffer (line generation place) self.new }
         ensures whole { IsLedger self.new }
     {
         self.put(buffer.node, buffer.index, Line { generation, place });
@@ -186,7 +186,7 @@ impl Books {
     fn put(&mut self, node: u32, index: u32, line: Line)
         requires within { IsBuffer self.old.pool (record { node = node; index = index }) }
         requires may { MayHave self.old.pool.wear line }
-        ensures value { self.new ≡ with_line self.old (record { node = node; index = index }) line }
+        ensures moves { Moves self.old (record { node = node; index = index }) line self.new }
         ensures whole { IsLedger self.new }
     {
         let lines = &mut self.nodes[node as usize];

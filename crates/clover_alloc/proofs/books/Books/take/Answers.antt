@@ -1,10 +1,7 @@
-use Rattle.std.proofs.Common.{◌≡◌, ◌+◌, ◌∷◌, [], length, sym, subst, arith}
+use Rattle.std.proofs.Common.{◌∷◌, [], subst, arith}
 use Rattle.std.proofs.lemmas.List.{length-append}
-use Rattle.clover_words.specs.Tag.{TagParts}
 use Rattle.clover_alloc.specs.Ledger.{IsLedger}
 use Rattle.clover_alloc.specs.Batch.{tags_of}
-use Rattle.clover_alloc.specs.Taking.{Given}
-use Rattle.clover_alloc.specs.declared.line.Place.TheVariants.{Free}
 use Rattle.clover_alloc.proofs.TakingLemmas.{Given-push, AreTaken-given, AreNew-given, Given-keeps, out_counts}
 use Rattle.clover_alloc.proofs.books.Books.take.Goals as goal
 

@@ -1,4 +1,4 @@
-use Rattle.std.proofs.Common.{◌<◌, ◌≤◌, List, length, sym, subst, arith}
+use Rattle.std.proofs.Common.{◌<◌, List, length, sym, subst, arith}
 use Rattle.std.proofs.lemmas.Bool.{both_ways}
 use Rattle.clover_alloc.specs.declared.line.Line.{Line}
 use Rattle.clover_alloc.proofs.NodeLemmas.{IsIndexed-written}
