@@ -1,5 +1,5 @@
 -- A recycling of a slot's root version: where it stands, which step its next access is, and how it goes on by what that access found.
-use Rattle.std.specs.Prelude.{◌≡◌, ℕ, ◌/◌, ◌%◌, ◌^◌, Option, Some, None}
+use Rattle.std.specs.Prelude.{◌≡◌, ℕ, ◌/◌, ◌%◌, Option, Some, None}
 use Rattle.clover_words.specs.Tag.{TagParts, tag_number}
 use Rattle.clover_words.specs.Next.{NextParts, IsNext, next_word}
 use Rattle.clover_rule.specs.Memory.{link}

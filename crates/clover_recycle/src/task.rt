@@ -1,10 +1,10 @@
 // A recycling: where it stands, which access it asks for, and how it goes on.
 ghost use Rattle.std.specs.Prelude.{◌≡◌, ◌<◌, ℕ, false, MatchResult};
-ghost use Rattle.clover_words.specs.Tag.{tag_number};
+ghost use Rattle.clover_words.specs.Tag.{tag_number, age};
 ghost use Rattle.clover_rule.specs.Memory.{link};
 ghost use Rattle.clover_rule.specs.Steps.{moved_on};
 ghost use Rattle.clover_rule.specs.Words.{next_of};
-ghost use Rattle.clover_port.specs.Asked.{IsOp};
+ghost use Rattle.clover_port.specs.Asked.{IsOp, IsFinding};
 ghost use Rattle.clover_recycle.specs.Recycling.{made_task, recycle_step, goes_on, answer_to, staged, looked, look_answer, MayFind, IsNextWord, OnLoad};
 ghost use Rattle.clover_recycle.specs.declared.turn.RecycleTurn.TheVariants.{More};
 ghost use Rattle.clover_recycle.specs.Holding.{RecycleHolds};
@@ -76,8 +76,9 @@ impl RecycleTask {
 
     /// The access that the recycling asks for next. One that is over asks for none.
     pub fn next(&self) -> Op
-        requires serves { self.now.root.generation < 1048575 }
+        requires serves { age (tag_number self.now.root) < 1048575 }
         ensures op { IsOp (recycle_step self.now) result }
+        ensures finds { OnLoad self.now.stage (IsFinding result) }
     {
         let root = self.root;
         match self.stage {
@@ -159,7 +160,7 @@ impl RecycleTask {
 
 // The number of the tag's next word once its buffer went on to the next generation, unlinked.
 fn moved_on(tag: Tag) -> u64
-    requires { tag.generation < 1048575 }
+    requires { age (tag_number tag) < 1048575 }
     ensures { result ≡ moved_on (tag_number tag) }
 {
     let next = NextWord {
