@@ -61,6 +61,23 @@ module _ (p : Pool) (c : RecycleState) (v : View) where
   pub recycle_asks : RecycleHolds p c v → Asks p (recycle_step c) v
   recycle_asks h = asks_at c.stage h
 
+-- the root version stays what it is
+looked_root : (c : RecycleState) (l : Option ℕ) → (looked c l).root ≡ c.root
+looked_root c None = refl
+looked_root c (Some t) = refl
+
+root_at_stage : (c : RecycleState) (x : ℕ) (at : Stage) → (goes_on (staged c at) x).root ≡ c.root
+root_at_stage c x AtVersion = looked_root (staged c AtVersion) (root_of (x % 8796093022208))
+root_at_stage c x (AtLink t) = refl
+root_at_stage c x (AtRoot t) = refl
+root_at_stage c x (AtFlushedRoot t) = refl
+root_at_stage c x (AtPass t) = refl
+root_at_stage c x (AtFree t) = refl
+root_at_stage c x Over = refl
+
+pub goes_on-root : (c : RecycleState) (x : ℕ) → (goes_on c x).root ≡ c.root
+goes_on-root c x = root_at_stage c x c.stage
+
 -- a number other than the load's is not looked at
 same_number : (c : RecycleState) (x y : ℕ) (at : Stage) → OnLoad at (x ≡ y) → (goes_on (staged c at) x ≡ goes_on (staged c at) y) × (answer_to (staged c at) x ≡ answer_to (staged c at) y)
 same_number c x y AtVersion e = (ap (λ (z : ℕ). goes_on (staged c AtVersion) z) e, ap (λ (z : ℕ). answer_to (staged c AtVersion) z) e)

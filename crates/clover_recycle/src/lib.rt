@@ -5,6 +5,8 @@
 mod stage;
 mod sweep;
 mod task;
+#[cfg(test)]
+mod tests;
 mod turn;
 
 pub use sweep::Sweep;
