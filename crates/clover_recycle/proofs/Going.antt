@@ -14,7 +14,7 @@ use Rattle.clover_rule.specs.Lists.{Within}
 use Rattle.clover_rule.specs.Memory.{word}
 use Rattle.clover_rule.specs.Steps.{Step, ReadVersion, FreeRoot, moved_on, act_of}
 use Rattle.clover_rule.specs.Words.{root_of, next_code}
-use Rattle.clover_rule.specs.declared.view.Task.TheVariants.{Idle, Loaded}
+use Rattle.clover_rule.specs.declared.view.ServerTask.TheVariants.{Idle, Loaded}
 use Rattle.clover_rule.specs.declared.view.View.{View}
 use Rattle.clover_rule.proofs.Codecs.{shown_next, parts_again}
 use Rattle.clover_rule.proofs.Ties.{buffer_in}

@@ -7,7 +7,7 @@ use Rattle.clover_port.specs.Told.{Open}
 use Rattle.clover_rule.specs.Asks.{IsAt}
 use Rattle.clover_rule.specs.Lists.{Within}
 use Rattle.clover_rule.specs.Told.{IsGivenBack}
-use Rattle.clover_rule.specs.declared.view.Task.TheVariants.{Idle}
+use Rattle.clover_rule.specs.declared.view.ServerTask.TheVariants.{Idle}
 use Rattle.clover_rule.specs.declared.view.View.{View}
 use Rattle.clover_recycle.specs.Holding.{RecycleHolds}
 use Rattle.clover_recycle.specs.Recycling.{RecycleState, goes_on, answer_to}

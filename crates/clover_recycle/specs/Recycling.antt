@@ -6,8 +6,8 @@ use Rattle.clover_rule.specs.Memory.{link}
 use Rattle.clover_rule.specs.Steps.{Step, ReadVersion, FlushLink, StoreRoot, FlushRoot, PassRoot, FreeRoot}
 use Rattle.clover_rule.specs.Words.{next_of}
 use Rattle.clover_rule.specs.declared.view.Recycling.{Recycling}
-use Rattle.clover_rule.specs.declared.view.Task.{Task}
-use Rattle.clover_rule.specs.declared.view.Task.TheVariants.{Idle, Loaded, Raised, Led, Both, Exchanged}
+use Rattle.clover_rule.specs.declared.view.ServerTask.{ServerTask}
+use Rattle.clover_rule.specs.declared.view.ServerTask.TheVariants.{Idle, Loaded, Raised, Led, Both, Exchanged}
 use Rattle.clover_recycle.specs.declared.stage.Stage.{Stage}
 use Rattle.clover_recycle.specs.declared.stage.Stage.TheVariants.{AtVersion, AtLink, AtRoot, AtFlushedRoot, AtPass, AtFree, Over}
 use Rattle.clover_recycle.specs.declared.turn.RecycleTurn.{RecycleTurn}
@@ -41,10 +41,10 @@ recycle_step c = from c.stage
     from Over = ReadVersion c.slot (tag_number c.root)
 
 -- what the server has unfinished where the recycling stands there
-abbrev pub unfinished : RecycleState → Task
+abbrev pub unfinished : RecycleState → ServerTask
 unfinished c = from c.stage
   where
-    from : Stage → Task
+    from : Stage → ServerTask
     from AtVersion = Idle
     from (AtLink t) = Loaded (named c t)
     from (AtRoot t) = Raised (named c t)
