@@ -12,3 +12,4 @@ pub mod Writing
 pub mod Beginning
 pub mod Machine
 pub mod Kept
+pub mod Running
