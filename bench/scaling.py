@@ -3,14 +3,13 @@
 
 Run it at the top of the repository after `rt ci` or `rt run` has built the program:
     python3 bench/scaling.py [PROGRAM]
-Each workload has scripts of 1, 4 and 16 MB, the trace of 1 and 4 MB. Each time is the best of three runs. Only
-ratios mean anything from one machine to another: a row's ratio is to the first row of its workload.
+Each workload has scripts of 1, 4 and 16 MB, the trace of 1 and 4 MB. Times are of the processor, the best of three
+runs. Only ratios mean anything from one machine to another: a row's ratio is to the first row of its workload.
 """
 import os
 import random
 import sys
 import tempfile
-import time
 from pathlib import Path
 from typing import Callable, Iterator
 
@@ -71,8 +70,7 @@ def script(lines: Iterator[str], size: int) -> str:
 
 
 def run(words: list[str], source: str, sink: str = os.devnull) -> tuple[float, float]:
-    """Seconds, and the peak of memory in MB."""
-    begun = time.monotonic()
+    """Seconds of the processor, and the peak of memory in MB."""
     child = os.fork()
     if child == 0:
         os.dup2(os.open(source, os.O_RDONLY), 0)
@@ -81,7 +79,7 @@ def run(words: list[str], source: str, sink: str = os.devnull) -> tuple[float, f
     _, status, usage = os.wait4(child, 0)
     if status != 0:
         sys.exit(f"{' '.join(words)} ended with {os.waitstatus_to_exitcode(status)}")
-    return time.monotonic() - begun, usage.ru_maxrss / 1024
+    return usage.ru_utime + usage.ru_stime, usage.ru_maxrss / 1024
 
 
 def accesses(program: str, source: str) -> int:
