@@ -17,7 +17,7 @@ impl Batch {
     ghost use Rattle.clover_alloc.specs.Batch.{tags_of};
 
     // No tags yet.
-    pub fn empty() -> Batch
+    pub(crate) fn empty() -> Batch
         ensures value { tags_of result ≡ [] }
         ensures count { result.count ≡ 0 }
     {
@@ -33,7 +33,7 @@ impl Batch {
     }
 
     // Puts a tag at the end.
-    pub fn push(&mut self, tag: Tag)
+    pub(crate) fn push(&mut self, tag: Tag)
         requires { self.old.count < 64 }
         ensures value { tags_of self.new ≡ tags_of self.old ++ tag ∷ [] }
         ensures count { self.new.count ≡ self.old.count + 1 }

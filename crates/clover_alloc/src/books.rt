@@ -24,6 +24,7 @@ pub struct Books {
     pool: Pool,
     nodes: Vec<NodeBooks>,
     counts: Counts,
+    // Whether nothing was taken yet, of which contracts speak.
     fresh: bool,
 }
 

@@ -52,7 +52,7 @@ impl Counts {
     ghost use Rattle.std.specs.Prelude.{if◌then◌else◌};
 
     // One buffer less in the place.
-    pub fn less(mut self, place: Place) -> Counts
+    pub(crate) fn less(mut self, place: Place) -> Counts
         requires { 0 < number_of place self }
         ensures each { (p : Place) → number_of p result + (if same_place p place then 1 else 0) ≡ number_of p self }
         ensures sum { sum_of result + 1 ≡ sum_of self }
@@ -67,7 +67,7 @@ impl Counts {
     }
 
     // One buffer more in the place.
-    pub fn more(mut self, place: Place) -> Counts
+    pub(crate) fn more(mut self, place: Place) -> Counts
         requires { sum_of self < 65536 }
         ensures each { (p : Place) → number_of p result ≡ number_of p self + (if same_place p place then 1 else 0) }
         ensures sum { sum_of result ≡ sum_of self + 1 }
