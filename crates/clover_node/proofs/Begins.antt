@@ -1,5 +1,5 @@
 -- A call as a node starts it: it is where the call of the definition begins, and its client holds what it needs.
-use Rattle.std.proofs.Common.{◌≡◌, ℕ, ◌∷◌, List, Bool, true, refl, sym, ap, ◌∙◌, subst}
+use Rattle.std.proofs.Common.{◌≡◌, ℕ, ◌∷◌, List, true, refl, sym, ap, ◌∙◌, subst}
 use Rattle.std.specs.Prelude.{Option, Some, None, IfSome}
 use Rattle.std.proofs.lemmas.List.Elements.{All-nil}
 use Rattle.clover_words.specs.declared.bytes.ValueBuf.{ValueBuf}

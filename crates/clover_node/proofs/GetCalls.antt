@@ -1,7 +1,7 @@
 -- A get of the node is the get of the definition: the same step is due of both, and both go on alike.
 use Prim.Native.Nat.{suc}
 use Rattle.std.proofs.Common.{◌≡◌, ℕ, ◌*◌, ◌%◌, ◌^◌, ◌<◌, ◌==◌, List, [], ◌∷◌, ◌++◌, length, Bool, true, false, cond, ltb, if◌then◌else◌, refl, sym, ap, ◌∙◌, subst, arith}
-use Rattle.std.specs.Prelude.{Option, Some, None, IsSome}
+use Rattle.std.specs.Prelude.{Option, Some, None}
 use Rattle.std.proofs.lemmas.Bool.{lt-ltb, le-ltb, ltb-false}
 use Rattle.clover_words.specs.declared.bytes.ValueBuf.{ValueBuf}
 use Rattle.clover_words.specs.declared.meta.Kind.{Kind}
@@ -10,14 +10,12 @@ use Rattle.clover_words.specs.declared.pool.Pool.{Pool}
 use Rattle.clover_words.specs.Meta.{MetaParts, IsMeta, meta_word}
 use Rattle.clover_words.specs.Pack.{words_of}
 use Rattle.clover_words.specs.Version.{unlinked}
-use Rattle.clover_map.specs.declared.call.Call.{Call}
 use Rattle.clover_map.specs.declared.call.Call.TheVariants.{Get as GetOf}
-use Rattle.clover_map.specs.declared.call.Reply.{Reply}
 use Rattle.clover_rule.specs.Steps.{Step, LoadNext, LoadContent, act_of}
 use Rattle.clover_rule.specs.declared.view.View.{View}
 use Rattle.clover_rule.proofs.Tools.{length_snoc}
 use Rattle.clover_walk.specs.Walking.{Walking, Stand, AtShort, AtRoot, AtTag, AtLink, OnTail, Ended, begun, goes_on, step_at}
-use Rattle.clover_get.specs.Getting.{Getting, Stage, Seeking, AtMeta, AtValue, AtFound, AtDead, AtBad, Over, getting, sought, stage_at, step_from, get_step, valued, read_kind, read_stage, Reads, GoesFrom, FillsFrom}
+use Rattle.clover_get.specs.Getting.{Getting, Stage, Seeking, AtMeta, AtValue, AtFound, AtDead, AtBad, Over, getting, sought, stage_at, step_from, valued, read_kind, read_stage, Reads, GoesFrom, FillsFrom}
 use Rattle.clover_get.specs.Holding.{StandsOn}
 use Rattle.clover_put.specs.Putting.{kind_of}
 use Rattle.clover_put.proofs.Body.{kind_meta, kind_none}

@@ -1,7 +1,6 @@
 -- How a get goes on: what stays of it, and which accesses do not end it.
 use Rattle.std.proofs.Common.{◌≡◌, ◌≢◌, ℕ, ◌==◌, List, Bool, true, false, cond, refl, sym, subst}
 use Rattle.clover_words.specs.declared.bytes.ValueBuf.{ValueBuf}
-use Rattle.clover_words.specs.declared.pool.Pool.{Pool}
 use Rattle.clover_words.specs.Version.{unlinked}
 use Rattle.clover_rule.specs.Learned.{turn_of}
 use Rattle.clover_rule.specs.declared.view.View.{View}

@@ -1,6 +1,6 @@
 -- What an access of a get is by the definition of what a call does, and at which tag it ends the get.
 use Prim.Native.Nat.{suc}
-use Rattle.std.proofs.Common.{◌≡◌, ◌≢◌, ℕ, ◌+◌, ◌==◌, List, [], ◌∷◌, ◌++◌, length, Bool, true, false, cond, refl, sym, ap, ◌∙◌, inl, subst, arith, eq-eqb}
+use Rattle.std.proofs.Common.{◌≡◌, ◌≢◌, ℕ, ◌==◌, List, [], ◌∷◌, ◌++◌, length, Bool, true, false, cond, refl, sym, ap, ◌∙◌, inl, subst, arith, eq-eqb}
 use Rattle.std.specs.Prelude.{◌<◌, ◌≤◌, Option, IsSome}
 use Rattle.clover_words.specs.declared.bytes.ValueBuf.{ValueBuf}
 use Rattle.clover_words.specs.declared.pool.Pool.{Pool}
@@ -8,13 +8,12 @@ use Rattle.clover_words.specs.Tag.{TagParts, tag_number}
 use Rattle.clover_words.specs.Version.{unlinked}
 use Rattle.clover_map.specs.declared.call.Call.{Call}
 use Rattle.clover_map.specs.declared.call.Call.TheVariants.{Get as GetOf}
-use Rattle.clover_map.specs.declared.call.Entry.{Entry}
 use Rattle.clover_map.specs.declared.call.Reply.{Reply}
 use Rattle.clover_rule.specs.Content.{InRange}
 use Rattle.clover_rule.specs.Knowing.{link_entry}
 use Rattle.clover_rule.specs.Learned.{decided, seen, turn_of}
 use Rattle.clover_rule.specs.Lists.{Within}
-use Rattle.clover_rule.specs.Steps.{Step, DecideNext, LoadNext, act_of, client}
+use Rattle.clover_rule.specs.Steps.{Step, DecideNext, LoadNext, client}
 use Rattle.clover_rule.specs.Words.{next_of}
 use Rattle.clover_rule.specs.declared.view.View.{View}
 use Rattle.clover_rule.proofs.Tools.{length_snoc}
@@ -26,7 +25,7 @@ use Rattle.clover_walk.proofs.Endings.{IsPlain, stepped, kept, copied_one}
 use Rattle.clover_get.specs.Getting.{Getting, Stage, Seeking, AtMeta, AtValue, AtFound, AtDead, AtBad, Over, step_from, get_step, GoesFrom, GoesOn, FillsFrom}
 use Rattle.clover_get.specs.Going.{key_of}
 use Rattle.clover_get.specs.Holding.{GetHolds, StandsOn}
-use Rattle.clover_node.specs.Calling.{Calling, due, after}
+use Rattle.clover_node.specs.Calling.{Calling, after}
 use Rattle.clover_node.specs.Going.{IsDue, IsDueAt, ShowsLast, Went}
 use Rattle.clover_node.specs.Mirroring.{GetMirrors, Mirrors}
 use Rattle.clover_node.specs.Turning.{Tells, reply_in, IsTagOf}

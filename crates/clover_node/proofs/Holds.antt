@@ -12,7 +12,7 @@ use Rattle.clover_cache.specs.Node.{Known}
 use Rattle.clover_walk.proofs.Endings.{stepped}
 use Rattle.clover_node.specs.Going.{Went}
 use Rattle.clover_node.specs.Node.{NodeState, NodeHolds, AreCursors, slot_of}
-use Rattle.clover_node.specs.Turning.{OnMade, OnRefused, UnlessDone, ends, left_by}
+use Rattle.clover_node.specs.Turning.{OnMade, OnRefused, ends, left_by}
 use Rattle.clover_node.specs.declared.answer.NodeRefusal.TheVariants.{Unreached, Behind, Linked, TooLong}
 use Rattle.clover_node.specs.declared.answer.NodeTurn.{NodeTurn}
 use Rattle.clover_node.specs.declared.answer.NodeTurn.TheVariants.{More, Decided, Done, Refused}

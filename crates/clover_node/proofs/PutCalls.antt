@@ -1,7 +1,7 @@
 -- A call of the node that writes is the one of the definition: the same step is due of both, and both go on alike.
 use Prim.Native.Nat.{zero, suc}
-use Rattle.std.proofs.Common.{◌≡◌, ℕ, ◌<◌, ◌==◌, List, [], ◌∷◌, ◌++◌, length, drop, get_or, Bool, true, false, cond, eqb, ltb, if◌then◌else◌, refl, sym, ap, ◌∙◌, subst, arith, eq-eqb}
-use Rattle.std.specs.Prelude.{Option, Some, None, IsSome}
+use Rattle.std.proofs.Common.{◌≡◌, ℕ, ◌<◌, ◌==◌, List, [], ◌∷◌, ◌++◌, length, drop, get_or, Bool, true, false, cond, eqb, ltb, if◌then◌else◌, refl, ap, ◌∙◌, subst, arith, eq-eqb}
+use Rattle.std.specs.Prelude.{Option, Some, None}
 use Rattle.std.proofs.Math.Seq.{drop-cons, drop-length}
 use Rattle.std.proofs.lemmas.Bool.{ltb-false}
 use Rattle.clover_words.specs.declared.meta.Kind.{Kind}
@@ -10,13 +10,12 @@ use Rattle.clover_words.specs.Tag.{tag_number}
 use Rattle.clover_words.specs.Version.{unlinked}
 use Rattle.clover_map.specs.declared.call.Call.{Call}
 use Rattle.clover_map.specs.declared.call.Reply.TheVariants.{Differs}
-use Rattle.clover_map.specs.declared.call.Reply.{Reply}
 use Rattle.clover_rule.specs.Lists.{nth}
 use Rattle.clover_rule.specs.Steps.{Step, LoadNext, LinkNext, RaiseNext, StoreContent, FlushContent, LoadContent, StoreShort, act_of}
 use Rattle.clover_rule.specs.declared.view.View.{View}
 use Rattle.clover_walk.specs.Walking.{Walking, Stand, AtShort as ToShort, AtRoot, AtTag, AtLink as OnLink, OnTail, Ended, begun, goes_on, step_at}
 use Rattle.clover_put.specs.Answering.{IsBefore}
-use Rattle.clover_put.specs.Holding.{PutHolds, Fills, Looks, Reads as ReadsMeta}
+use Rattle.clover_put.specs.Holding.{Fills, Looks, Reads as ReadsMeta}
 use Rattle.clover_put.specs.Putting.{Putting, Stage, Storing, Flushing, Seeking, AtMeta, AtLink, Deciding, AtBad, AtRaise, AtShort, Over, body, body_word, call_of, kind_of, put_step, put_on, staged, walked, filled, reached, at_tail, on_meta}
 use Rattle.clover_put.specs.declared.job.Job.{Job}
 use Rattle.clover_put.specs.declared.job.Job.TheVariants.{Put, Delete, Swap}

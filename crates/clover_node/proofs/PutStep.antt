@@ -1,5 +1,5 @@
 -- What an access of a call that writes is by the definition of what a call does.
-use Rattle.std.proofs.Common.{◌≡◌, ℕ, ◌==◌, List, [], ◌∷◌, ◌++◌, length, Bool, true, false, cond, refl, sym, ap, ◌∙◌, inl, inr, subst, eq-eqb}
+use Rattle.std.proofs.Common.{◌≡◌, ℕ, ◌==◌, List, [], ◌∷◌, ◌++◌, length, true, false, cond, refl, sym, ap, ◌∙◌, inl, inr, subst, eq-eqb}
 use Rattle.std.specs.Prelude.{◌⊎◌, ◌<◌, ◌≤◌, Option, IsSome}
 use Rattle.clover_words.specs.declared.bytes.ValueBuf.{ValueBuf}
 use Rattle.clover_words.specs.declared.pool.Pool.{Pool}
@@ -8,7 +8,6 @@ use Rattle.clover_words.specs.Version.{unlinked}
 use Rattle.clover_map.specs.declared.bytes.Value.{Value}
 use Rattle.clover_map.specs.declared.call.Call.{Call}
 use Rattle.clover_map.specs.declared.call.Reply.{Reply}
-use Rattle.clover_map.specs.declared.call.Reply.TheVariants.{Absent as AbsentReply, Differs as DiffersReply}
 use Rattle.clover_rule.specs.Content.{InRange}
 use Rattle.clover_rule.specs.Lists.{Within}
 use Rattle.clover_rule.specs.Steps.{Step, DecideNext, act_of, reply_of}
@@ -23,7 +22,7 @@ use Rattle.clover_put.specs.Holding.{PutHolds, Fills, Looks}
 use Rattle.clover_put.specs.Putting.{Putting, Stage, Storing, Flushing, Seeking, AtMeta, AtLink, Deciding, AtBad, AtRaise, AtShort, Over, call_of, call_at, put_step, put_on, staged}
 use Rattle.clover_put.specs.declared.job.Job.{Job}
 use Rattle.clover_put.specs.declared.job.Job.TheVariants.{Put, Delete, Swap}
-use Rattle.clover_put.specs.declared.turn.PutTurn.TheVariants.{More as PutMore, Decided as PutDecided, Stored as PutStored, Deleted as PutDeleted, Absent as PutAbsent, Differs as PutDiffers, Behind as PutBehind}
+use Rattle.clover_put.specs.declared.turn.PutTurn.TheVariants.{Decided as PutDecided, Behind as PutBehind}
 use Rattle.clover_node.specs.Calling.{Calling, due, after}
 use Rattle.clover_node.specs.Going.{IsDue, IsDueAt, ShowsLast, Turns, Went}
 use Rattle.clover_node.specs.Mirroring.{PutMirrors, Writes, Mirrors}

@@ -11,7 +11,7 @@ use Rattle.clover_put.specs.declared.job.Job.{Job}
 use Rattle.clover_put.specs.declared.job.Job.TheVariants.{Put, Delete, Swap}
 use Rattle.clover_node.specs.declared.answer.Answer.{Answer}
 use Rattle.clover_node.specs.declared.answer.Answer.TheVariants.{Stored, Found, Absent, Deleted, Differs}
-use Rattle.clover_node.specs.declared.answer.NodeRefusal.TheVariants.{Unreached, Behind, Linked, TooLong}
+use Rattle.clover_node.specs.declared.answer.NodeRefusal.TheVariants.{Unreached, Behind, Linked}
 use Rattle.clover_node.specs.declared.answer.NodeTurn.{NodeTurn}
 use Rattle.clover_node.specs.declared.answer.NodeTurn.TheVariants.{More, Decided, Done, Refused}
 use Rattle.clover_node.specs.declared.under.Underway.{Underway}

@@ -1,4 +1,4 @@
-use Rattle.std.proofs.Common.{◌≡◌, ℕ, sym, ap, ◌∙◌, subst}
+use Rattle.std.proofs.Common.{ℕ, sym, ap, ◌∙◌, subst}
 use Rattle.clover_node.specs.Going.{GoesOn, IsDue}
 use Rattle.clover_node.specs.Node.{NodeState, CallHolds, next_step, is_first}
 use Rattle.clover_node.specs.Turning.{OnMade, left_by}

@@ -1,4 +1,4 @@
-use Rattle.std.proofs.Common.{◌≡◌, ℕ, true, false, sym, ap, ◌∙◌, subst}
+use Rattle.std.proofs.Common.{◌≡◌, ℕ, true, false, sym, ◌∙◌, subst}
 use Rattle.clover_words.specs.declared.pool.Pool.{Pool}
 use Rattle.clover_node.specs.Going.{GoesOn, IsDue, Went}
 use Rattle.clover_node.specs.Node.{NodeState, NodeHolds, next_step, is_first}
