@@ -7,6 +7,8 @@ mod directory;
 mod names;
 mod stage;
 mod task;
+#[cfg(test)]
+mod tests;
 mod turn;
 
 pub use binding::Binding;
