@@ -9,7 +9,7 @@ use Rattle.clover_rule.specs.Asks.{Asks}
 use Rattle.clover_rule.specs.Content.{spelling, IsKey}
 use Rattle.clover_rule.specs.Lists.{nth, Within}
 use Rattle.clover_rule.specs.Server.{waiting_name}
-use Rattle.clover_rule.specs.declared.view.Task.{Task}
+use Rattle.clover_rule.specs.declared.view.ServerTask.{ServerTask}
 use Rattle.clover_rule.specs.declared.view.View.{View}
 use Rattle.clover_rule.proofs.Spelling.{length_words, nth_all}
 use Rattle.clover_rule.proofs.Ties.{content_in}
@@ -41,7 +41,7 @@ module _ (p : Pool) (c : UnderWay) (d : Bindings) (v : View) where
       meta : IsWithin p (content_at (home (tag_number c.own)) 0)
       meta = content_in p (home (tag_number c.own)) 0 h.buffer (omega arith)
 
-      in_list : (task : Task) → v.server.task ≡ task → waiting_name task ≡ [] → d.list ≡ v.server.directory
+      in_list : (task : ServerTask) → v.server.task ≡ task → waiting_name task ≡ [] → d.list ≡ v.server.directory
       in_list task e f = sym (append-nil d.list) ∙ ap (λ (l : List (ℕ × List ℕ)). d.list ++ l) (sym (ap waiting_name e ∙ f)) ∙ sym h.directory.list
 
       by : (at : Stage) → at ≢ Over → IsPlaced (key_length c.key) at → BindHolds p (staged c at) d v → Asks p (bind_step (staged c at) d) v
@@ -62,7 +62,7 @@ module _ (p : Pool) (c : UnderWay) (d : Bindings) (v : View) where
       by (FlushedKey j) is place h = ((slot, (let f = few_words c.key key in omega arith)), (h.at, word_is c.key j place))
       by Root is place h = (slot, h.at)
       by FlushedRoot is place h = (slot, h.at)
-      by Count is place h = (tt, (h.at, (let e = ap length (h.directory.list ∙ ap (λ (t : Task). d.list ++ waiting_name t) h.at.task_is) ∙ length-append d.list ((c.slot, c.key) ∷ []) in omega arith)))
+      by Count is place h = (tt, (h.at, (let e = ap length (h.directory.list ∙ ap (λ (t : ServerTask). d.list ++ waiting_name t) h.at.task_is) ∙ length-append d.list ((c.slot, c.key) ∷ []) in omega arith)))
       by Over is place h = absurd (is refl)
 
 pub bind_asks : (p : Pool) (c : UnderWay) (d : Bindings) (v : View) → c.stage ≢ Over → IsUnderWay c → BindHolds p c d v → Asks p (bind_step c d) v

@@ -12,8 +12,8 @@ use Rattle.clover_rule.specs.Server.{waiting_name}
 use Rattle.clover_rule.specs.Views.{book, book_at, find_root, root_at}
 use Rattle.clover_rule.specs.declared.view.BufferState.TheVariants.{Free}
 use Rattle.clover_rule.specs.declared.view.NewBinding.{NewBinding}
-use Rattle.clover_rule.specs.declared.view.Task.{Task}
-use Rattle.clover_rule.specs.declared.view.Task.TheVariants.{Storing}
+use Rattle.clover_rule.specs.declared.view.ServerTask.{ServerTask}
+use Rattle.clover_rule.specs.declared.view.ServerTask.TheVariants.{Storing}
 use Rattle.clover_rule.specs.declared.view.View.{View}
 use Rattle.clover_dir.specs.Directory.{Bindings, IsDirectory, root_of, with_binding}
 use Rattle.clover_dir.specs.Going.{Answers, BindWent, Binds, OnRefused}
@@ -84,7 +84,7 @@ module _ (p : Pool) (c : UnderWay) (d : Bindings) (v : View) (o : Option Open) (
     at = record { server = role ∙ h.at.server; task_is = task };
     directory = record {
       pool = h.directory.pool;
-      list = list ∙ ap (λ (t : Task). d.list ++ waiting_name t) (sym task);
+      list = list ∙ ap (λ (t : ServerTask). d.list ++ waiting_name t) (sym task);
       roots = λ s. ap (λ (rs : List (ℕ × ℕ)). find_root rs s) roots ∙ h.directory.roots s;
     };
     enter = h.enter;
@@ -94,7 +94,7 @@ module _ (p : Pool) (c : UnderWay) (d : Bindings) (v : View) (o : Option Open) (
 
   -- the directory that the view had
   had : (at : Stage) → BindHolds p (staged c at) d v → v.server.directory ≡ d.list ++ waiting_name (task_at b at)
-  had at h = h.directory.list ∙ ap (λ (t : Task). d.list ++ waiting_name t) h.at.task_is
+  had at h = h.directory.list ∙ ap (λ (t : ServerTask). d.list ++ waiting_name t) h.at.task_is
 
   abbrev IsNext : Stage → Type 0
   IsNext at = BindHolds p (staged c (after (key_length c.key) at)) d w
@@ -149,7 +149,7 @@ module _ (p : Pool) (c : UnderWay) (d : Bindings) (v : View) (o : Option Open) (
     directory =
         let q = m.told.next in record {
           pool = h.directory.pool;
-          list = ap (λ (z : View). z.server.directory) q ∙ had Count h ∙ sym (append-nil e.list) ∙ ap (λ (t : Task). e.list ++ waiting_name t) (sym (ap (λ (z : View). z.server.task) q));
+          list = ap (λ (z : View). z.server.directory) q ∙ had Count h ∙ sym (append-nil e.list) ∙ ap (λ (t : ServerTask). e.list ++ waiting_name t) (sym (ap (λ (z : View). z.server.task) q));
           roots = λ s. ap (λ (z : View). root_at z.server s) q ∙ root_now s;
         }
 

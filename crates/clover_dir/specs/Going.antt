@@ -7,7 +7,7 @@ use Rattle.clover_rule.specs.Steps.{StoreCount}
 use Rattle.clover_rule.specs.Told.{IsDurableBinding}
 use Rattle.clover_rule.specs.Words.{mem_of}
 use Rattle.clover_rule.specs.declared.view.NewBinding.{NewBinding}
-use Rattle.clover_rule.specs.declared.view.Task.TheVariants.{Idle}
+use Rattle.clover_rule.specs.declared.view.ServerTask.TheVariants.{Idle}
 use Rattle.clover_rule.specs.declared.view.View.{View}
 use Rattle.clover_dir.specs.Directory.{Bindings, with_binding}
 use Rattle.clover_dir.specs.Holding.{BindHolds, IsDirectoryOf}

@@ -9,8 +9,8 @@ use Rattle.clover_rule.specs.Server.{waiting_name}
 use Rattle.clover_rule.specs.Views.{book, book_at, root_at}
 use Rattle.clover_rule.specs.declared.view.BufferState.TheVariants.{Free}
 use Rattle.clover_rule.specs.declared.view.NewBinding.{NewBinding}
-use Rattle.clover_rule.specs.declared.view.Task.{Task}
-use Rattle.clover_rule.specs.declared.view.Task.TheVariants.{Idle, Storing, Rooted, Waiting}
+use Rattle.clover_rule.specs.declared.view.ServerTask.{ServerTask}
+use Rattle.clover_rule.specs.declared.view.ServerTask.TheVariants.{Idle, Storing, Rooted, Waiting}
 use Rattle.clover_rule.specs.declared.view.View.{View}
 use Rattle.clover_dir.specs.Directory.{Bindings, IsBound, root_of}
 use Rattle.clover_dir.specs.Names.{IsNew}
@@ -25,7 +25,7 @@ pub record IsDirectoryOf (p : Pool) (d : Bindings) (v : View) : Type 0 where
   pub roots : (slot : ℕ) → root_at v.server slot ≡ option_map tag_number (root_of d slot)
 
 -- the server's unfinished task where the binding stands; none before its first access
-abbrev pub task_at : NewBinding → Stage → Task
+abbrev pub task_at : NewBinding → Stage → ServerTask
 task_at b Tombstone = Idle
 task_at b FlushedTombstone = Storing b 1
 task_at b (Key j) = Storing b (2 + j)

@@ -24,7 +24,8 @@ use Rattle.clover_rule.specs.declared.access.Act.{Act}
 use Rattle.clover_rule.specs.declared.access.Act.TheVariants.{Load}
 use Rattle.clover_rule.specs.declared.view.Content.{Content}
 use Rattle.clover_rule.specs.declared.view.View.{View}
-use Rattle.clover_rule.proofs.Spelling.{eight_byte, meta_apart, meta_parts, short_enough}
+use Rattle.clover_words.proofs.Packing.{eight_byte}
+use Rattle.clover_rule.proofs.Spelling.{meta_apart, meta_parts, short_enough}
 use Rattle.clover_rule.proofs.Steps.{within_last, within_prefix}
 use Rattle.clover_rule.proofs.Ties.{buffer_in, content_in}
 use Rattle.clover_walk.specs.Walking.{Walking, Stand, StandsOn as WalkStandsOn, Holds, key_at}

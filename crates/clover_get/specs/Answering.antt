@@ -4,21 +4,23 @@ use Rattle.clover_words.specs.Tag.{TagParts}
 use Rattle.clover_get.specs.declared.turn.GetTurn.{GetTurn}
 use Rattle.clover_get.specs.declared.turn.GetTurn.TheVariants.{More, Found, Absent, Behind, Unreached}
 
--- where the access was made, and where it was refused
+-- where the access was made
 abbrev pub OnReached : GetTurn → Type 0 → Type 0
 OnReached Unreached A = Unit {0}
 OnReached r A = A
 
+-- where the access was refused
 abbrev pub OnUnreached : GetTurn → Type 0 → Type 0
 OnUnreached Unreached A = A
 OnUnreached r A = Unit {0}
 
--- where the call goes on, and where it is over
+-- where the call goes on
 abbrev pub OnGoing : GetTurn → Type 0 → Type 0
 OnGoing More A = A
 OnGoing Unreached A = A
 OnGoing r A = Unit {0}
 
+-- where the call is over
 abbrev pub OnOver : GetTurn → Type 0 → Type 0
 OnOver More A = Unit {0}
 OnOver Unreached A = Unit {0}
@@ -30,10 +32,12 @@ OnAhead Unreached A = Unit {0}
 OnAhead (Behind n) A = Unit {0}
 OnAhead r A = A
 
+-- where the get found a value
 abbrev pub IfFound : GetTurn → (TagParts → ℕ → Type 0) → Type 0
 IfFound (Found t f) P = P t f
 IfFound r P = Unit {0}
 
+-- where the get found a tombstone
 abbrev pub IfAbsent : GetTurn → (TagParts → Type 0) → Type 0
 IfAbsent (Absent t) P = P t
 IfAbsent r P = Unit {0}
@@ -44,6 +48,7 @@ IfAnswered (Found t f) P = P t
 IfAnswered (Absent t) P = P t
 IfAnswered r P = Unit {0}
 
+-- where the call fell behind
 abbrev pub IfBehind : GetTurn → (ℕ → Type 0) → Type 0
 IfBehind (Behind n) P = P n
 IfBehind r P = Unit {0}

@@ -16,6 +16,7 @@ use Rattle.clover_rule.specs.declared.access.Act.TheVariants.{Load}
 use Rattle.clover_rule.specs.declared.view.Content.{Content}
 use Rattle.clover_rule.specs.declared.view.View.{View}
 
+-- a content word of a tag's version
 abbrev pub copy : ℕ → ℕ → ℕ → Content
 copy t j x = record { tag = t; place = j; word = x }
 

@@ -20,6 +20,7 @@ FindsFrom (AtValue t f j) w room x = j < words_of room.length
 FindsFrom Over w room x = ⊥
 FindsFrom s w room x = MayFind w x
 
+-- a number that the next access of the get may find
 abbrev pub GetFinds : Getting → ValueBuf → ℕ → Type 0
 GetFinds g room x = FindsFrom g.stage g.walk room x
 
@@ -42,5 +43,6 @@ AnswersFrom (AtFound t f) w x r = ((x ≡ unlinked t) × (u : TagParts) × (tag_
 AnswersFrom (AtDead t) w x r = ((x ≡ unlinked t) × (u : TagParts) × (tag_number u ≡ t) × (r ≡ Absent u)) ⊎ ((x ≢ unlinked t) × Came w x r)
 AnswersFrom s w x r = Came w x r
 
+-- the answer of the get where its access found this number
 abbrev pub GetAnswers : Getting → ℕ → GetTurn → Type 0
 GetAnswers g x r = AnswersFrom g.stage g.walk x r

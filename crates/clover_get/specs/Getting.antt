@@ -1,6 +1,6 @@
 -- A get of a slot's key: where it stands, which step its next access is, and how it goes on by what that access found.
 use Prim.Native.Nat.{suc}
-use Rattle.std.specs.Prelude.{◌≡◌, ℕ, ◌*◌, ◌==◌, List, cond, ltb, take, Option, Some, None, IfSome}
+use Rattle.std.specs.Prelude.{◌≡◌, ℕ, ◌*◌, ◌==◌, List, ltb, take, Option, Some, None, IfSome, if◌then◌else◌}
 use Rattle.clover_words.specs.declared.bytes.ValueBuf.{ValueBuf}
 use Rattle.clover_words.specs.declared.meta.Kind.{Kind}
 use Rattle.clover_words.specs.declared.meta.Kind.TheVariants.{Value as IsValue, Tombstone}
@@ -29,6 +29,7 @@ pub record Getting : Type 0 where
   pub walk : Walking
   pub stage : Stage
 
+-- a get with this walk at this stage
 abbrev pub getting : Walking → Stage → Getting
 getting w s = record { walk = w; stage = s }
 
@@ -51,6 +52,7 @@ step_from (AtDead t) w k into = DecideNext w.slot t (Get k) Absent
 step_from (AtBad t) w k into = LoadNext w.slot t
 step_from Over w k into = walk_step w
 
+-- the step that the next access of the get is
 abbrev pub get_step : Getting → List ℕ → ValueBuf → Step
 get_step g k into = step_from g.stage g.walk k into
 
@@ -60,18 +62,20 @@ stage_at (OnTail t) = AtMeta t
 stage_at Ended = Over
 stage_at s = Seeking
 
+-- a get that goes with its walk
 abbrev pub sought : Walking → Getting
 sought w = getting w (stage_at w.stand)
 
 -- the next value word of a value of so many bytes, or the last load
 abbrev pub valued : ℕ → ℕ → ℕ → ℕ → Stage
-valued t f size j = cond (ltb j (words_of size)) (AtValue t f j) (AtFound t f)
+valued t f size j = if ltb j (words_of size) then AtValue t f j else AtFound t f
 
 -- what a meta word leads to: a value that the buffers have room for, a tombstone, or neither
 abbrev pub read_kind : Pool → ℕ → Kind → ℕ → ℕ → Stage
-read_kind p t IsValue f size = cond (ltb (8 * p.words) size) (AtBad t) (valued t f size 0)
+read_kind p t IsValue f size = if ltb (8 * p.words) size then AtBad t else valued t f size 0
 read_kind p t Tombstone f size = AtDead t
 
+-- the stage behind the load of a meta word
 abbrev pub read_stage : Pool → ℕ → Option MetaParts → Stage
 read_stage p t None = AtBad t
 read_stage p t (Some m) = read_kind p t m.kind m.flags m.length
@@ -86,11 +90,12 @@ abbrev pub GoesFrom : Stage → Walking → ℕ → ℕ → Getting → Type 0
 GoesFrom Seeking w size x g = g ≡ sought (goes_on w x)
 GoesFrom (AtMeta t) w size x g = (o : Option MetaParts) × Reads x o × (g ≡ getting w (read_stage w.pool t o))
 GoesFrom (AtValue t f j) w size x g = g ≡ getting w (valued t f size (suc j))
-GoesFrom (AtFound t f) w size x g = g ≡ cond (x == unlinked t) (getting w Over) (sought (goes_on w x))
-GoesFrom (AtDead t) w size x g = g ≡ cond (x == unlinked t) (getting w Over) (sought (goes_on w x))
+GoesFrom (AtFound t f) w size x g = g ≡ (if x == unlinked t then getting w Over else sought (goes_on w x))
+GoesFrom (AtDead t) w size x g = g ≡ (if x == unlinked t then getting w Over else sought (goes_on w x))
 GoesFrom (AtBad t) w size x g = g ≡ sought (goes_on w x)
 GoesFrom Over w size x g = ⊥
 
+-- how the get goes on where its access found this number
 abbrev pub GoesOn : Getting → ℕ → ℕ → Getting → Type 0
 GoesOn g size x g1 = GoesFrom g.stage g.walk size x g1
 

@@ -1,5 +1,5 @@
 -- What a get stands on, and how many accesses its call has made.
-use Rattle.std.specs.Prelude.{◌≡◌, ℕ, ◌+◌, ◌*◌, ◌<◌, ◌≤◌, length, cond, false}
+use Rattle.std.specs.Prelude.{◌≡◌, ℕ, ◌+◌, ◌*◌, ◌<◌, ◌≤◌, length, false, if◌then◌else◌}
 use Rattle.clover_words.specs.declared.bytes.ValueBuf.{ValueBuf}
 use Rattle.clover_words.specs.Pack.{words_of}
 use Rattle.clover_rule.specs.Content.{InRange}
@@ -40,4 +40,4 @@ most g = g.walk.turns * (g.walk.pool.words + 5) + copied g.stage g.walk.stand g.
 pub record GetHolds (g : Getting) (v : View) (into : ValueBuf) : Type 0 where
   pub walk : Holds g.walk v
   pub stage : StandsOn g.stage g.walk v into
-  pub bound : cond g.walk.first 0 (length v.pass.since) ≤ most g
+  pub bound : (if g.walk.first then 0 else length v.pass.since) ≤ most g

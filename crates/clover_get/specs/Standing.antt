@@ -4,6 +4,7 @@ use Rattle.clover_get.specs.Getting.{Stage as Place, Seeking as ToSeek, AtMeta a
 use Rattle.clover_get.specs.declared.stage.Stage.{Stage}
 use Rattle.clover_get.specs.declared.stage.Stage.TheVariants.{Seeking, AtMeta, AtValue, AtFound, AtDead, AtBad, Over}
 
+-- where a get stands
 abbrev pub standing : Stage → Place
 standing Seeking = ToSeek
 standing (AtMeta t) = ToMeta (tag_number t)

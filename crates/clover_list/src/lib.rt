@@ -8,7 +8,6 @@ ghost use Rattle.std.specs.Prelude.{◌≡◌, ◌++◌, ◌∷◌, [], OnOk, On
 mod memory;
 
 pub use memory::OutOfMemory;
-
 use std::alloc::{AllocError, Global};
 use std::marker::Model;
 

@@ -1,4 +1,3 @@
-pub mod Busy
 pub mod Cells
 pub mod Committing
 pub mod Endings

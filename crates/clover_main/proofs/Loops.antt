@@ -1,97 +1,41 @@
--- records behind records: steps, what a task does, a call, lines
-use Rattle.std.proofs.Common.{◌≡◌, ◌≢◌, ◌+◌, ◌<◌, ◌≤◌, inl, inr, ℕ, Bool, true, List, [], ◌∷◌, ◌++◌, length, Option, None, refl, ap, subst, sym, ◌∙◌, arith, append-nil, append_assoc, length-append}
-use Rattle.std.specs.Prelude.{All, ◌==◌}
-use Rattle.std.proofs.lemmas.List.Elements.{All-nil, All-cons, All-append}
+-- records behind records: what is left of a line, and line behind line
+use Rattle.std.proofs.Common.{◌≡◌, inl, inr, ℕ, Bool, true, List, [], ◌∷◌, ◌++◌, length, Option, Some, refl, ap, subst, sym, ◌∙◌, arith, append-nil, append_assoc}
+use Rattle.std.specs.Prelude.{◌==◌}
 use Rattle.clover_script.specs.Line.{lines_of, IsLineOf, IsNoLine}
 use Rattle.std.proofs.lemmas.Bool.Decides.{nat_tests}
 use Rattle.clover_script.specs.declared.line.Line.{Line}
-use Rattle.clover_script.specs.declared.line.Task.{Task}
 use Rattle.clover_script.proofs.SpokenLemmas.{one_line}
-use Rattle.clover_sched.specs.Folds.{doing}
-use Rattle.clover_sched.specs.Lines.{Works, Finishes, IsTurnedAway, Calls, Stands, Covers}
-use Rattle.clover_sched.specs.Machine.{Parts, IsAt, IsBusy}
+use Rattle.clover_sched.specs.Lines.{Stands, Covers}
+use Rattle.clover_sched.specs.Machine.{Parts, IsAt}
 use Rattle.clover_sched.specs.Record.{Record}
 use Rattle.clover_sched.specs.Run.{Opening}
-use Rattle.clover_sched.specs.declared.event.Event.{Event}
-use Rattle.clover_sched.specs.declared.event.Event.TheVariants.{Begin, Step}
-use Rattle.clover_sched.specs.declared.event.Note.{Note}
-use Rattle.clover_main.specs.Beginnings.{BeginsCall, IsBegun, Opens}
+use Rattle.clover_sched.specs.Running.{steps_line, IsLeft, IsPartOrAll}
+use Rattle.clover_sched.specs.declared.runner.Work.{Work}
+use Rattle.clover_sched.proofs.Working.{left_then, part_then}
+use Rattle.clover_main.specs.Beginnings.{IsBegun, Opens}
 use Rattle.clover_main.specs.Hearing.{Heard}
-use Rattle.clover_main.specs.Running.{Ran, Fails, Continues, IsOne, IsOnly, IsAtMostOne, AreSteps, AreSomeSteps, IsSaidBy, IsPartOfSaid, Reaches}
+use Rattle.clover_main.specs.Running.{Ran, Runs, Fails, Stops, Continues, IsSaidBy, IsPartOfSaid, Reaches}
 use Rattle.clover_main.specs.declared.output.Stop.{Stop}
-use Rattle.clover_main.proofs.Busy.{busy_task, idle_none}
 use Rattle.clover_main.proofs.Pieces.{ran_then, fails_then, ran_nothing}
 
 pub continues_then : (m n k : Parts) → Continues m n → Continues n k → Continues m k
 continues_then m n k f g = record { setup = g.setup ∙ f.setup; names = g.names ∙ f.names; traced = g.traced ∙ f.traced }
 
-abbrev AllAre : Event → List Record → Type 0
-AllAre e rs = All (λ (r : Record). r.event ≡ e) rs
-
-all_one : (e : Event) (ys : List Record) → IsOnly e ys → AllAre e ys × (length ys ≡ 1)
-all_one e ys (r, all, is) = (subst (λ l. AllAre e l) (sym all) (All-cons (λ (x : Record). x.event ≡ e) r [] is (All-nil (λ (x : Record). x.event ≡ e))), ap length all)
-
-all_most : (e : Event) (ys : List Record) → IsAtMostOne e ys → AllAre e ys × (length ys ≤ 1)
-all_most e ys o = elim o as (λ _. AllAre e ys × (length ys ≤ 1)) [
-  | inl none ↦ (subst (λ l. AllAre e l) (sym none) (All-nil (λ (r : Record). r.event ≡ e)), omega (arith, ap length none))
-  | inr one ↦ (subst (λ l. AllAre e l) (sym one.1) (All-cons (λ (r : Record). r.event ≡ e) one.0 [] one.2 (All-nil (λ (r : Record). r.event ≡ e))), omega (arith, ap length one.1))
-]
-
-all_both : (e : Event) (xs ys : List Record) → AllAre e xs → AllAre e ys → AllAre e (xs ++ ys)
-all_both e xs ys h k = All-append (λ (r : Record). r.event ≡ e) xs ys h k
-
-module _ (o : Opening) (t : Bool) (rs : List Record) (m n : Parts) (a b c : Option (List ℕ)) (w v u : List ℕ) (actor : ℕ) where
-  pub steps_more : (k k2 : ℕ) → (x : Ran o t rs m a b w v (AreSteps actor k)) → Ran o t (rs ++ x.more) n b c v u (IsOnly (Step actor)) → k2 ≡ k + 1 → Ran o t rs n a c w u (AreSteps actor k2)
-  steps_more k k2 x y e =
-      let one = all_one (Step actor) y.more y.kind in
-      ran_then o t rs m n a b c w v u (AreSteps actor k) (IsOnly (Step actor)) (AreSteps actor k2) x y
-      (all_both (Step actor) x.more y.more x.kind.0 one.0, omega (arith, length-append x.more y.more, x.kind.1, one.1, e))
-
-  pub steps_fail : (stop : Stop) (k times : ℕ) → (x : Ran o t rs m a b w v (AreSteps actor k)) → Fails o t (rs ++ x.more) stop b c v (IsAtMostOne (Step actor)) → k < times → Fails o t rs stop a c w (AreSomeSteps actor times)
-  steps_fail stop k times x y lt =
-      let one = all_most (Step actor) y.more y.kind in
-      fails_then o t rs stop m a b c w v (AreSteps actor k) (IsAtMostOne (Step actor)) (AreSomeSteps actor times) x y
-      (all_both (Step actor) x.more y.more x.kind.0 one.0, omega (arith, length-append x.more y.more, x.kind.1, one.1, lt))
-
-works_push : (a : ℕ) (before xs : List Record) (r : Record) → Works a before xs → r.event ≡ Step a → (doing a (before ++ xs)).task ≢ None → Works a before (xs ++ r ∷ [])
-works_push a before [] r h e some = (e, subst (λ l. (doing a l).task ≢ None) (append-nil before) some, tt)
-works_push a before (x ∷ xs) r h e some = (h.0, h.1, works_push a (before ++ x ∷ []) xs r h.2 e (subst (λ l. (doing a l).task ≢ None) (sym (append_assoc before (x ∷ []) xs)) some))
-
-module _ (o : Opening) (t : Bool) (rs : List Record) (m n : Parts) (a b c : Option (List ℕ)) (w v u : List ℕ) (actor : ℕ) (x : Ran o t rs m a b w v (Works actor rs)) where
-  pub finish_done : 1 ≤ actor → (IsBusy m actor → ⊥) → Ran o t rs m a b w v (Finishes actor rs)
-  finish_done one idle = record {
-    more = x.more;
-    kind = record { works = x.kind; ends = idle_none o m (rs ++ x.more) x.at actor one idle };
-    at = x.at;
-    says = x.says;
-  }
-
-  module _ (busy : IsBusy m actor) where
-    step_works : (more : List Record) → IsOnly (Step actor) more → Works actor rs (x.more ++ more)
-    step_works more (r, all, is) = subst (λ l. Works actor rs (x.more ++ l)) (sym all) (works_push actor rs x.more r x.kind is (busy_task o m (rs ++ x.more) x.at actor busy))
-
-    pub finish_more : Ran o t (rs ++ x.more) n b c v u (IsOnly (Step actor)) → Ran o t rs n a c w u (Works actor rs)
-    finish_more y = ran_then o t rs m n a b c w v u (Works actor rs) (IsOnly (Step actor)) (Works actor rs) x y (step_works y.more y.kind)
-
-    pub finish_fails : (stop : Stop) → Fails o t (rs ++ x.more) stop b c v (IsAtMostOne (Step actor)) → Fails o t rs stop a c w (Works actor rs)
-    finish_fails stop y = fails_then o t rs stop m a b c w v (Works actor rs) (IsAtMostOne (Step actor)) (Works actor rs) x y
-        (elim y.kind as (λ _. Works actor rs (x.more ++ y.more)) [
-          | inl none ↦ subst (λ l. Works actor rs (x.more ++ l)) (sym none) (subst (λ l. Works actor rs l) (sym (append-nil x.more)) x.kind)
-          | inr one ↦ step_works y.more one
-        ])
-
-pub call_on : (a : ℕ) (t : Task) (note : Note) (before one more : List Record) → (IsTurnedAway note → ⊥) → IsOne (Begin a t) note one → Finishes a (before ++ one) more → Calls a t before (one ++ more)
-call_on a t note before one more kept o f = record {
-  first = o.told;
-  more = more;
-  all = ap (λ l. l ++ more) o.all;
-  begins = o.event;
-  away = λ away. absurd (kept (subst IsTurnedAway o.note_is away));
-  on = λ _. subst (λ l. Finishes a (before ++ l) more) o.all f;
+-- the first event of a line went on, and then what was left of it
+pub left_next : (t : Bool) (m n q : Parts) (a b c : Option (List ℕ)) (w v u : List ℕ) (l : Line) (k : Work) (left : Option Work) → Runs t m n a b w v (IsLeft l (Some k)) → Runs t n q b c v u (IsLeft (steps_line k) left) → Runs t m q a c w u (IsLeft l left)
+left_next t m n q a b c w v u l k left x y = record {
+  goes_on = continues_then m n q x.goes_on y.goes_on;
+  ran = λ o rs at.
+      let first = x.ran o rs at in
+      let next = y.ran o (rs ++ first.more) first.at in
+      ran_then o t rs n q a b c w v u (IsLeft l (Some k) rs) (IsLeft (steps_line k) left (rs ++ first.more)) (IsLeft l left rs) first next (left_then l k left rs first.more next.more first.kind next.kind);
 }
 
-pub call_part : (a : ℕ) (t : Task) (note : Note) (before one more : List Record) → IsOne (Begin a t) note one → Works a (before ++ one) more → BeginsCall a t before (one ++ more)
-call_part a t note before one more o f = inr (o.told, more, ap (λ l. l ++ more) o.all, o.event, subst (λ l. Works a (before ++ l) more) o.all f)
+pub left_stop : (t : Bool) (stop : Stop) (m n : Parts) (a b c : Option (List ℕ)) (w v : List ℕ) (l : Line) (k : Work) → Runs t m n a b w v (IsLeft l (Some k)) → Stops t n stop b c v (IsPartOrAll (steps_line k)) → Stops t m stop a c w (IsPartOrAll l)
+left_stop t stop m n a b c w v l k x y o rs at =
+    let first = x.ran o rs at in
+    let next = y o (rs ++ first.more) first.at in
+    fails_then o t rs stop n a b c w v (IsLeft l (Some k) rs) (IsPartOrAll (steps_line k) (rs ++ first.more)) (IsPartOrAll l rs) first next (part_then l k rs first.more next.more first.kind next.kind)
 
 pub covers_push : (ls : List Line) (l : Line) (before xs ys : List Record) → Covers ls before xs → Stands l (before ++ xs) ys → Covers (ls ++ l ∷ []) before (xs ++ ys)
 covers_push [] l before xs ys h k = (ys, [], ap (λ z. z ++ ys) h ∙ sym (append-nil ys), subst (λ z. Stands l z ys) (ap (λ z. before ++ z) h ∙ append-nil before) k, refl)
@@ -115,6 +59,16 @@ heard_line text texts todo l (inr (first, rest, is1, e, heard)) is = (rest, e �
 pub heard_none : (text : List ℕ) (texts : List (List ℕ)) (todo : List Line) → Heard (text ∷ texts) todo → IsNoLine text → Heard texts todo
 heard_none text texts todo (inl (no1, heard)) none = heard
 heard_none text texts todo (inr (first, rest, is, e, heard)) none = absurd (not_both text first none is)
+
+-- what a text says was run where its line was
+pub said_runs : (t : Bool) (m n : Parts) (a b : Option (List ℕ)) (w v : List ℕ) (text : List ℕ) (l : Line) → IsLineOf text l → Runs t m n a b w v (Stands l) → Runs t m n a b w v (IsSaidBy text)
+said_runs t m n a b w v text l is x = record {
+  goes_on = x.goes_on;
+  ran = λ o rs at. let y = x.ran o rs at in record { more = y.more; kind = inr (l, is, y.kind); at = y.at; says = y.says };
+}
+
+pub said_stops : (t : Bool) (stop : Stop) (m : Parts) (a b : Option (List ℕ)) (w : List ℕ) (text : List ℕ) (l : Line) → IsLineOf text l → Stops t m stop a b w (IsPartOrAll l) → Stops t m stop a b w (IsPartOfSaid text)
+said_stops t stop m a b w text l is x o rs at = let y = x o rs at in record { more = y.more; kind = inr (l, is, y.kind); lawful = y.lawful; puts = y.puts }
 
 begun_nothing : (ls : List Line) (before : List Record) → IsBegun ls before []
 begun_nothing [] before = refl

@@ -20,13 +20,14 @@ use Rattle.clover_sched.specs.Lines.{Works, Calls, IsTurnedAway, Stands, Covers}
 use Rattle.clover_sched.specs.Machine.{Parts, asks, asked, MayCome, IsAt}
 use Rattle.clover_sched.specs.Record.{Record}
 use Rattle.clover_sched.specs.Run.{Opening}
+use Rattle.clover_sched.specs.Running.{MayRun}
 use Rattle.clover_sched.specs.declared.client.ClientState.{ClientState}
 use Rattle.clover_sched.specs.declared.event.Event.{Event}
 use Rattle.clover_sched.specs.declared.event.Event.TheVariants.{Begin, Step, Refuse}
 use Rattle.clover_sched.specs.declared.event.Note.{Note}
 use Rattle.clover_sched.specs.declared.event.Note.TheVariants.{Quiet, Answered, Refused, Busy, Missing}
 use Rattle.clover_sched.proofs.Runs.{along_append}
-use Rattle.clover_main.specs.Hearing.{task_takes, owed_by, owed, IsNamed, HasSlot, Serves, IsReady, MayRun}
+use Rattle.clover_main.specs.Hearing.{task_takes, owed_by, owed, IsNamed, HasSlot, Serves, IsReady}
 use Rattle.clover_main.specs.Running.{Continues, Reaches}
 use Rattle.clover_main.proofs.Loops.{heard_line}
 

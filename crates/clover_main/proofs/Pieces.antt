@@ -1,19 +1,20 @@
 -- pieces of output, one behind the other
-use Rattle.std.proofs.Common.{◌≡◌, inr, ℕ, Bool, true, List, [], ◌∷◌, ◌++◌, length, flat_map, Option, Some, None, refl, ap, subst, sym, ◌∙◌, append-nil, append_assoc}
+use Rattle.std.proofs.Common.{◌≡◌, ℕ, Bool, true, false, List, [], ◌∷◌, ◌++◌, length, flat_map, Option, Some, None, refl, ap, subst, sym, ◌∙◌, append-nil, append_assoc}
 use Rattle.std.proofs.KnownBytes.{Appends-nil, Appends-trans}
 use Rattle.std.specs.Io.KnownBytes.{Appends}
-use Rattle.std.specs.Prelude.{slice_get}
+use Rattle.std.specs.Prelude.{All, slice_get}
+use Rattle.std.proofs.lemmas.List.Elements.{All-head, All-tail}
 use Rattle.clover_rule.specs.declared.access.Access.{Access}
 use Rattle.clover_sched.specs.Folds.{listed, accesses_in}
 use Rattle.clover_sched.specs.Machine.{Parts, IsAt}
 use Rattle.clover_sched.specs.Record.{Record}
-use Rattle.clover_sched.specs.Run.{Opening}
-use Rattle.clover_sched.specs.Text.{said, traced}
-use Rattle.clover_sched.specs.declared.event.Event.{Event}
+use Rattle.clover_sched.specs.Run.{Opening, Still}
+use Rattle.clover_sched.specs.Text.{said, traced, note_line}
 use Rattle.clover_sched.specs.declared.event.Note.{Note}
+use Rattle.clover_sched.specs.declared.event.Note.TheVariants.{Quiet}
 use Rattle.clover_main.specs.Causes.{AppendsFront}
 use Rattle.clover_main.specs.Performing.{IsLawful}
-use Rattle.clover_main.specs.Running.{Says, Puts, PutsEnding, Ran, Fails, IsOne, IsAtMostOne}
+use Rattle.clover_main.specs.Running.{Says, Puts, PutsEnding, Ran, Fails}
 use Rattle.clover_main.specs.declared.output.Stop.{Stop}
 use Rattle.clover_main.specs.declared.output.Stop.TheVariants.{Memory, Write}
 use Rattle.clover_main.proofs.Following.{lawful_at}
@@ -77,7 +78,22 @@ puts_end Write a b w end put = front_of_first a b w end put
 pub puts_nothing : (stop : Stop) (a b : Option (List ℕ)) (w : List ℕ) → Puts stop a b w → Puts stop a b (w ++ [])
 puts_nothing stop a b w put = subst (λ l. Puts stop a b l) (sym (append-nil w)) put
 
+-- records without an access and a line print nothing
+traced_none : (t : Bool) → traced t None ≡ []
+traced_none true = refl
+traced_none false = refl
+
+still_said : (t : Bool) (more : List Record) → All (λ (r : Record). Still r Quiet) more → flat_map (said t) more ≡ []
+still_said t [] all = refl
+still_said t (r ∷ rs) all =
+    let still : Still r Quiet = All-head (λ (x : Record). Still x Quiet) r rs all in
+    let line : said t r ≡ [] = ap (λ (x : Option Access). traced t x ++ note_line r.note) still.0 ∙ ap (λ (n : Note). traced t None ++ note_line n) still.2 ∙ append-nil (traced t None) ∙ traced_none t in
+    ap (λ l. l ++ flat_map (said t) rs) line ∙ still_said t rs (All-tail (λ (x : Record). Still x Quiet) r rs all)
+
 module _ (o : Opening) (t : Bool) (rs : List Record) where
+  said_one : (more : List Record) (r : Record) → more ≡ r ∷ [] → flat_map (said t) more ≡ said t r
+  said_one more r one = ap (flat_map (said t)) one ∙ append-nil (said t r)
+
   pub ran_nothing : (m : Parts) (a : Option (List ℕ)) (w : List ℕ) (Is : List Record → Type 0) → IsAt o m rs → Is [] → Ran o t rs m a a w w Is
   ran_nothing m a w Is at k = record { more = []; kind = k; at = subst (λ l. IsAt o m l) (sym (append-nil rs)) at; says = record { piece = []; put = Appends-nil a; all = append-nil w } }
 
@@ -100,28 +116,36 @@ module _ (o : Opening) (t : Bool) (rs : List Record) where
   }
 
   -- nothing happened
-  pub fails_none : (stop : Stop) (m : Parts) (a b : Option (List ℕ)) (w : List ℕ) (Is : List Record → Type 0) → IsAt o m rs → Is [] → Puts stop a b w → Fails o t rs stop a b w Is
-  fails_none stop m a b w Is at k put = record { more = []; kind = k; lawful = subst (λ l. IsLawful o l) (sym (append-nil rs)) (lawful_at o m rs at); puts = puts_nothing stop a b w put }
+  pub fails_none : (stop : Stop) (a b : Option (List ℕ)) (w : List ℕ) (Is : List Record → Type 0) → IsLawful o rs → Is [] → Puts stop a b w → Fails o t rs stop a b w Is
+  fails_none stop a b w Is lawful k put = record { more = []; kind = k; lawful = subst (λ l. IsLawful o l) (sym (append-nil rs)) lawful; puts = puts_nothing stop a b w put }
 
   -- an event happened, and what it prints joined what waits and went on
-  pub ran_one : (m : Parts) (a b : Option (List ℕ)) (w v u : List ℕ) (e : Event) (note : Note) (r : Record) → r.event ≡ e → r.note ≡ note → IsAt o m (rs ++ r ∷ []) → v ≡ w ++ said t r → Says a b v u []
-      → Ran o t rs m a b w u (IsOne e note)
-  ran_one m a b w v u e note r is k at grown s = record {
-    more = r ∷ [];
-    kind = record { told = r; all = refl; event = is; note_is = k };
+  pub ran_event : (m : Parts) (a b : Option (List ℕ)) (w v u : List ℕ) (Is : List Record → Type 0) (more : List Record) (r : Record) → more ≡ r ∷ [] → Is more → IsAt o m (rs ++ more) → v ≡ w ++ said t r → Says a b v u [] → Ran o t rs m a b w u Is
+  ran_event m a b w v u Is more r one k at grown s = record {
+    more = more;
+    kind = k;
     at = at;
     says = record {
       piece = s.piece;
       put = s.put;
-      all = ap (λ l. w ++ l) (append-nil (said t r)) ∙ sym grown ∙ sym (append-nil v) ∙ s.all;
+      all = ap (λ l. w ++ l) (said_one more r one) ∙ sym grown ∙ sym (append-nil v) ∙ s.all;
     };
   }
 
-  pub fails_one : (stop : Stop) (m : Parts) (a b : Option (List ℕ)) (w v : List ℕ) (e : Event) (r : Record) → stop ≡ Write → r.event ≡ e → IsAt o m (rs ++ r ∷ []) → v ≡ w ++ said t r → AppendsFront a b v
-      → Fails o t rs stop a b w (IsAtMostOne e)
-  fails_one stop m a b w v e r why is at grown f = record {
-    more = r ∷ [];
-    kind = inr (r, refl, is);
-    lawful = lawful_at o m (rs ++ r ∷ []) at;
-    puts = subst (λ (s : Stop). Puts s a b (w ++ flat_map (said t) (r ∷ []))) (sym why) (subst (λ l. AppendsFront a b l) (grown ∙ ap (λ l. w ++ l) (sym (append-nil (said t r)))) f);
+  pub fails_event : (stop : Stop) (m : Parts) (a b : Option (List ℕ)) (w v : List ℕ) (Is : List Record → Type 0) (more : List Record) (r : Record) → stop ≡ Write → more ≡ r ∷ [] → Is more → IsAt o m (rs ++ more) → v ≡ w ++ said t r → AppendsFront a b v
+      → Fails o t rs stop a b w Is
+  fails_event stop m a b w v Is more r why one k at grown f = record {
+    more = more;
+    kind = k;
+    lawful = lawful_at o m (rs ++ more) at;
+    puts = subst (λ (s : Stop). Puts s a b (w ++ flat_map (said t) more)) (sym why) (subst (λ l. AppendsFront a b l) (grown ∙ ap (λ l. w ++ l) (sym (said_one more r one))) f);
+  }
+
+  -- nothing that happened prints anything
+  pub ran_silent : (m : Parts) (a : Option (List ℕ)) (w : List ℕ) (Is : List Record → Type 0) (more : List Record) → Is more → IsAt o m (rs ++ more) → All (λ (r : Record). Still r Quiet) more → Ran o t rs m a a w w Is
+  ran_silent m a w Is more k at still = record {
+    more = more;
+    kind = k;
+    at = at;
+    says = record { piece = []; put = Appends-nil a; all = ap (λ l. w ++ l) (still_said t more still) ∙ append-nil w };
   }

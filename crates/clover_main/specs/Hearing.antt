@@ -11,9 +11,8 @@ use Rattle.clover_script.specs.declared.line.Task.{Task}
 use Rattle.clover_script.specs.declared.line.Task.TheVariants.{Client}
 use Rattle.clover_rule.specs.Lists.{Each}
 use Rattle.clover_sched.specs.Client.{IsTask}
-use Rattle.clover_sched.specs.Machine.{Parts, MayCome, IsAt}
+use Rattle.clover_sched.specs.Machine.{Parts, IsAt}
 use Rattle.clover_sched.specs.Run.{Opening}
-use Rattle.clover_sched.specs.declared.event.Event.TheVariants.{Begin, Step, Refuse}
 
 -- the texts say these lines, where those that are no line of a client are passed over
 abbrev pub Heard : List (List ℕ) → List Line → Type 0
@@ -60,11 +59,3 @@ pub record IsReady (m : Parts) (lines : List Line) : Type 0 where
   pub opening : Opening
   pub at : IsAt opening m []
   pub serves : Serves m.setup m.names lines
-
--- the first event of the line may come
-abbrev pub MayRun : Parts → Line → Type 0
-MayRun m (line.Begin a t) = MayCome m (Begin a t)
-MayRun m (line.Step a n) = MayCome m (Step a)
-MayRun m (line.Finish a) = MayCome m (Step a)
-MayRun m (line.Call a t) = MayCome m (Begin a t)
-MayRun m (line.Refuse a) = MayCome m (Refuse a)

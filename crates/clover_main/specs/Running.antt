@@ -1,5 +1,6 @@
 -- output that goes to a sink in pieces, and what a part of a script made and said
-use Rattle.std.specs.Prelude.{◌≡◌, ◌≤◌, ◌⊎◌, ℕ, Bool, List, [], ◌∷◌, ◌++◌, length, flat_map, Option, All}
+use Prim.Native.Nat.{suc}
+use Rattle.std.specs.Prelude.{◌≡◌, ◌⊎◌, ℕ, Bool, List, [], ◌++◌, flat_map, Option, Some, None}
 use Rattle.std.specs.Io.KnownBytes.{Appends}
 use Rattle.clover_script.specs.Line.{IsLineOf, IsNoLine}
 use Rattle.clover_script.specs.declared.line.Line.{Line}
@@ -8,10 +9,9 @@ use Rattle.clover_sched.specs.Machine.{Parts, IsAt}
 use Rattle.clover_sched.specs.Record.{Record}
 use Rattle.clover_sched.specs.Run.{Opening}
 use Rattle.clover_sched.specs.Text.{said}
-use Rattle.clover_sched.specs.declared.event.Event.{Event}
-use Rattle.clover_sched.specs.declared.event.Event.TheVariants.{Step}
-use Rattle.clover_sched.specs.declared.event.Note.{Note}
-use Rattle.clover_main.specs.Beginnings.{IsPartOrAll}
+use Rattle.clover_sched.specs.declared.runner.Advance.{Advance}
+use Rattle.clover_sched.specs.declared.runner.Work.{Work}
+use Rattle.clover_sched.specs.Running.{IsPartOrAll, steps_left}
 use Rattle.clover_main.specs.Causes.{AppendsFront}
 use Rattle.clover_main.specs.Hearing.{Heard}
 use Rattle.clover_main.specs.Performing.{IsLawful}
@@ -54,27 +54,24 @@ pub record Continues (m n : Parts) : Type 0 where
   pub names : n.names ≡ m.names
   pub traced : n.pool.traced ≡ m.pool.traced
 
--- one record, of this event and note
-pub record IsOne (e : Event) (note : Note) (more : List Record) : Type 0 where
-  pub told : Record
-  pub all : more ≡ told ∷ []
-  pub event : told.event ≡ e
-  pub note_is : told.note ≡ note
+-- The machine went on so: behind any records behind which it stood more were made, which with those before are of this kind, and what they print was said.
+pub record Runs (t : Bool) (m n : Parts) (taken now : Option (List ℕ)) (wait waits : List ℕ) (Is : List Record → List Record → Type 0) : Type 0 where
+  pub goes_on : Continues m n
+  pub ran : (o : Opening) (rs : List Record) → IsAt o m rs → Ran o t rs n taken now wait waits (Is rs)
 
--- one record, of this event
-abbrev pub IsOnly : Event → List Record → Type 0
-IsOnly e more = (r : Record) × (more ≡ r ∷ []) × (r.event ≡ e)
+-- the machine stopped so, behind any records behind which it stood
+abbrev pub Stops : Bool → Parts → Stop → Option (List ℕ) → Option (List ℕ) → List ℕ → (List Record → List Record → Type 0) → Type 0
+Stops t m stop taken now wait Is = (o : Opening) (rs : List Record) → IsAt o m rs → Fails o t rs stop taken now wait (Is rs)
 
--- at most one record, of this event
-abbrev pub IsAtMostOne : Event → List Record → Type 0
-IsAtMostOne e more = (more ≡ []) ⊎ IsOnly e more
+-- the steps that an event left, if there was one
+abbrev pub left_of : Option Advance → Option Work
+left_of None = None
+left_of (Some x) = Some x.left
 
--- so many steps of the actor
-abbrev pub AreSteps : ℕ → ℕ → List Record → Type 0
-AreSteps a n rs = All (λ (r : Record). r.event ≡ Step a) rs × (length rs ≡ n)
-
-abbrev pub AreSomeSteps : ℕ → ℕ → List Record → Type 0
-AreSomeSteps a n rs = All (λ (r : Record). r.event ≡ Step a) rs × (length rs ≤ n)
+-- more than the steps that may still be made, or nothing
+abbrev pub most_steps : Parts → Option Work → ℕ
+most_steps m None = 0
+most_steps m (Some w) = suc (steps_left m w)
 
 -- a text that is no line of a client stands for no records, and one that is for those of its line
 abbrev pub IsSaidBy : List ℕ → List Record → List Record → Type 0

@@ -44,8 +44,6 @@ pub fn put_both<K: Sink>(sink: &mut K, first: &[u8], second: &[u8]) -> Result<()
     ensures err { OnErr result (AppendsFront (K.taken sink.old) (K.taken sink.new) (first.now ++ second.now)) }
     ensures cause { HasCause (K.faults sink.old) (K.faults sink.new) result }
 {
-    match sink.put(first) {
-        Ok(()) => sink.put(second),
-        Err(failed) => Err(failed),
-    }
+    sink.put(first)?;
+    sink.put(second)
 }

@@ -6,8 +6,7 @@ ghost use Rattle.clover_main.specs.Causes.{HasCause, AppendsFront};
 ghost use Rattle.clover_main.specs.Memory.{raised};
 
 use crate::io::{Failed, Sink, Source};
-use clover_list::ItemList;
-use clover_list::OutOfMemory;
+use clover_list::{ItemList, OutOfMemory};
 use clover_script::Bulk;
 use std::alloc::Global;
 use std::marker::Model;

@@ -9,7 +9,8 @@ ghost use Rattle.clover_sched.specs.Text.{said, traced, ending};
 ghost use Rattle.clover_main.specs.Causes.{AppendsFront, Rose};
 ghost use Rattle.clover_main.specs.Running.{Says, Puts, PutsEnding};
 
-use crate::io::{Sink, put_both};
+use crate::io::{Failed, Sink, put_both};
+use clover_list::OutOfMemory;
 use clover_rule::Access;
 use clover_sched::{Machine, Note, push_access, push_ending, push_note};
 use std::alloc::{AllocError, Global};
@@ -24,6 +25,28 @@ pub enum Stop {
     Memory,
     /// A write failed.
     Write,
+}
+
+impl From<Failed> for Stop {
+    ghost use Rattle.std.specs.Prelude.{◌≡◌};
+    ghost use Rattle.clover_main.specs.declared.output.Stop.TheVariants.{Write};
+
+    ghost from_gives = { λ _ stop. stop ≡ Write };
+
+    fn from(_: Failed) -> Self {
+        Stop::Write
+    }
+}
+
+impl From<OutOfMemory> for Stop {
+    ghost use Rattle.std.specs.Prelude.{◌≡◌};
+    ghost use Rattle.clover_main.specs.declared.output.Stop.TheVariants.{Memory};
+
+    ghost from_gives = { λ _ stop. stop ≡ Memory };
+
+    fn from(_: OutOfMemory) -> Self {
+        Stop::Memory
+    }
 }
 
 /// What waits to be put, and what the last event prints, built before it joins what waits.
@@ -77,13 +100,9 @@ impl Output {
         if self.waiting.len() < PIECE {
             return Ok(());
         }
-        match sink.put(&self.waiting) {
-            Ok(()) => {
-                self.waiting.clear();
-                Ok(())
-            }
-            Err(_) => Err(Stop::Write),
-        }
+        sink.put(&self.waiting)?;
+        self.waiting.clear();
+        Ok(())
     }
 
     /// Puts all that waits, for want of memory.
@@ -108,10 +127,7 @@ impl Output {
     {
         self.piece.clear();
         match push_ending(&mut self.piece, machine.history(), machine.made()) {
-            Ok(()) => match put_both(sink, &self.waiting, &self.piece) {
-                Ok(()) => Ok(()),
-                Err(_) => Err(Stop::Write),
-            },
+            Ok(()) => Ok(put_both(sink, &self.waiting, &self.piece)?),
             Err(_) => Err(self.give_up(sink)),
         }
     }

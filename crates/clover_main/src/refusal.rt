@@ -63,8 +63,6 @@ fn put_bad_line<K: Sink>(sink: &mut K, number: u64) -> Result<(), Failed>
     ensures cause { HasCause (K.faults sink.old) (K.faults sink.new) result }
 {
     let mut buffer = Buffer::new();
-    match put_both(sink, b"error badline ", buffer.format(number).as_bytes()) {
-        Ok(()) => sink.put(b" unbuilt\n"),
-        Err(failed) => Err(failed),
-    }
+    put_both(sink, b"error badline ", buffer.format(number).as_bytes())?;
+    sink.put(b" unbuilt\n")
 }

@@ -103,17 +103,8 @@ fn run_script<K: Sink>(
     ensures later { K.faults sink.old ≤ K.faults sink.new }
 {
     let Outline { setup, names } = outline;
-    let mut machine = match Machine::make(alloc, setup, names, trace) {
-        Ok(machine) => machine,
-        Err(_) => return Err(Stop::Memory),
-    };
+    let mut machine = Machine::make(alloc, setup, names, trace)?;
     let mut out = Output::new(alloc);
-    match run_lines(alloc, &mut machine, text, &mut out, sink, trace) {
-        Ok(()) => {}
-        Err(stop) => return Err(stop),
-    }
-    match out.close(&machine, sink) {
-        Ok(()) => Ok(()),
-        Err(stop) => Err(stop),
-    }
+    run_lines(alloc, &mut machine, text, &mut out, sink, trace)?;
+    out.close(&machine, sink)
 }

@@ -1,174 +1,103 @@
-// Running the lines of a script. Nothing is kept of a line, and what it prints goes to the sink in pieces.
-ghost use Rattle.std.specs.Prelude.{◌≡◌, ◌↔◌, ◌≤◌, ◌<◌, ◌++◌, ℕ, List, [], length, IsTrue, OnOk, OnErr, IfOk, IfErr, IsErrOf};
+// Running the lines of a script: each is read, run over the machine one event at a time, and what its events print
+// goes to the sink in pieces. Nothing is kept of a line.
+ghost use Rattle.std.specs.Prelude.{◌≡◌, ◌≤◌, ◌<◌, ◌++◌, ℕ, List, [], length, true, OnOk, IfOk, IfErr, IfSome, IsErrOf};
 ghost use Rattle.clover_script.specs.Line.{lines_of, IsLineOf};
 ghost use Rattle.clover_script.specs.declared.line.Line.{Line as LineData};
-ghost use Rattle.clover_sched.specs.Lines.{Works, Finishes, Calls, Stands, Covers, IsTurnedAway};
-ghost use Rattle.clover_sched.specs.Machine.{IsAt, MayCome, IsBusy, left};
+ghost use Rattle.clover_sched.specs.Folds.{accesses_in};
+ghost use Rattle.clover_sched.specs.Lines.{Stands, Covers};
+ghost use Rattle.clover_sched.specs.Machine.{IsAt};
 ghost use Rattle.clover_sched.specs.Record.{Record};
 ghost use Rattle.clover_sched.specs.Run.{Opening};
-ghost use Rattle.clover_sched.specs.declared.event.Event.TheVariants.{Begin as BeginOf, Step as StepOf};
-ghost use Rattle.clover_main.specs.Beginnings.{BeginsCall, IsPartOrAll, Opens};
+ghost use Rattle.clover_sched.specs.Running.{Comes, IsLeft, IsPartOrAll, MayRun, actor_in, steps_line};
+ghost use Rattle.clover_main.specs.Beginnings.{Opens};
 ghost use Rattle.clover_main.specs.Causes.{Rose};
-ghost use Rattle.clover_main.specs.Hearing.{Heard, IsReady, MayRun};
-ghost use Rattle.clover_main.specs.Running.{Puts, Ran, Fails, Continues, IsOne, IsOnly, IsAtMostOne, AreSteps, AreSomeSteps, IsSaidBy, IsPartOfSaid};
+ghost use Rattle.clover_main.specs.Hearing.{Heard, IsReady};
+ghost use Rattle.clover_main.specs.Performing.{IsLawful};
+ghost use Rattle.clover_main.specs.Running.{Ran, Runs, Fails, Stops, left_of, most_steps, IsSaidBy, IsPartOfSaid};
 
 use crate::io::Sink;
 use crate::output::{Output, Stop};
-use clover_sched::{Event, Machine, Note};
-use clover_script::{Line, Task, first_line, line_of};
+use clover_sched::{Advance, Machine, Work, begin_line, work_on};
+use clover_script::{Line, first_line, line_of};
 use std::alloc::Global;
 
-/// One event.
-fn one<K: Sink>(
-    machine: &mut Machine,
-    event: Event,
+/// Puts out what the last event printed, with a trace the access behind those that were listed before it, and
+/// answers what is left of the event's line.
+fn tell<K: Sink>(
+    machine: &Machine,
+    listed: usize,
+    came: Option<Advance>,
     out: &mut Output,
     sink: &mut K,
     trace: bool,
-) -> Result<Note, Stop>
-    requires may { MayCome machine.old event }
-    requires traced { machine.old.pool.traced ≡ trace }
-    ensures ok { IfOk result (λ note. (o : Opening) (rs : List Record) → IsAt o machine.old rs → Ran o trace rs machine.new (K.taken sink.old) (K.taken sink.new) out.old.waiting.items out.new.waiting.items (IsOne event note)) }
-    ensures goes_on { OnOk result (Continues machine.old machine.new) }
-    ensures less { OnOk result ((a : ℕ) → event ≡ StepOf a → IsBusy machine.old a → left machine.new a < left machine.old a) }
-    ensures err { IfErr result (λ stop. (o : Opening) (rs : List Record) → IsAt o machine.old rs → Fails o trace rs stop (K.taken sink.old) (K.taken sink.new) out.old.waiting.items (IsAtMostOne event)) }
+) -> Result<Option<Work>, Stop>
+    requires traced { machine.now.pool.traced ≡ trace }
+    ensures ok { IfOk result (λ left. (o : Opening) (rs more : List Record) (line : LineData) → IsAt o machine.now (rs ++ more) → Comes line came rs more → (trace ≡ true → listed ≡ length (accesses_in rs))
+        → Ran o trace rs machine.now (K.taken sink.old) (K.taken sink.new) out.old.waiting.items out.new.waiting.items (IsLeft line left rs)) }
+    ensures left { IfOk result (λ left. left ≡ left_of came) }
+    ensures err { IfErr result (λ stop. (o : Opening) (rs more : List Record) (line : LineData) → IsLawful o rs → IsAt o machine.now (rs ++ more) → Comes line came rs more → (trace ≡ true → listed ≡ length (accesses_in rs))
+        → Fails o trace rs stop (K.taken sink.old) (K.taken sink.new) out.old.waiting.items (IsPartOrAll line rs)) }
     ensures write { IsErrOf result Stop.Write → Rose (K.faults sink.old) (K.faults sink.new) }
     ensures quiet { OnOk result (K.faults sink.new ≡ K.faults sink.old) }
     ensures later { K.faults sink.old ≤ K.faults sink.new }
 {
-    let listed = machine.accesses().len();
-    let note = match machine.event(event) {
-        Ok(note) => note,
-        Err(_) => return Err(out.give_up(sink)),
+    let Some(Advance { note, left }) = came else {
+        return Ok(None);
     };
     match out.say(machine, listed, &note, trace) {
         Ok(()) => {}
         Err(_) => return Err(out.give_up(sink)),
     }
-    match out.put_much(sink) {
-        Ok(()) => Ok(note),
-        Err(stop) => Err(stop),
-    }
+    out.put_much(sink)?;
+    Ok(Some(left))
 }
 
-/// The next step of the actor.
-fn step<K: Sink>(
+/// The first event of a line. Answers what is left of it.
+fn begin<K: Sink>(
     machine: &mut Machine,
-    actor: u32,
+    line: Line,
     out: &mut Output,
     sink: &mut K,
     trace: bool,
-) -> Result<(), Stop>
-    requires actor { 1 ≤ actor }
+) -> Result<Option<Work>, Stop>
+    requires may { MayRun machine.old line }
     requires traced { machine.old.pool.traced ≡ trace }
-    ensures ok { OnOk result ((o : Opening) (rs : List Record) → IsAt o machine.old rs → Ran o trace rs machine.new (K.taken sink.old) (K.taken sink.new) out.old.waiting.items out.new.waiting.items (IsOnly (StepOf actor))) }
-    ensures goes_on { OnOk result (Continues machine.old machine.new) }
-    ensures less { OnOk result (IsBusy machine.old actor → left machine.new actor < left machine.old actor) }
-    ensures err { IfErr result (λ stop. (o : Opening) (rs : List Record) → IsAt o machine.old rs → Fails o trace rs stop (K.taken sink.old) (K.taken sink.new) out.old.waiting.items (IsAtMostOne (StepOf actor))) }
+    ensures ok { IfOk result (λ left. Runs trace machine.old machine.new (K.taken sink.old) (K.taken sink.new) out.old.waiting.items out.new.waiting.items (IsLeft line left)) }
+    ensures actor { IfOk result (λ left. IfSome left (λ work. 1 ≤ actor_in work)) }
+    ensures err { IfErr result (λ stop. Stops trace machine.old stop (K.taken sink.old) (K.taken sink.new) out.old.waiting.items (IsPartOrAll line)) }
     ensures write { IsErrOf result Stop.Write → Rose (K.faults sink.old) (K.faults sink.new) }
     ensures quiet { OnOk result (K.faults sink.new ≡ K.faults sink.old) }
     ensures later { K.faults sink.old ≤ K.faults sink.new }
 {
-    match one(machine, Event::Step { actor }, out, sink, trace) {
-        Ok(_) => Ok(()),
-        Err(stop) => Err(stop),
+    let listed = machine.accesses().len();
+    match begin_line(machine, line) {
+        Ok(came) => tell(machine, listed, came, out, sink, trace),
+        Err(_) => Err(out.give_up(sink)),
     }
 }
 
-/// As many steps of the actor.
-fn steps<K: Sink>(
+/// The next of the steps that are left of a line. Answers what is left behind it.
+fn go_on<K: Sink>(
     machine: &mut Machine,
-    actor: u32,
-    times: u64,
+    work: Work,
     out: &mut Output,
     sink: &mut K,
     trace: bool,
-) -> Result<(), Stop>
-    requires actor { 1 ≤ actor }
+) -> Result<Option<Work>, Stop>
+    requires actor { 1 ≤ actor_in work }
     requires traced { machine.old.pool.traced ≡ trace }
-    ensures ok { OnOk result ((o : Opening) (rs : List Record) → IsAt o machine.old rs → Ran o trace rs machine.new (K.taken sink.old) (K.taken sink.new) out.old.waiting.items out.new.waiting.items (AreSteps actor times)) }
-    ensures goes_on { OnOk result (Continues machine.old machine.new) }
-    ensures err { IfErr result (λ stop. (o : Opening) (rs : List Record) → IsAt o machine.old rs → Fails o trace rs stop (K.taken sink.old) (K.taken sink.new) out.old.waiting.items (AreSomeSteps actor times)) }
+    ensures ok { IfOk result (λ left. Runs trace machine.old machine.new (K.taken sink.old) (K.taken sink.new) out.old.waiting.items out.new.waiting.items (IsLeft (steps_line work) left)) }
+    ensures actor { IfOk result (λ left. IfSome left (λ work. 1 ≤ actor_in work)) }
+    ensures less { IfOk result (λ left. most_steps machine.new left < most_steps machine.old (Some work)) }
+    ensures err { IfErr result (λ stop. Stops trace machine.old stop (K.taken sink.old) (K.taken sink.new) out.old.waiting.items (IsPartOrAll (steps_line work))) }
     ensures write { IsErrOf result Stop.Write → Rose (K.faults sink.old) (K.faults sink.new) }
     ensures quiet { OnOk result (K.faults sink.new ≡ K.faults sink.old) }
     ensures later { K.faults sink.old ≤ K.faults sink.new }
 {
-    let mut left = times;
-    while left > 0 {
-        match step(machine, actor, out, sink, trace) {
-            Ok(()) => {}
-            Err(stop) => return Err(stop),
-        }
-        left -= 1;
-    }
-    Ok(())
-}
-
-/// Steps of the actor until it has no task.
-fn finish<K: Sink>(
-    machine: &mut Machine,
-    actor: u32,
-    out: &mut Output,
-    sink: &mut K,
-    trace: bool,
-) -> Result<(), Stop>
-    requires actor { 1 ≤ actor }
-    requires traced { machine.old.pool.traced ≡ trace }
-    ensures ok { OnOk result ((o : Opening) (rs : List Record) → IsAt o machine.old rs → Ran o trace rs machine.new (K.taken sink.old) (K.taken sink.new) out.old.waiting.items out.new.waiting.items (Finishes actor rs)) }
-    ensures goes_on { OnOk result (Continues machine.old machine.new) }
-    ensures err { IfErr result (λ stop. (o : Opening) (rs : List Record) → IsAt o machine.old rs → Fails o trace rs stop (K.taken sink.old) (K.taken sink.new) out.old.waiting.items (Works actor rs)) }
-    ensures write { IsErrOf result Stop.Write → Rose (K.faults sink.old) (K.faults sink.new) }
-    ensures quiet { OnOk result (K.faults sink.new ≡ K.faults sink.old) }
-    ensures later { K.faults sink.old ≤ K.faults sink.new }
-{
-    while machine.is_busy(actor) {
-        match step(machine, actor, out, sink, trace) {
-            Ok(()) => {}
-            Err(stop) => return Err(stop),
-        }
-    }
-    Ok(())
-}
-
-fn is_turned_away(note: &Note) -> bool
-    ensures { IsTrue result ↔ IsTurnedAway note.now }
-{
-    match note {
-        Note::Busy { .. } | Note::Missing { .. } => true,
-        _ => false,
-    }
-}
-
-/// A begin, and then steps until there is no task, unless the begin was turned away.
-fn call<K: Sink>(
-    machine: &mut Machine,
-    actor: u32,
-    task: Task,
-    out: &mut Output,
-    sink: &mut K,
-    trace: bool,
-) -> Result<(), Stop>
-    requires actor { 1 ≤ actor }
-    requires may { MayCome machine.old (BeginOf actor task) }
-    requires traced { machine.old.pool.traced ≡ trace }
-    ensures ok { OnOk result ((o : Opening) (rs : List Record) → IsAt o machine.old rs → Ran o trace rs machine.new (K.taken sink.old) (K.taken sink.new) out.old.waiting.items out.new.waiting.items (Calls actor task rs)) }
-    ensures goes_on { OnOk result (Continues machine.old machine.new) }
-    ensures err { IfErr result (λ stop. (o : Opening) (rs : List Record) → IsAt o machine.old rs → Fails o trace rs stop (K.taken sink.old) (K.taken sink.new) out.old.waiting.items (BeginsCall actor task rs)) }
-    ensures write { IsErrOf result Stop.Write → Rose (K.faults sink.old) (K.faults sink.new) }
-    ensures quiet { OnOk result (K.faults sink.new ≡ K.faults sink.old) }
-    ensures later { K.faults sink.old ≤ K.faults sink.new }
-{
-    match one(machine, Event::Begin { actor, task }, out, sink, trace) {
-        Ok(note) => {
-            if is_turned_away(&note) {
-                return Ok(());
-            }
-            match finish(machine, actor, out, sink, trace) {
-                Ok(()) => Ok(()),
-                Err(stop) => Err(stop),
-            }
-        }
-        Err(stop) => Err(stop),
+    let listed = machine.accesses().len();
+    match work_on(machine, work) {
+        Ok(came) => tell(machine, listed, came, out, sink, trace),
+        Err(_) => Err(out.give_up(sink)),
     }
 }
 
@@ -182,39 +111,17 @@ fn run_line<K: Sink>(
 ) -> Result<(), Stop>
     requires may { MayRun machine.old line }
     requires traced { machine.old.pool.traced ≡ trace }
-    ensures ok { OnOk result ((o : Opening) (rs : List Record) → IsAt o machine.old rs → Ran o trace rs machine.new (K.taken sink.old) (K.taken sink.new) out.old.waiting.items out.new.waiting.items (Stands line rs)) }
-    ensures goes_on { OnOk result (Continues machine.old machine.new) }
-    ensures err { IfErr result (λ stop. (o : Opening) (rs : List Record) → IsAt o machine.old rs → Fails o trace rs stop (K.taken sink.old) (K.taken sink.new) out.old.waiting.items (IsPartOrAll line rs)) }
+    ensures ok { OnOk result (Runs trace machine.old machine.new (K.taken sink.old) (K.taken sink.new) out.old.waiting.items out.new.waiting.items (Stands line)) }
+    ensures err { IfErr result (λ stop. Stops trace machine.old stop (K.taken sink.old) (K.taken sink.new) out.old.waiting.items (IsPartOrAll line)) }
     ensures write { IsErrOf result Stop.Write → Rose (K.faults sink.old) (K.faults sink.new) }
     ensures quiet { OnOk result (K.faults sink.new ≡ K.faults sink.old) }
     ensures later { K.faults sink.old ≤ K.faults sink.new }
 {
-    match line {
-        Line::Begin { actor, task } => {
-            match one(machine, Event::Begin { actor, task }, out, sink, trace) {
-                Ok(_) => Ok(()),
-                Err(stop) => Err(stop),
-            }
-        }
-        Line::Step { actor, times } => match steps(machine, actor, times, out, sink, trace) {
-            Ok(()) => Ok(()),
-            Err(stop) => Err(stop),
-        },
-        Line::Finish { actor } => match finish(machine, actor, out, sink, trace) {
-            Ok(()) => Ok(()),
-            Err(stop) => Err(stop),
-        },
-        Line::Call { actor, task } => match call(machine, actor, task, out, sink, trace) {
-            Ok(()) => Ok(()),
-            Err(stop) => Err(stop),
-        },
-        Line::Refuse { actor } => {
-            match one(machine, Event::Refuse { actor }, out, sink, trace) {
-                Ok(_) => Ok(()),
-                Err(stop) => Err(stop),
-            }
-        }
+    let mut left = begin(machine, line, out, sink, trace)?;
+    while let Some(work) = left {
+        left = go_on(machine, work, out, sink, trace)?;
     }
+    Ok(())
 }
 
 /// The events of the line that a text says; none where it says none.
@@ -228,18 +135,14 @@ fn run_said<K: Sink>(
 ) -> Result<(), Stop>
     requires may { (line : LineData) → IsLineOf text.now line → MayRun machine.old line }
     requires traced { machine.old.pool.traced ≡ trace }
-    ensures ok { OnOk result ((o : Opening) (rs : List Record) → IsAt o machine.old rs → Ran o trace rs machine.new (K.taken sink.old) (K.taken sink.new) out.old.waiting.items out.new.waiting.items (IsSaidBy text.now rs)) }
-    ensures goes_on { OnOk result (Continues machine.old machine.new) }
-    ensures err { IfErr result (λ stop. (o : Opening) (rs : List Record) → IsAt o machine.old rs → Fails o trace rs stop (K.taken sink.old) (K.taken sink.new) out.old.waiting.items (IsPartOfSaid text.now rs)) }
+    ensures ok { OnOk result (Runs trace machine.old machine.new (K.taken sink.old) (K.taken sink.new) out.old.waiting.items out.new.waiting.items (IsSaidBy text.now)) }
+    ensures err { IfErr result (λ stop. Stops trace machine.old stop (K.taken sink.old) (K.taken sink.new) out.old.waiting.items (IsPartOfSaid text.now)) }
     ensures write { IsErrOf result Stop.Write → Rose (K.faults sink.old) (K.faults sink.new) }
     ensures quiet { OnOk result (K.faults sink.new ≡ K.faults sink.old) }
     ensures later { K.faults sink.old ≤ K.faults sink.new }
 {
     match line_of(alloc, text) {
-        Ok(Some(line)) => match run_line(machine, line, out, sink, trace) {
-            Ok(()) => Ok(()),
-            Err(stop) => Err(stop),
-        },
+        Ok(Some(line)) => run_line(machine, line, out, sink, trace),
         Ok(None) => Ok(()),
         Err(_) => Err(out.give_up(sink)),
     }
@@ -265,10 +168,7 @@ pub fn run_lines<K: Sink>(
     let mut rest = text;
     while !rest.is_empty() {
         let (line, after) = first_line(rest);
-        match run_said(alloc, machine, line, out, sink, trace) {
-            Ok(()) => {}
-            Err(stop) => return Err(stop),
-        }
+        run_said(alloc, machine, line, out, sink, trace)?;
         rest = after;
     }
     Ok(())

@@ -9,15 +9,19 @@ use Rattle.clover_rule.specs.declared.view.View.{View}
 use Rattle.clover_plain.specs.Plain.{Plain, Stands, first_of, used_of}
 use Rattle.clover_plain.specs.declared.pool.PlainPool.TheInside.{Inside}
 
+-- what the actor of a seat knows
 abbrev pub view_of : Seat (Unit {0}) View → View
 view_of s = s.me.0
 
+-- what the actors of these seats know
 abbrev pub views_of : List (Seat (Unit {0}) View) → List View
 views_of seats = map view_of seats
 
+-- the seats are of this table
 abbrev pub AllFit : TableId → List (Seat (Unit {0}) View) → Type 0
 AllFit z seats = (i : ℕ) (s : Seat (Unit {0}) View) → get_elem? seats i ≡ some s → s.table_id ≡ z
 
+-- what contracts see of a pool with these fields
 abbrev pub meaning : Inside → Plain
 meaning p = record {
   setup = p.setup;
@@ -37,6 +41,7 @@ meaning p = record {
   entry_room = vec_capacity p.entries - vec_len p.entries;
 }
 
+-- what every pool keeps
 pub record IsKept (p : Inside) : Type 0 where
   pub stands : Stands p.opened (meaning p)
   pub sized : length p.words.items ≡ pool_words p.setup.pool

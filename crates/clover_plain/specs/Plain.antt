@@ -1,5 +1,5 @@
 -- What contracts see of a plain pool, and how an access changes it.
-use Rattle.std.specs.Prelude.{◌≡◌, ℕ, ◌+◌, ◌-◌, ◌^◌, ◌≤◌, ◌<◌, ◌&&◌, ◌⊎◌, cond, min, nat_lt, slice_index_or, slice_set, List, [], ◌∷◌, ◌++◌, length, Bool, true, false}
+use Rattle.std.specs.Prelude.{◌≡◌, ℕ, ◌+◌, ◌-◌, ◌^◌, ◌≤◌, ◌<◌, ◌&&◌, ◌⊎◌, min, nat_lt, slice_index_or, slice_set, List, [], ◌∷◌, ◌++◌, length, Bool, true, false, if◌then◌else◌}
 use Prim.Native.Nat.{zero, suc}
 use Rattle.std.specs.FinMap as finite
 use Rattle.atomic_table.specs.Seated.{TableId}
@@ -22,8 +22,14 @@ use Rattle.clover_rule.specs.declared.view.Role.{Role}
 use Rattle.clover_rule.specs.declared.view.Role.TheVariants.{Client as ClientRole, Serving}
 use Rattle.clover_rule.specs.declared.view.View.{View}
 use Rattle.std.specs.Prelude.{Some}
+use Rattle.clover_words.specs.declared.word.Word.{Word}
+use Rattle.clover_words.specs.declared.word.Side.{Side}
+use Rattle.clover_words.specs.declared.word.Side.TheVariants.{Current, Flushed}
 use Rattle.clover_port.specs.Told.{Open}
+use Rattle.clover_port.specs.declared.op.Op.{Op}
+use Rattle.clover_port.specs.declared.op.Op.TheVariants.{Load as ToLoad, Store as ToStore, Exchange as ToExchange, Raise as ToRaise}
 
+-- what contracts see of a plain pool
 pub record Plain : Type 0 where
   pub setup : Setup
   -- the map and the used tags with which the run began
@@ -49,11 +55,12 @@ pub record Plain : Type 0 where
   pub access_room : ℕ
   pub entry_room : ℕ
 
--- the map and the used tags with which the run of these views began; each view has them
+-- the map with which the run of these views began; each view has it
 abbrev pub first_of : List View → Tagged
 first_of [] = finite.empty
 first_of (v ∷ vs) = v.pass.map
 
+-- the used tags with which it began
 abbrev pub used_of : List View → List ℕ
 used_of [] = []
 used_of (v ∷ vs) = v.pass.used
@@ -66,8 +73,23 @@ view_at p i = slice_index_or p.views i nobody
 abbrev pub history : Plain → List Entry
 history p = longest (p.views ++ p.absent)
 
+-- the words and the history of the moment
 abbrev pub open_of : Plain → Open
 open_of p = record { words = p.words; history = history p }
+
+-- the word that an access is on
+abbrev pub op_word : Op → Word
+op_word (ToLoad w) = w
+op_word (ToStore w side y) = w
+op_word (ToExchange w expected new) = w
+op_word (ToRaise w y) = w
+
+-- the copy of the word that an access is on
+abbrev pub op_side : Op → Side
+op_side (ToLoad w) = Current
+op_side (ToStore w side y) = side
+op_side (ToExchange w expected new) = Current
+op_side (ToRaise w y) = Flushed
 
 -- the words after these acts
 abbrev pub after_acts : Pool → List ℕ → List Act → List ℕ
@@ -90,16 +112,19 @@ HasSeat p (Client n) seat = (1 ≤ n) × (n ≤ p.setup.clients) × (suc seat �
 HasSeat p Server seat = (seat ≡ p.setup.clients) × (seat < length p.views)
 HasSeat p Restart seat = ⊥
 
+-- the actor has a seat
 abbrev pub IsActor : Plain → Actor → Type 0
 IsActor p a = (seat : ℕ) × HasSeat p a seat
 
--- the actor of a seat, and the role of what it knows
+-- the actor of a seat
 abbrev pub actor_at : Setup → ℕ → Actor
-actor_at s seat = cond (nat_lt seat s.clients) (Client (suc seat)) Server
+actor_at s seat = if nat_lt seat s.clients then Client (suc seat) else Server
 
+-- the role of what the actor of a seat knows
 abbrev pub role_at : Setup → ℕ → Role
-role_at s seat = cond (nat_lt seat s.clients) (ClientRole (suc seat)) Serving
+role_at s seat = if nat_lt seat s.clients then ClientRole (suc seat) else Serving
 
+-- what this actor knows has its role
 abbrev pub HasRole : Actor → View → Type 0
 HasRole (Client n) v = v.pass.role ≡ ClientRole n
 HasRole Server v = v.pass.role ≡ Serving
@@ -142,13 +167,14 @@ numbers (suc n) = suc n ∷ numbers n
 
 -- what the actor of a seat knows as a run begins from words of 0
 abbrev pub first_view : Setup → ℕ → View
-first_view s seat = record (alone (start_pass s.pool finite.empty [] (role_at s seat))) { server = record no_server { clients = cond (nat_lt seat s.clients) [] (numbers s.clients) } }
+first_view s seat = record (alone (start_pass s.pool finite.empty [] (role_at s seat))) { server = record no_server { clients = if nat_lt seat s.clients then [] else numbers s.clients } }
 
 -- there is room for one access and one entry
 pub record HasRoom (p : Plain) : Type 0 where
   pub access : p.traced ≡ true → 1 ≤ p.access_room
   pub entry : 1 ≤ p.entry_room
 
+-- an access of the actor of a seat, refused or not
 abbrev pub access : Setup → ℕ → Act → Bool → Access
 access s seat a refused = record { actor = actor_at s seat; act = a; refused = refused }
 

@@ -5,12 +5,15 @@ use Rattle.clover_rule.specs.Rule.{longest}
 use Rattle.clover_rule.specs.declared.access.Act.{Act}
 use Rattle.clover_plain.specs.Plain.{Plain, Same, Refused, open_of, view_at}
 
+-- an access leaves the shape of the pool
 pub pool_same : {p q : Plain} → Same p q → q.setup.pool ≡ p.setup.pool
 pool_same s = λ i. (s.setup i).pool
 
+-- a refused access leaves what the actor knows
 pub refused_view : {p q : Plain} {a : Act} (i j : ℕ) → j ≡ i → Refused a i p q → view_at q j ≡ view_at p i
 refused_view {p} {q} i j e r = λ k. view_at (record q { views = r.views k }) (e k)
 
+-- a refused access leaves the words and the history
 pub refused_told : {p q : Plain} {a : Act} (i : ℕ) → Refused a i p q → Some (open_of q) ≡ Some (open_of p)
 refused_told i r = λ k. Some (record { words = r.words k; history = longest (r.views k ++ r.same.absent k) })
 
@@ -20,8 +23,10 @@ Foretold true (Some true) = Unit {0}
 Foretold false (Some false) = Unit {0}
 Foretold b o = ⊥
 
+-- no refusal was foretold where the access was made
 pub not_true : {b : Bool} → b ≡ false → Some b ≡ Some true → ⊥
 not_true {b} e f = subst (λ (z : Bool). Foretold true (Some z)) e (subst (Foretold true) (sym f) tt)
 
+-- an access was not foretold where it was refused
 pub not_false : {b : Bool} → b ≡ true → Some b ≡ Some false → ⊥
 not_false {b} e f = subst (λ (z : Bool). Foretold false (Some z)) e (subst (Foretold false) (sym f) tt)

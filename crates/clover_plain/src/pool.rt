@@ -28,16 +28,27 @@ use std::marker::{Brand, Model};
 #[derive(Drop)]
 pub struct PlainPool {
     setup: Setup,
+    // both copies of each word, by address
     words: Vec<u64>,
+    // what each actor knows, as the meaning of its seat: the clients first, and behind them the server
     seats: Vec<Seat<(), View>>,
+    // the table of these seats
     knowing: Knowing,
+    // the words with which the pool began, and the views that no actor's seat holds, as the meaning of one seat
     begun: Seat<(), Beginning>,
+    // the table of that seat
     beginning: Begun,
+    // the entries of the history that were entered
     entries: Vec<Entry>,
+    // whether accesses are listed
     traced: bool,
+    // the listed accesses
     trace: Vec<Access>,
+    // how many accesses were made and not refused; it stands still at its type's end
     made: u64,
+    // whether the pool runs
     opened: bool,
+    // whether no port made a second access: then the trace, if there is one, lists all
     whole: bool,
 }
 

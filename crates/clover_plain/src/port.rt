@@ -4,7 +4,7 @@ ghost use Rattle.clover_port.specs.Told.{Rose};
 ghost use Rattle.clover_plain.specs.Plain.{Refused};
 
 use crate::pool::PlainPool;
-use clover_port::{Failed, Port};
+use clover_port::{Failed, Op, Port};
 use clover_rule::{Act, StepName};
 use clover_words::{Side, Word};
 
@@ -66,7 +66,7 @@ impl<'a> Port for PlainPort<'a> {
         }
         let list = self.list;
         self.list = false;
-        Ok(self.pool.load::<M>(self.seat, list, word))
+        Ok(self.pool.access::<M>(self.seat, list, Op::Load(word)))
     }
 
     fn store<M: StepName>(&mut self, word: Word, side: Side, value: u64) -> Result<(), Failed> {
@@ -76,7 +76,8 @@ impl<'a> Port for PlainPort<'a> {
         }
         let list = self.list;
         self.list = false;
-        self.pool.store::<M>(self.seat, list, word, side, value);
+        self.pool
+            .access::<M>(self.seat, list, Op::Store { word, side, value });
         Ok(())
     }
 
@@ -98,8 +99,15 @@ impl<'a> Port for PlainPort<'a> {
         let list = self.list;
         self.list = false;
         Ok(
-            self.pool
-                .exchange::<M>(self.seat, list, word, expected, new),
+            self.pool.access::<M>(
+                self.seat,
+                list,
+                Op::Exchange {
+                    word,
+                    expected,
+                    new,
+                },
+            ),
         )
     }
 
@@ -114,7 +122,10 @@ impl<'a> Port for PlainPort<'a> {
         }
         let list = self.list;
         self.list = false;
-        Ok(self.pool.raise::<M>(self.seat, list, word, value))
+        Ok(
+            self.pool
+                .access::<M>(self.seat, list, Op::Raise { word, value }),
+        )
     }
 }
 

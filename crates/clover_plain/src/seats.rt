@@ -81,7 +81,20 @@ pub fn actor_of(setup: &Setup, seat: usize) -> Actor
     }
 }
 
-/// The seat at a place gets the named view. The other arguments are for that name alone.
+// The seat at a place gets the named view.
+fn renew<J: ViewName>(knowing: &Knowing, seats: &mut Vec<Seat<(), View>>, at: usize)
+    requires at { at < length seats.old.items }
+    requires fits { AllFit knowing.now.shared.table_id seats.old.items × (0 < knowing.now.shared.table_id.words) }
+    ensures views { (v : View) → nth (views_of seats.old.items) at ≡ Some v → views_of seats.new.items ≡ slice_set (views_of seats.old.items) at (J.becomes v) }
+    ensures fits { AllFit knowing.now.shared.table_id seats.new.items }
+    ensures length { length seats.new.items ≡ length seats.old.items }
+{
+    let seat = &mut seats[at];
+    knowing.shared.load::<Becomes<J>>(seat, 0);
+}
+
+/// The seat at a place gets the view that a step leaves, named by what the step found. The other arguments are for
+/// that name alone.
 pub fn set_view<J: ViewName>(
     knowing: &Knowing,
     begun: &Seat<(), Beginning>,
@@ -97,8 +110,7 @@ pub fn set_view<J: ViewName>(
 {
     let _ = begun;
     let _ = found;
-    let seat = &mut seats[at];
-    knowing.shared.load::<Becomes<J>>(seat, 0);
+    renew::<J>(knowing, seats, at);
 }
 
 /// The seat at a place gets the view with which its actor begins. The other arguments are for that name alone.
@@ -117,8 +129,7 @@ pub fn deal_view<J: ViewName>(
 {
     let _ = setup.clients;
     let _ = keys.len();
-    let seat = &mut seats[at];
-    knowing.shared.load::<Becomes<J>>(seat, 0);
+    renew::<J>(knowing, seats, at);
 }
 
 /// The seat at a place gets the view that a grant leaves, the server's seat or a client's. The other arguments are
@@ -140,8 +151,7 @@ pub fn hand_view<J: ViewName>(
     let _ = serving;
     let _ = batch.len();
     let _ = names.len();
-    let seat = &mut seats[at];
-    knowing.shared.load::<Becomes<J>>(seat, 0);
+    renew::<J>(knowing, seats, at);
 }
 
 /// Each seat gets what its actor knows as a run begins from words of 0.

@@ -6,6 +6,7 @@ use Rattle.clover_rule.specs.declared.access.Act.TheVariants.{Load, Store, Excha
 use Rattle.clover_port.specs.declared.op.Op.{Op}
 use Rattle.clover_port.specs.declared.op.Op.TheVariants.{Load as ToLoad, Store as ToStore, Exchange as ToExchange, Raise as ToRaise}
 
+-- the act that an access is where it finds this number
 abbrev pub act_by : Op → ℕ → Act
 act_by (ToLoad w) x = Load w x
 act_by (ToStore w side y) x = Store w side y

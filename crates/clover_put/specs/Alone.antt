@@ -1,6 +1,6 @@
 -- A put, delete or swap that runs alone: nobody else changes a word between its accesses, and none of them is refused.
 use Prim.Native.Nat.{suc}
-use Rattle.std.specs.Prelude.{◌≡◌, ◌≢◌, ℕ, ◌+◌, ◌*◌, ◌<◌, ◌≤◌, List, [], ◌∷◌, ◌++◌, length, cond, eqb, Option, Some, None}
+use Rattle.std.specs.Prelude.{◌≡◌, ◌≢◌, ℕ, ◌+◌, ◌*◌, ◌<◌, ◌≤◌, List, [], ◌∷◌, ◌++◌, length, Option, Some, None, if◌then◌else◌, ◌==◌}
 use Rattle.clover_words.specs.declared.pool.Pool.{Pool}
 use Rattle.clover_words.specs.Tag.{tag_number, home}
 use Rattle.clover_map.specs.declared.bytes.Value.{Value}
@@ -28,7 +28,7 @@ abbrev pub last_stage : Job → ℕ → Option Value → Stage
 last_stage Put u o = AtShort
 last_stage Delete u (Some x) = AtShort
 last_stage Delete u None = Deciding u Absent
-last_stage (Swap e) u (Some x) = cond (eqb (tag_number e) u) AtShort (Deciding u (Differs u))
+last_stage (Swap e) u (Some x) = if tag_number e == u then AtShort else Deciding u (Differs u)
 last_stage (Swap e) u None = Deciding u Absent
 
 -- how many accesses it makes at its tail: a load of the meta word for all but a put, and then an exchange, a raise and a store of the shortcut, or a load
@@ -36,7 +36,7 @@ abbrev pub tail_accesses : Job → ℕ → Option Value → ℕ
 tail_accesses Put u o = 3
 tail_accesses Delete u (Some x) = 4
 tail_accesses Delete u None = 2
-tail_accesses (Swap e) u (Some x) = cond (eqb (tag_number e) u) 4 2
+tail_accesses (Swap e) u (Some x) = if tag_number e == u then 4 else 2
 tail_accesses (Swap e) u None = 2
 
 -- a call that is made alone is over after exactly so many accesses, and stands there at the last one, which makes no turn

@@ -29,11 +29,13 @@ Onward AtShort c n = ⊥
 Onward Over c n = ⊥
 Onward _ c n = IsBefore n.stage
 
+-- the call stores a value
 abbrev pub Stores : Job → Type 0
 Stores Put = Unit {0}
 Stores Delete = ⊥
 Stores (Swap t) = Unit {0}
 
+-- the call is a delete
 abbrev pub Deletes : Job → Type 0
 Deletes Put = ⊥
 Deletes Delete = Unit {0}
@@ -51,12 +53,13 @@ Answers c n (Behind k) = IsBefore c.stage × (n.stage ≡ Over) × (n.walk.stand
 Answers c n Unreached = IsBefore c.stage × (n ≡ c)
 Answers c n (Linked t) = IsBehind c.stage × (n ≡ staged c Over) × (tag_number t ≡ c.own)
 
--- where the access was made, and where it was refused
+-- where the access was made
 abbrev pub OnReached : PutTurn → Type 0 → Type 0
 OnReached Unreached A = Unit {0}
 OnReached (Linked t) A = Unit {0}
 OnReached r A = A
 
+-- where the access was refused
 abbrev pub OnRefused : PutTurn → Type 0 → Type 0
 OnRefused Unreached A = A
 OnRefused (Linked t) A = A
@@ -76,6 +79,7 @@ OnAhead Unreached A = Unit {0}
 OnAhead (Linked t) A = Unit {0}
 OnAhead r A = A
 
+-- where the call has committed
 abbrev pub IfDecided : PutTurn → (TagParts → Type 0) → Type 0
 IfDecided (Decided t) P = P t
 IfDecided r P = Unit {0}
@@ -88,14 +92,17 @@ IfEnded (Absent t) P = P t
 IfEnded (Differs t) P = P t
 IfEnded r P = Unit {0}
 
+-- where the key was absent
 abbrev pub IfAbsent : PutTurn → (TagParts → Type 0) → Type 0
 IfAbsent (Absent t) P = P t
 IfAbsent r P = Unit {0}
 
+-- where the tag differed
 abbrev pub IfDiffers : PutTurn → (TagParts → Type 0) → Type 0
 IfDiffers (Differs t) P = P t
 IfDiffers r P = Unit {0}
 
+-- where the call fell behind
 abbrev pub IfBehind : PutTurn → (ℕ → Type 0) → Type 0
 IfBehind (Behind n) P = P n
 IfBehind r P = Unit {0}

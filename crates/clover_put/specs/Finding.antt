@@ -30,6 +30,7 @@ FindsFrom AtShort c x = Unit {0}
 FindsFrom Over c x = ⊥
 FindsFrom s c x = MayFind c.walk x
 
+-- a number that the next access of the put may find
 abbrev pub PutFinds : Putting → ℕ → Type 0
 PutFinds c x = FindsFrom c.stage c x
 
@@ -56,5 +57,6 @@ AnswersFrom (AtRaise u) c x r = r ≡ More
 AnswersFrom AtShort c x r = (t : TagParts) × (tag_number t ≡ c.own) × (r ≡ done_with c.job t)
 AnswersFrom s c x r = Came c.walk x r
 
+-- the answer of the put where its access found this number
 abbrev pub PutAnswers : Putting → ℕ → PutTurn → Type 0
 PutAnswers c x r = AnswersFrom c.stage c x r

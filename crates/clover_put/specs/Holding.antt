@@ -1,5 +1,5 @@
 -- What the client must know where a put stands, and how many accesses the call has made at most.
-use Rattle.std.specs.Prelude.{◌≡◌, ℕ, ◌+◌, ◌*◌, ◌<◌, ◌≤◌, List, ◌∷◌, length, false, cond, eqb, Some, None}
+use Rattle.std.specs.Prelude.{◌≡◌, ℕ, ◌+◌, ◌*◌, ◌<◌, ◌≤◌, List, ◌∷◌, length, false, Some, None, if◌then◌else◌, ◌==◌}
 use Rattle.clover_words.specs.Tag.{home}
 use Rattle.clover_words.specs.Version.{content_at}
 use Rattle.clover_map.specs.declared.call.Reply.{Reply}
@@ -24,7 +24,7 @@ pub record Filled (c : Putting) (m n : ℕ) (v : View) : Type 0 where
 
 -- how much of the own version is stored and flushed, and that the first store is the first access of the call
 abbrev pub Fills : Stage → Putting → View → Type 0
-Fills (Storing j) c v = Filled c j 0 v × (j < length (body c)) × (c.walk.first ≡ eqb j 0)
+Fills (Storing j) c v = Filled c j 0 v × (j < length (body c)) × (c.walk.first ≡ (j == 0))
 Fills (Flushing j) c v = Filled c (length (body c)) j v × (j < length (body c)) × (c.walk.first ≡ false)
 Fills (AtRaise u) c v = c.walk.first ≡ false
 Fills AtShort c v = c.walk.first ≡ false
@@ -38,6 +38,7 @@ Owns AtShort c v = Unit {0}
 Owns Over c v = ⊥
 Owns _ c v = (rest : List ℕ) × (v.pass.stock ≡ c.own ∷ rest)
 
+-- the put is at this tail
 abbrev pub IsAt : Putting → ℕ → Type 0
 IsAt c u = (c.walk.stand ≡ OnTail u) × InRange c.walk.pool u
 
@@ -68,6 +69,7 @@ Looks _ c v = IsOnWay c.walk.stand
 abbrev pub behind_it : Putting → ℕ
 behind_it c = 2 * length (body c) + 5 * c.walk.turns
 
+-- the accesses of the call at most
 abbrev pub most : Stage → Putting → ℕ
 most (Storing j) c = j
 most (Flushing j) c = length (body c) + j
@@ -86,4 +88,4 @@ pub record PutHolds (c : Putting) (v : View) : Type 0 where
   pub owns : Owns c.stage c v
   pub fills : Fills c.stage c v
   pub looks : Looks c.stage c v
-  pub spent : cond c.walk.first 0 (length v.pass.since) ≤ most c.stage c
+  pub spent : (if c.walk.first then 0 else length v.pass.since) ≤ most c.stage c

@@ -6,6 +6,7 @@ use Rattle.clover_put.specs.Putting.{Putting, commits}
 use Rattle.clover_put.specs.Standing.{standing}
 use Rattle.clover_put.specs.declared.call.PutCall.TheInside.{Inside}
 
+-- the value of a put with these fields
 abbrev pub meaning : Inside → Putting
 meaning c = record { walk = c.walk; job = c.job; own = tag_number c.own; value = record { flags = c.flags; bytes = take c.buffer.length c.buffer.bytes }; stage = standing c.stage }
 

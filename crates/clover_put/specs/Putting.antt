@@ -1,6 +1,6 @@
 -- A put, delete or swap of one slot's key: which step its next access is, and how it goes on by what that access found.
 use Prim.Native.Nat.{zero, suc}
-use Rattle.std.specs.Prelude.{ℕ, ◌/◌, ◌%◌, ◌^◌, ◌==◌, List, length, cond, eqb, leb, ltb, ◌&&◌, Option, Some, None}
+use Rattle.std.specs.Prelude.{ℕ, ◌/◌, ◌%◌, ◌^◌, ◌==◌, List, length, leb, ltb, ◌&&◌, Option, Some, None, if◌then◌else◌}
 use Rattle.clover_words.specs.declared.meta.Kind.{Kind}
 use Rattle.clover_words.specs.declared.meta.Kind.TheVariants.{Value as IsValue, Tombstone}
 use Rattle.clover_words.specs.Pack.{packed}
@@ -56,10 +56,11 @@ call_of (Swap t) k x = SwapCall k (tag_number t) x
 abbrev pub call_at : Putting → View → Call
 call_at c v = call_of c.job (key_at v.pass.names c.walk.slot) c.value
 
--- the words of the version that is committed, and the one at a place
+-- the words of the version that is committed
 abbrev pub body : Putting → List ℕ
 body c = content (commits c.job c.value)
 
+-- the content word of the own version at a place
 abbrev pub body_word : Job → Value → ℕ → ℕ
 body_word Delete x j = tombstone
 body_word Put x zero = value_meta x
@@ -69,7 +70,7 @@ body_word (Swap t) x (suc k) = packed x.bytes k
 
 -- what a version is by its meta word, where that is one
 abbrev pub kind_of : ℕ → Option Kind
-kind_of x = cond (eqb (x / 2 ^ 48) 1 && leb (x % 2 ^ 16) 1024) (Some IsValue) (cond (x == tombstone) (Some Tombstone) None)
+kind_of x = if (x / 2 ^ 48) == 1 && leb (x % 2 ^ 16) 1024 then Some IsValue else if x == tombstone then Some Tombstone else None
 
 -- the step that the next access is
 abbrev pub put_step : Putting → View → Step
@@ -95,13 +96,15 @@ made_put w j t x = record { walk = w; job = j; own = t; value = x; stage = Stori
 abbrev pub staged : Putting → Stage → Putting
 staged c at = record c { stage = at }
 
--- a content word more was stored, or flushed
+-- the stage after a content word more was stored
 abbrev pub after_store : ℕ → ℕ → Stage
-after_store n j = cond (ltb (suc j) n) (Storing (suc j)) (Flushing 0)
+after_store n j = if ltb (suc j) n then Storing (suc j) else Flushing 0
 
+-- the stage after a content word more was flushed
 abbrev pub after_flush : ℕ → ℕ → Stage
-after_flush n j = cond (ltb (suc j) n) (Flushing (suc j)) Seeking
+after_flush n j = if ltb (suc j) n then Flushing (suc j) else Seeking
 
+-- a put that has stored or flushed a content word more
 abbrev pub filled : Putting → Stage → Putting
 filled c at = record c { walk = begun c.walk; stage = at }
 
@@ -111,6 +114,7 @@ at_tail Put t = AtLink t
 at_tail Delete t = AtMeta t
 at_tail (Swap e) t = AtMeta t
 
+-- the stage of a put whose walk stands there
 abbrev pub reached : Job → Stand → Stage
 reached j ToShort = Seeking
 reached j AtRoot = Seeking
@@ -127,8 +131,9 @@ walked c w = record c { walk = w; stage = reached c.job w.stand }
 abbrev pub on_value : Job → ℕ → Stage
 on_value Put t = AtLink t
 on_value Delete t = AtLink t
-on_value (Swap e) t = cond (eqb (tag_number e) t) (AtLink t) (Deciding t (Differs t))
+on_value (Swap e) t = if tag_number e == t then AtLink t else Deciding t (Differs t)
 
+-- the stage behind the load of the meta word
 abbrev pub on_meta : Job → ℕ → Option Kind → Stage
 on_meta j t (Some IsValue) = on_value j t
 on_meta j t (Some Tombstone) = Deciding t Absent
@@ -136,7 +141,7 @@ on_meta j t None = AtBad t
 
 -- it stands there where the tail u was found unlinked; otherwise the tail is left as by a load of the walk
 abbrev pub unless_left : Putting → ℕ → Stage → ℕ → Putting
-unless_left c u at x = cond (x == unlinked u) (staged c at) (walked c (goes_on c.walk x))
+unless_left c u at x = if x == unlinked u then staged c at else walked c (goes_on c.walk x)
 
 -- how the call goes on where its access found this number
 abbrev pub put_on : Putting → ℕ → Putting

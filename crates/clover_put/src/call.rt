@@ -124,6 +124,13 @@ impl PutCall {
         self.walk.slot()
     }
 
+    /// What it is to do with its key.
+    pub fn job(&self) -> Job
+        ensures { result ≡ self.now.job }
+    {
+        self.job
+    }
+
     /// What holds of each call: the version that it is to commit fits into a buffer of its pool. This is for proofs,
     /// and does nothing.
     pub fn fits(&self)

@@ -49,7 +49,8 @@ const ORDERS: [[usize; 4]; 24] = [
 fn script_of(alloc: Global, order: &[usize; 4]) -> Result<Text, Fail> {
     let mut text = Text::make(alloc);
     text.say(
-        "pool nodes=1 buffers=32 slots=1 words=1 wear=9 clients=4 batch=2\ncall 1 put a =0\n",
+        "pool nodes=1 buffers=32 slots=1 words=1 wear=9 clients=4 batch=2\n\
+         call 1 put a =0\n",
     )?;
     for call in 0..4usize {
         text.say("begin ")?;

@@ -12,7 +12,9 @@ const EXCHANGE: u64 = 5;
 fn script_of(alloc: Global, made: u64) -> Result<Text, Fail> {
     let mut text = Text::make(alloc);
     text.say(
-        "pool nodes=1 buffers=4 slots=1 words=1 wear=3 clients=1 batch=2\ncall 1 put a =1\nbegin 1 put a =2\n",
+        "pool nodes=1 buffers=4 slots=1 words=1 wear=3 clients=1 batch=2\n\
+         call 1 put a =1\n\
+         begin 1 put a =2\n",
     )?;
     if made > 0 {
         text.say("step 1 ")?;
@@ -28,12 +30,25 @@ fn printed_of(alloc: Global, made: u64) -> Result<Text, Fail> {
     let accesses = made.saturating_add(10);
     if made > EXCHANGE {
         text.say(
-            "1 stored 0.0.0\n1 linked 0.1.0\n1 found 0.1.0 =2\nhistory\nh 1 1 1 put a =1 stored 0.0.0\nh 1 1 2 put a =2 stored 0.1.0\nh 1 1 3 get a found 0.1.0 =2\naccesses ",
+            "1 stored 0.0.0\n\
+             1 linked 0.1.0\n\
+             1 found 0.1.0 =2\n\
+             history\n\
+             h 1 1 1 put a =1 stored 0.0.0\n\
+             h 1 1 2 put a =2 stored 0.1.0\n\
+             h 1 1 3 get a found 0.1.0 =2\n\
+             accesses ",
         )?;
         text.number(accesses.saturating_add(6))?;
     } else {
         text.say(
-            "1 stored 0.0.0\n1 unreached\n1 found 0.0.0 =1\nhistory\nh 1 1 1 put a =1 stored 0.0.0\nh 1 1 2 get a found 0.0.0 =1\naccesses ",
+            "1 stored 0.0.0\n\
+             1 unreached\n\
+             1 found 0.0.0 =1\n\
+             history\n\
+             h 1 1 1 put a =1 stored 0.0.0\n\
+             h 1 1 2 get a found 0.0.0 =1\n\
+             accesses ",
         )?;
         text.number(accesses.saturating_add(4))?;
     }

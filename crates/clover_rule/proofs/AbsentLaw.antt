@@ -13,7 +13,8 @@ use Rattle.clover_rule.proofs.Keys.{key_discrete}
 use Rattle.clover_rule.proofs.Histories.{leads_commits}
 use Rattle.clover_rule.proofs.Histories.{ends_more}
 
-same_option : (a : Option (List ℕ)) (k : List ℕ) → Dec (a ≡ Some k)
+-- an optional key is this one or not
+pub same_option : (a : Option (List ℕ)) (k : List ℕ) → Dec (a ≡ Some k)
 same_option None k = no (λ e. absurd cc)
 same_option (Some j) k = dite (key_discrete j k) (λ e. yes (ap Some e)) (λ n. no (λ e. n cc))
 

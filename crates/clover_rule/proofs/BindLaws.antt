@@ -17,7 +17,7 @@ use Rattle.clover_rule.specs.Views.{book, Holds, Stands, Basis, renewed, root_at
 use Rattle.clover_rule.specs.declared.view.BufferState.TheVariants.{Bound as IsBound, Out as IsOut}
 use Rattle.clover_rule.specs.declared.view.NewBinding.{NewBinding}
 use Rattle.clover_rule.specs.declared.view.Role.TheVariants.{Serving}
-use Rattle.clover_rule.specs.declared.view.Task.TheVariants.{Storing, Rooted}
+use Rattle.clover_rule.specs.declared.view.ServerTask.TheVariants.{Storing, Rooted}
 use Rattle.clover_rule.specs.declared.view.View.{View}
 use Rattle.clover_words.specs.declared.pool.Pool.{Pool}
 use Rattle.clover_rule.proofs.Keys.{at_key_same, at_key_else}

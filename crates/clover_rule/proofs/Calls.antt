@@ -83,8 +83,8 @@ module _ (l : Pool) (m0 : Map) (used : List ℕ) (m : Mem) (vs : List View) (st 
   -- any deciding load at the tail
   module _ (s : ℕ) (k : List ℕ) (u : ℕ) (tail : Within (s, u) v.pass.durable) (name : Within (s, k) v.pass.names) (found : m.next (home u) ≡ word (age u) None) (n : ℕ) (role : v.pass.role ≡ Client n) where
     pub load_whole : (call : Call) (reply : Reply) (nm : named call ≡ k) (cm : committed call reply ≡ None) (does : Does (leads m0 h k) (used_by used h) call reply)
-        → Whole l m0 used m (renewed vs id (decided_view m0 used m vs st h r id v at s k u tail name found n role call reply nm cm does)) st (h ++ link_entry v n call reply ∷ [])
-    load_whole call reply nm cm does = client_whole l m0 used m vs st h w id v (decided_view m0 used m vs st h r id v at s k u tail name found n role call reply nm cm does) at n role refl m st (h ++ link_entry v n call reply ∷ [])
+        → Whole l m0 used m (renewed vs id (decided_view m0 used m vs st h r id v at s k u tail name found n call reply)) st (h ++ link_entry v n call reply ∷ [])
+    load_whole call reply nm cm does = client_whole l m0 used m vs st h w id v (decided_view m0 used m vs st h r id v at s k u tail name found n call reply) at n role refl m st (h ++ link_entry v n call reply ∷ [])
         (decide_rule m0 used m vs st h r id v at s k u tail name found n role call reply nm cm does) w.help (λ sv e. e)
         (subst (Each (λ (x : ℕ). (age x < l.wear) × (age x ≤ gen (m.fnext (home x))))) (sym (used_snoc used h (link_entry v n call reply) ∙ ap (grown (used_by used h)) cm)) w.safe)
         (λ cs a b. each_snoc (λ (e : Entry). Within e.client cs) h (link_entry v n call reply) b a)

@@ -1,28 +1,28 @@
 -- The put's exchange, the raise and the quiet steps of a client over the whole rule.
-use Rattle.std.proofs.Common.{◌≡◌, ℕ, ◌≤◌, List, refl, sym, ap, ◌∙◌, arith}
+use Rattle.std.proofs.Common.{◌≡◌, ℕ, List, refl, sym, ap, ◌∙◌, arith}
 use native.Mathlib.Decide.{ℕ_discrete}
 use mathlib.Core.Logic.{dite}
 use Rattle.std.specs.Prelude.{Some}
-use Rattle.clover_words.specs.Tag.{home, age}
+use Rattle.clover_words.specs.Tag.{home}
 use Rattle.clover_map.specs.declared.call.Entry.{Entry}
 use Rattle.clover_rule.specs.Changes.{raised_mem, raised_story}
 use Rattle.clover_rule.specs.History.{Map, used_by}
 use Rattle.clover_rule.specs.Lists.{nth, upd, Within}
-use Rattle.clover_rule.specs.Memory.{word, gen, Mem, greater}
+use Rattle.clover_rule.specs.Memory.{Mem}
 use Rattle.clover_rule.specs.Server.{AtStage, Whole}
 use Rattle.clover_rule.specs.Story.{Story, Durable}
 use Rattle.clover_rule.specs.Views.{ViewOk, Basis, renewed, raise_view}
 use Rattle.clover_rule.specs.declared.view.Link.{Link}
 use Rattle.clover_rule.specs.declared.view.Role.TheVariants.{Client}
-use Rattle.clover_rule.specs.declared.view.Task.{Task}
-use Rattle.clover_rule.specs.declared.view.Task.TheVariants.{Idle, Storing, Rooted, Waiting, Loaded, Raised, Led, Both, Exchanged}
+use Rattle.clover_rule.specs.declared.view.ServerTask.{ServerTask}
+use Rattle.clover_rule.specs.declared.view.ServerTask.TheVariants.{Idle, Storing, Rooted, Waiting, Loaded, Raised, Led, Both, Exchanged}
 use Rattle.clover_rule.specs.declared.view.View.{View}
 use Rattle.clover_words.specs.declared.pool.Pool.{Pool}
 use Rattle.clover_rule.proofs.Tools.{upd_same, upd_else}
 use Rattle.clover_rule.proofs.Steps.{each_map, each_within}
 use Rattle.clover_rule.proofs.ClientSteps.{client_whole, raise_help, raise_serves}
 use Rattle.clover_rule.proofs.RaiseLaw.{known, grows as raise_grows, rule' as raise_rule}
-use Rattle.clover_rule.proofs.Stages.{gen_least}
+use Rattle.clover_rule.proofs.Raising.{raised_higher}
 use Rattle.clover_rule.proofs.Quiet.{quiet}
 
 module _ (l : Pool) (m0 : Map) (used : List ℕ) (m : Mem) (vs : List View) (st : Story) (h : List Entry) (w : Whole l m0 used m vs st h) (id : ℕ) (v : View) (at : nth vs id ≡ Some v) where
@@ -40,14 +40,10 @@ module _ (l : Pool) (m0 : Map) (used : List ℕ) (m : Mem) (vs : List View) (st 
             (raise_rule m0 used m vs st h r id v at q p)
             (raise_help l m st r.core w.help q.slot a.0 q.from q.to record { from = a.1; to = a.2 } h g)
             (raise_serves l m st r.core w.help q.slot a.0 q.from q.to record { from = a.1; to = a.2 } h g)
-            (each_map (λ t d. (d.0, go t (ℕ_discrete (home t) (home q.from)) d.1)) (used_by used h) w.safe)
+            (each_map (λ t d. (d.0, let e = raised_higher m q.from q.to (home t) in let i = d.1 in omega arith)) (used_by used h) w.safe)
             (λ cs x y. y),
         λ b. refl,
       )
-    where
-      go : (t : ℕ) → Dec (home t ≡ home q.from) → age t ≤ gen (m.fnext (home t)) → age t ≤ gen ((raised_mem m q.from q.to).fnext (home t))
-      go t (yes d) i = let e : gen (m.fnext (home t)) ≤ gen ((raised_mem m q.from q.to).fnext (home t)) = rw d (rw (upd_same m.fnext (home q.from) (greater (m.fnext (home q.from)) (word (age q.from) (Some q.to)))) (gen_least (m.fnext (home q.from)) (word (age q.from) (Some q.to)))) in omega arith
-      go t (no d) i = let e = ap gen (upd_else m.fnext (home q.from) (home t) (greater (m.fnext (home q.from)) (word (age q.from) (Some q.to))) d) in omega arith
 
   -- a step that changes no word and adds no entry
   pub quiet_whole : (n : ℕ) → v.pass.role ≡ Client n → (v' : View) → v'.pass.role ≡ v.pass.role → v'.pass.history ≡ v.pass.history → ViewOk m st h id v' → Whole l m0 used m (renewed vs id v') st h
@@ -69,7 +65,7 @@ module _ (l : Pool) (m0 : Map) (used : List ℕ) (m : Mem) (vs : List View) (st 
       abbrev_here : Unit {0}
       abbrev_here = tt
 
-      here : (T : Task) → AtStage l m st T → AtStage l (record m { short = upd m.short s (Some t) }) st T
+      here : (T : ServerTask) → AtStage l m st T → AtStage l (record m { short = upd m.short s (Some t) }) st T
       here Idle a = tt
       here (Storing bind n1) a = record { place = a.place; now = a.now; safe = a.safe; range = a.range; slot = a.slot; bare = a.bare; unnamed = a.unnamed; absent = a.absent; valid = a.valid; body = a.body; fbody = a.fbody; key = a.key; fkey = a.fkey }
       here (Rooted bind) a = (record { key = a.0.key; unnamed = a.0.unnamed; alone = a.0.alone; tag = a.0.tag; gone = a.0.gone }, a.1)

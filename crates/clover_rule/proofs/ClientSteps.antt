@@ -18,8 +18,8 @@ use Rattle.clover_rule.specs.declared.view.Role.TheVariants.{Client, Serving}
 use Rattle.clover_rule.specs.declared.view.Server.{Server}
 use Rattle.clover_rule.specs.declared.view.NewBinding.{NewBinding}
 use Rattle.clover_rule.specs.declared.view.Recycling.{Recycling}
-use Rattle.clover_rule.specs.declared.view.Task.{Task}
-use Rattle.clover_rule.specs.declared.view.Task.TheVariants.{Idle, Storing, Rooted, Waiting, Loaded, Raised, Led, Both, Exchanged}
+use Rattle.clover_rule.specs.declared.view.ServerTask.{ServerTask}
+use Rattle.clover_rule.specs.declared.view.ServerTask.TheVariants.{Idle, Storing, Rooted, Waiting, Loaded, Raised, Led, Both, Exchanged}
 use Rattle.clover_rule.specs.declared.view.View.{View}
 use Rattle.clover_words.specs.declared.pool.Pool.{Pool}
 use Rattle.clover_rule.proofs.Tools.{upd_same, upd_else, nth_snoc}
@@ -27,7 +27,7 @@ use Rattle.clover_rule.proofs.Standings.{tag_within}
 use Rattle.clover_rule.proofs.Steps.{Grows, nth_set, durable_kept}
 use Rattle.clover_rule.proofs.Linking.{CanLink, gens, u_stands, tag_else, Pushed, before, new, pushed, length_linked}
 use Rattle.clover_rule.proofs.ServerTools.{book_same}
-use Rattle.clover_rule.proofs.Stages.{gen_most}
+use Rattle.clover_rule.proofs.Raising.{raised_below}
 use Rattle.clover_rule.proofs.Raising.{CanRaise, order_below, order_self}
 
 pub each_snoc : {A : Type 0} (P : A → Type 0) (xs : List A) (x : A) → Each P xs → P x → Each P (xs ++ x ∷ [])
@@ -99,7 +99,7 @@ module _ (l : Pool) (m : Mem) (st : Story) (c : Core m st) (p : Help l m st) (s 
   waiting_kept : (bind : NewBinding) → IsWaiting m st bind → IsWaiting m' st' bind
   waiting_kept bind a = let d = unnamed_else bind.slot a.unnamed in record { key = a.key; unnamed = a.unnamed; alone = ap length (log_else bind.slot d) ∙ a.alone; tag = tag_else st s x bind.slot 0 (λ z. absurd (d z)) ∙ a.tag; gone = a.gone }
 
-  here_kept : (T : Task) → AtStage l m st T → AtStage l m' st' T
+  here_kept : (T : ServerTask) → AtStage l m st T → AtStage l m' st' T
   here_kept Idle a = tt
   here_kept (Storing bind n1) a = record { place = held_place (home bind.tag) a.place; now = held_next (home bind.tag) a.place ∙ a.now; safe = a.safe; range = a.range; slot = a.slot; bare = a.bare; unnamed = a.unnamed; absent = a.absent; valid = a.valid; body = a.body; fbody = a.fbody; key = a.key; fkey = a.fkey }
   here_kept (Rooted bind) a = (waiting_kept bind a.0, a.1)
@@ -160,14 +160,14 @@ module _ (l : Pool) (m : Mem) (st : Story) (c : Core m st) (p : Help l m st) (s 
       go s1 i1 y (before b n) = p.ranged.tags s1 i1 y b
       go s1 i1 y (new a b d) = rw d own_range
 
-  roots_kept : (T : Task) (s1 : ℕ) → root_in T st' s1 ≡ root_in T st s1
+  roots_kept : (T : ServerTask) (s1 : ℕ) → root_in T st' s1 ≡ root_in T st s1
   roots_kept T s1 = ap (or_else (lagging T s1)) gone_kept
     where
       gone_kept : tag_at st' s1 (st.gone s1) ≡ tag_at st s1 (st.gone s1)
       gone_kept = tag_else st s x s1 (st.gone s1) (λ d q. let a1 = tag_within st s i u can.tail in let a2 = u_stands m st s u i k x c can in let a3 = ap st.gone d in absurd (omega arith))
 
   -- the linked buffer is no slot's root
-  not_root : (T : Task) → AtStage l m st T → is_home (root_in T st s) (home t) ≡ false
+  not_root : (T : ServerTask) → AtStage l m st T → is_home (root_in T st s) (home t) ≡ false
   not_root T a = by T a
     where
       away : (y : ℕ) → tag_at st s (st.gone s) ≡ Some y → eqb (home y) (home t) ≡ false
@@ -184,7 +184,7 @@ module _ (l : Pool) (m : Mem) (st : Story) (c : Core m st) (p : Help l m st) (s 
       none_or true = refl
       none_or false = still
 
-      by : (T : Task) → AtStage l m st T → is_home (root_in T st s) (home t) ≡ false
+      by : (T : ServerTask) → AtStage l m st T → is_home (root_in T st s) (home t) ≡ false
       by Idle a = still
       by (Storing bind n2) a = still
       by (Rooted bind) a = none_or (eqb bind.slot s)
@@ -210,7 +210,7 @@ module _ (l : Pool) (m : Mem) (st : Story) (c : Core m st) (p : Help l m st) (s 
         (λ d. e.books b j ∙ ap (λ (y : ℕ). book_of st.task st (st.place b) y b) (sym (gens' b)) ∙ sym (held_same st.task b (gen (m'.next b)) (st.place b)) ∙ sym (ap (λ (q : Place). book_of st.task st' q (gen (m'.next b)) b) (place_else b d)));
   }
     where
-      held_same : (T : Task) (b y : ℕ) (q : Place) → book_of T st' q y b ≡ book_of T st q y b
+      held_same : (T : ServerTask) (b y : ℕ) (q : Place) → book_of T st' q y b ≡ book_of T st q y b
       held_same T b y q = book_same T T st st' q y b (λ s1 z. ap (λ (o : Option ℕ). is_home o b) (roots_kept T s1)) (λ z. refl)
 
 -- the helping facts after a raise over a link of a slot's log
@@ -238,7 +238,7 @@ module _ (l : Pool) (m : Mem) (st : Story) (c : Core m st) (p : Help l m st) (s 
   more_sure : (s1 j : ℕ) → j < st.sure s1 → j < sr.sure s1
   more_sure s1 j q = let a = g.sure s1 in omega arith
 
-  raised_here : (T : Task) → AtStage l m st T → AtStage l mr sr T
+  raised_here : (T : ServerTask) → AtStage l m st T → AtStage l mr sr T
   raised_here Idle a = tt
   raised_here (Storing bind n1) a = record { place = a.place; now = a.now; safe = held_off (home bind.tag) a.place ∙ a.safe; range = a.range; slot = a.slot; bare = a.bare; unnamed = a.unnamed; absent = a.absent; valid = a.valid; body = a.body; fbody = a.fbody; key = a.key; fkey = a.fkey }
   raised_here (Rooted bind) a = (record { key = a.0.key; unnamed = a.0.unnamed; alone = a.0.alone; tag = a.0.tag; gone = a.0.gone }, a.1)
@@ -257,8 +257,7 @@ module _ (l : Pool) (m : Mem) (st : Story) (c : Core m st) (p : Help l m st) (s 
       ready = a.ready;
       worn = a.worn;
       fits = a.fits;
-      below = λ b. dite (ℕ_discrete b (home u)) (λ d. rw d (rw (upd_same m.fnext (home u) (greater (m.fnext (home u)) (word (age u) (Some t)))) (gen_most (m.fnext (home u)) (word (age u) (Some t)) (gen (m.next (home u))) (a.below (home u)) u_old)))
-          (λ d. let z = ap gen (upd_else m.fnext (home u) b (greater (m.fnext (home u)) (word (age u) (Some t))) d) in let z1 = a.below b in omega arith);
+      below = λ b. raised_below m u t b u_old (a.below b);
     };
     keyed = let a = p.keyed in record { valid = a.valid; current = a.current; flushed = a.flushed; bare = a.bare; nameless = a.nameless; filled = a.filled; slots = a.slots };
     naming = let a = p.naming in record { counted = a.counted; found = a.found; listed = a.listed; waiting = a.waiting; once = a.once };

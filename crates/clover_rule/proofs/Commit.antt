@@ -9,7 +9,8 @@ use Rattle.clover_map.specs.declared.call.Call.{Call}
 use Rattle.clover_map.specs.declared.call.Reply.{Reply}
 use Rattle.clover_map.specs.declared.call.Entry.{Entry}
 use Rattle.clover_rule.specs.Changes.{linked_mem, linked_story}
-use Rattle.clover_rule.specs.History.{Version, Map, own, used_by, commits, joined, key_of, commit_of, lost_in, Fresh, grown, Does, named, committed, leads, same_key}
+use Rattle.std.specs.Str.{bytes_eq}
+use Rattle.clover_rule.specs.History.{Version, Map, own, used_by, commits, joined, key_of, commit_of, lost_in, Fresh, grown, Does, named, committed, leads}
 use Rattle.clover_rule.specs.Knowing.{MayLink, link_entry, link_view}
 use Rattle.clover_rule.specs.Lists.{Each, nth, Within}
 use Rattle.clover_rule.specs.Memory.{word, gen, Mem}
@@ -132,10 +133,10 @@ module _ (m0 : Map) (used : List ℕ) (m : Mem) (vs : List View) (st : Story) (h
       )
 
   own_commit : commits k (e ∷ []) ≡ w ∷ []
-  own_commit = ap (λ (j : List ℕ). cond (same_key j k) (joined (committed call reply) []) []) nm ∙ ap (λ (o : Option Version). cond (same_key k k) (joined o []) []) cm ∙ ap (λ (b : Bool). cond b (w ∷ []) []) (eq_key k k refl)
+  own_commit = ap (λ (j : List ℕ). cond (bytes_eq j k) (joined (committed call reply) []) []) nm ∙ ap (λ (o : Option Version). cond (bytes_eq k k) (joined o []) []) cm ∙ ap (λ (b : Bool). cond b (w ∷ []) []) (eq_key k k refl)
 
   else_commit : (k1 : List ℕ) → k ≢ k1 → commits k1 (e ∷ []) ≡ []
-  else_commit k1 d = ap (λ (j : List ℕ). cond (same_key j k1) (joined (committed call reply) []) []) nm ∙ ap (λ (b : Bool). cond b (joined (committed call reply) []) []) (ne_key k k1 d)
+  else_commit k1 d = ap (λ (j : List ℕ). cond (bytes_eq j k1) (joined (committed call reply) []) []) nm ∙ ap (λ (b : Bool). cond b (joined (committed call reply) []) []) (ne_key k k1 d)
 
   told' : (s1 : ℕ) (k1 : List ℕ) → st.keys s1 ≡ Some k1 → st'.log s1 ≡ st.first s1 ++ commits k1 h'
   told' s1 k1 q = go (ℕ_discrete s1 s)

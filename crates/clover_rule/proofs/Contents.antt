@@ -15,17 +15,18 @@ use Rattle.clover_rule.specs.declared.view.BookLine.{BookLine}
 use Rattle.clover_rule.specs.declared.view.BufferState.TheVariants.{Out as IsOut}
 use Rattle.clover_rule.specs.declared.view.NewBinding.{NewBinding}
 use Rattle.clover_rule.specs.declared.view.Server.{Server}
-use Rattle.clover_rule.specs.declared.view.Task.{Task}
-use Rattle.clover_rule.specs.declared.view.Task.TheVariants.{Storing}
+use Rattle.clover_rule.specs.declared.view.ServerTask.{ServerTask}
+use Rattle.clover_rule.specs.declared.view.ServerTask.TheVariants.{Storing}
 use Rattle.clover_rule.specs.declared.view.View.{View}
 use Rattle.clover_words.specs.declared.pool.Pool.{Pool}
 use Rattle.clover_rule.proofs.Tools.{upd_same, upd_else}
 use Rattle.clover_rule.proofs.Steps.{prefix_self}
-use Rattle.clover_rule.proofs.ServerTools.{core_copy, Moves, book_same, hold_core, tale_copy}
+use Rattle.clover_rule.proofs.ServerTools.{core_copy, Moves, book_same, tale_copy}
+use Rattle.clover_rule.proofs.Roots.{hold_core}
 
 module _ (l : Pool) (m0 : Map) (used : List ℕ) (m : Mem) (vs : List View) (st : Story) (h : List Entry) (w : Whole l m0 used m vs st h)
     (b0 : ℕ) (lone : link (m.next b0) ≡ None) (loose : (s : ℕ) → st.place b0 ≢ Chained s) (unstocked : (j : ℕ) → st.place b0 ≢ Stocked j)
-    (B FB K FK : ℕ → ℕ → ℕ) (T' : Task) (body_else : (b : ℕ) → b ≢ b0 → B b ≡ m.body b) (fbody_else : (b : ℕ) → b ≢ b0 → FB b ≡ m.fbody b)
+    (B FB K FK : ℕ → ℕ → ℕ) (T' : ServerTask) (body_else : (b : ℕ) → b ≢ b0 → B b ≡ m.body b) (fbody_else : (b : ℕ) → b ≢ b0 → FB b ≡ m.fbody b)
     (key_else : (s : ℕ) (k : List ℕ) → st.keys s ≡ Some k → K s ≡ m.key s) (fkey_else : (s : ℕ) (k : List ℕ) → st.keys s ≡ Some k → FK s ≡ m.fkey s) where
   abbrev pub content_mem : Mem
   content_mem = record m { body = B; fbody = FB; key = K; fkey = FK }
@@ -89,7 +90,7 @@ abbrev storing_story : Story → NewBinding → ℕ → Story
 storing_story st bind n = record st { place = upd st.place (home bind.tag) Taken; task = Storing bind n }
 
 -- the stage of a binding after one of these stores
-pub storing_stage : (l : Pool) (m m' : Mem) (st : Story) (T : Task) (bind : NewBinding) (n : ℕ) → Stage l m st T → ((s1 : ℕ) → moving T ≢ Some s1) → unnamed T ≡ None → ((b : ℕ) → holding T ≡ Some b → b ≡ home bind.tag)
+pub storing_stage : (l : Pool) (m m' : Mem) (st : Story) (T : ServerTask) (bind : NewBinding) (n : ℕ) → Stage l m st T → ((s1 : ℕ) → moving T ≢ Some s1) → unnamed T ≡ None → ((b : ℕ) → holding T ≡ Some b → b ≡ home bind.tag)
     → IsStoring l m' (record st { place = upd st.place (home bind.tag) Taken; task = Storing bind n }) bind n → Stage l m' (record st { place = upd st.place (home bind.tag) Taken; task = Storing bind n }) (Storing bind n)
 storing_stage l m m' st T bind n g mv un ho is = record {
   settled = λ s1 q. g.settled s1 (mv s1);
@@ -99,7 +100,7 @@ storing_stage l m m' st T bind n g mv un ho is = record {
 }
 
 -- the books under a task that holds one buffer
-pub storing_serves : (l : Pool) (m m' : Mem) (st : Story) (T : Task) (bind : NewBinding) (n : ℕ) (sv : Server) → Serves l m st T sv → ((s1 : ℕ) → root_in T st s1 ≡ tag_at st s1 (st.gone s1)) → waiting_name T ≡ [] → ((b : ℕ) → st.place b ≡ Taken → b ≡ home bind.tag)
+pub storing_serves : (l : Pool) (m m' : Mem) (st : Story) (T : ServerTask) (bind : NewBinding) (n : ℕ) (sv : Server) → Serves l m st T sv → ((s1 : ℕ) → root_in T st s1 ≡ tag_at st s1 (st.gone s1)) → waiting_name T ≡ [] → ((b : ℕ) → st.place b ≡ Taken → b ≡ home bind.tag)
     → ((b : ℕ) → m'.next b ≡ m.next b) → (books : List BookLine) → ((b : ℕ) → b ≢ home bind.tag → find_book books b ≡ book_at sv b) → (find_book books (home bind.tag) ≡ book (gen (m.next (home bind.tag))) IsOut)
     → Serves l m' (record st { place = upd st.place (home bind.tag) Taken; task = Storing bind n }) (Storing bind n) (record sv { task = Storing bind n; books = books })
 storing_serves l m m' st T bind n sv e ro wa he nx books el now = record {

@@ -8,7 +8,8 @@ use Rattle.std.proofs.lemmas.Bool.Decides.{nat_tests}
 use Rattle.clover_words.specs.Tag.{home, age}
 use Rattle.clover_map.specs.declared.call.Entry.{Entry}
 use Rattle.clover_map.specs.declared.bytes.Held.{Held}
-use Rattle.clover_rule.specs.History.{same_key, Version, Map, pair_of, ends, kept, commits, Unread, Last, Legal, key_of, commit_of, lost_in, joined, leads}
+use Rattle.std.specs.Str.{bytes_eq}
+use Rattle.clover_rule.specs.History.{Version, Map, pair_of, ends, kept, commits, Unread, Last, Legal, key_of, commit_of, lost_in, joined, leads}
 use Rattle.clover_rule.specs.Image.{Image, IsImage, Chain, is_none, leads_to, missing, sift, tags, Reads, ReadsMap}
 use Rattle.clover_rule.specs.Lists.{Each, nth}
 use Rattle.clover_rule.specs.Memory.{gen, link, Mem}
@@ -24,13 +25,13 @@ sift_step lost None false xs = refl
 sift_step lost (Some w) true xs = refl
 sift_step lost (Some w) false xs = elim (lost w.tag) as (λ (b : Bool). sift lost xs ≡ cond b (sift lost xs) (sift lost xs)) [ true ↦ refl | false ↦ refl ]
 
-commits_cond : (k : List ℕ) (e : Entry) (b : Bool) (xs : List Entry) → commits k (cond b xs (e ∷ xs)) ≡ cond b (commits k xs) (cond (same_key (key_of e) k) (joined (commit_of e) (commits k xs)) (commits k xs))
+commits_cond : (k : List ℕ) (e : Entry) (b : Bool) (xs : List Entry) → commits k (cond b xs (e ∷ xs)) ≡ cond b (commits k xs) (cond (bytes_eq (key_of e) k) (joined (commit_of e) (commits k xs)) (commits k xs))
 commits_cond k e true xs = refl
 commits_cond k e false xs = refl
 
 pub commits_kept : (lost : ℕ → Bool) (k : List ℕ) (h : List Entry) → commits k (kept lost h) ≡ sift lost (commits k h)
 commits_kept lost k [] = refl
-commits_kept lost k (e ∷ h) = commits_cond k e (lost_in lost (commit_of e)) (kept lost h) ∙ ap (λ (xs : List Version). cond (lost_in lost (commit_of e)) xs (cond (same_key (key_of e) k) (joined (commit_of e) xs) xs)) (commits_kept lost k h) ∙ sym (sift_step lost (commit_of e) (same_key (key_of e) k) (commits k h))
+commits_kept lost k (e ∷ h) = commits_cond k e (lost_in lost (commit_of e)) (kept lost h) ∙ ap (λ (xs : List Version). cond (lost_in lost (commit_of e)) xs (cond (bytes_eq (key_of e) k) (joined (commit_of e) xs) xs)) (commits_kept lost k h) ∙ sym (sift_step lost (commit_of e) (bytes_eq (key_of e) k) (commits k h))
 
 sift_append : (lost : ℕ → Bool) (xs ys : List Version) → sift lost (xs ++ ys) ≡ sift lost xs ++ sift lost ys
 sift_append lost [] ys = refl

@@ -1,5 +1,5 @@
 -- What the tail's unlinked next word says of the map, and the law of any deciding load at the tail.
-use Rattle.std.proofs.Common.{◌≡◌, ℕ, suc, ◌≤◌, ◌≢◌, ◌⊎◌, List, [], ◌∷◌, ◌++◌, length, append-nil, Bool, true, false, cond, leb, refl, sym, ap, ◌∙◌, inl, inr, ⊎_elim, arith, subst, eq-eqb, ne_eqb, true≢false}
+use Rattle.std.proofs.Common.{◌≡◌, ℕ, suc, ◌≤◌, ◌≢◌, List, [], ◌∷◌, ◌++◌, length, true, false, leb, refl, sym, ap, ◌∙◌, inl, ⊎_elim, arith, subst, true≢false}
 use native.Mathlib.Decide.{dec_le}
 use mathlib.Core.Logic.{dite}
 use Rattle.std.specs.Prelude.{Option, Some, None}
@@ -10,21 +10,21 @@ use Rattle.clover_map.specs.declared.call.Reply.{Reply}
 use Rattle.clover_map.specs.declared.call.Entry.{Entry}
 use Rattle.clover_map.specs.declared.bytes.Held.{Held}
 use Rattle.clover_rule.specs.Content.{content}
-use Rattle.clover_rule.specs.History.{pair_of, Version, Map, own, used_by, commits, ends, joined, key_of, commit_of, lost_in, grown, Does, named, committed, leads, same_key}
+use Rattle.clover_rule.specs.History.{pair_of, Version, Map, used_by, commits, ends, key_of, commit_of, lost_in, Does, named, committed, leads}
 use Rattle.clover_rule.specs.Knowing.{link_entry}
-use Rattle.clover_rule.specs.Lists.{Each, nth, Within}
+use Rattle.clover_rule.specs.Lists.{nth, Within}
 use Rattle.clover_rule.specs.Memory.{word, gen, Mem}
-use Rattle.clover_rule.specs.Story.{Story, tag_in_version, tag_at, Tale, Durable, unsure}
-use Rattle.clover_rule.specs.Views.{IsCopied, OwnCalls, ViewOk, Spent, Basis, renewed, shown}
-use Rattle.clover_rule.specs.declared.view.Role.{Role}
+use Rattle.clover_rule.specs.Story.{Story, tag_in_version, tag_at, Durable, unsure}
+use Rattle.clover_rule.specs.Views.{IsCopied, ViewOk, Basis, renewed, shown}
 use Rattle.clover_rule.specs.declared.view.Role.TheVariants.{Client}
 use Rattle.clover_rule.specs.declared.view.View.{View}
 use Rattle.clover_rule.proofs.Histories.{ends_more, ends_last}
 use Rattle.clover_rule.proofs.Tools.{nth_within}
+use Rattle.clover_rule.proofs.Uncommitted.{answered, answered_rule}
 use Rattle.clover_rule.proofs.Standings.{tag_there, tag_within, tag_past}
-use Rattle.clover_rule.proofs.Histories.{legal_snoc, leads_commits, commits_snoc}
-use Rattle.clover_rule.proofs.Snocs.{unread_snoc, within_nth, within_commits, within_back, used_snoc, own_snoc}
-use Rattle.clover_rule.proofs.Steps.{each_within, prefix_self, within_prefix, Grows, view_kept, nth_set, set_here, role_was}
+use Rattle.clover_rule.proofs.Histories.{leads_commits}
+use Rattle.clover_rule.proofs.Snocs.{within_nth, within_commits, within_back}
+use Rattle.clover_rule.proofs.Steps.{each_within, within_prefix}
 
 module _ (m0 : Map) (used : List ℕ) (m : Mem) (vs : List View) (st : Story) (h : List Entry) (r : Basis m0 used m vs st h)
     (id : ℕ) (v : View) (at : nth vs id ≡ Some v) (s : ℕ) (k : List ℕ) (t : ℕ) (tail : Within (s, t) v.pass.durable) (name : Within (s, k) v.pass.names) (found : m.next (home t) ≡ word (age t) None) where
@@ -68,8 +68,8 @@ module _ (m0 : Map) (used : List ℕ) (m : Mem) (vs : List View) (st : Story) (h
   map_at = leads_commits m0 h k ∙ ap (λ (y : Option Held). ends y (commits k h)) (sym (r.tale.began s k slot_bound.0)) ∙ sym (ends_more None (st.first s) (commits k h)) ∙ ap (ends None) (sym (r.tale.told s k slot_bound.0)) ∙ ends_last None (st.log s) i version.0 version.1 last
 
   -- behind an unflushed commit nobody reads: this entry's slot has none
-  pub unread_after : (x1 : Entry) → Within x1 h → lost_in (unsure st) (commit_of x1) ≡ true → (lost_in (unsure st) (commit_of x1) ≡ true) × (k ≢ key_of x1)
-  unread_after x1 in_h q = (q, λ f. go (commit_of x1) refl q (sym f))
+  unread_after : (x1 : Entry) → Within x1 h → lost_in (unsure st) (commit_of x1) ≡ true → k ≢ key_of x1
+  unread_after x1 in_h q f = go (commit_of x1) refl q (sym f)
     where
       go : (o : Option Version) → commit_of x1 ≡ o → lost_in (unsure st) o ≡ true → key_of x1 ≡ k → ⊥
       go None c q f = true≢false (sym q)
@@ -82,76 +82,10 @@ module _ (m0 : Map) (used : List ℕ) (m : Mem) (vs : List View) (st : Story) (h
           let test : leb (st.sure s) d.0 ≡ false = grind (arith, nat_tests) in
           true≢false (sym q ∙ ap (λ (j : ℕ). leb (st.sure j) (st.rank y.tag)) g.0 ∙ ap (leb (st.sure s)) g.1 ∙ test)
 
-  module _ (n : ℕ) (role : v.pass.role ≡ Client n) (call : Call) (reply : Reply) (nm : named call ≡ k) (cm : committed call reply ≡ None) (does : Does (leads m0 h k) (used_by used h) call reply) where
-    abbrev pub e : Entry
-    e = link_entry v n call reply
+  -- the load of the tail's unlinked word
+  abbrev pub decided_view : ℕ → Call → Reply → View
+  decided_view n call reply = answered v h n (shown (home t) (age t) None ∷ v.pass.words) v.pass.most call reply
 
-    abbrev pub h' : List Entry
-    h' = h ++ e ∷ []
-
-    abbrev pub decided_view : View
-    decided_view = record v { pass = record v.pass { calls = v.pass.calls ++ e ∷ []; history = h'; words = shown (home t) (age t) None ∷ v.pass.words } }
-
-    abbrev v' : View
-    v' = decided_view
-
-    none_more : (k1 : List ℕ) → commits k1 (e ∷ []) ≡ []
-    none_more k1 = ap (λ (o : Option Version). cond (same_key (named call) k1) (joined o []) []) cm ∙ both (same_key (named call) k1)
-      where
-        both : (b : Bool) → ◌≡◌ {A = List Version} (cond b (joined None []) []) []
-        both true = refl
-        both false = refl
-
-    told' : (s1 : ℕ) (k1 : List ℕ) → st.keys s1 ≡ Some k1 → st.log s1 ≡ st.first s1 ++ commits k1 h'
-    told' s1 k1 q = r.tale.told s1 k1 q ∙ ap (λ (ws : List Version). st.first s1 ++ ws) (sym (commits_snoc k1 h e ∙ ap (λ (ws : List Version). commits k1 h ++ ws) (none_more k1) ∙ append-nil (commits k1 h)))
-
-    tale' : Tale st m0 used h'
-    tale' = record {
-      legal = legal_snoc m0 used h e r.tale.legal (subst (λ (j : List ℕ). Does (leads m0 h j) (used_by used h) call reply) (sym nm) does);
-      told = told';
-      began = r.tale.began;
-      unread = unread_snoc (unsure st) (unsure st) h e r.tale.unread (λ x1 a b. let z = unread_after x1 a b in (z.0, λ q. z.1 (sym nm ∙ q)));
-      settled = r.tale.settled;
-      unbound = λ k1 f. let z = r.tale.unbound k1 f in (z.0, commits_snoc k1 h e ∙ ap (λ (ws : List Version). commits k1 h ++ ws) (none_more k1) ∙ append-nil (commits k1 h) ∙ z.1);
-    }
-
-    grows : Grows m st h m st h'
-    grows = record { versions = λ s1 i1 w1 q. q; sure = λ j. omega arith; gone = λ j. omega arith; gens = λ b. omega arith; names = prefix_self st.bindings; count = omega arith; history = (e ∷ [], refl) }
-
-    new_ok : ViewOk m st h' id v'
-    new_ok = record {
-      stocked = ok.stocked;
-      apart = ok.apart;
-      durable = ok.durable;
-      links = ok.links;
-      written = ok.written;
-      flushed = ok.flushed;
-      copied = ok.copied;
-      names = ok.names;
-      added = ok.added;
-      most = ok.most;
-      words = ((let a = ap gen found in omega arith, inl refl), ok.words);
-      history = prefix_self h';
-      calls = subst (λ (o : Role). OwnCalls o v.pass.calls h → OwnCalls o (v.pass.calls ++ e ∷ []) h') (sym role) (λ q. ap (λ (xs : List Entry). xs ++ e ∷ []) q ∙ sym (own_snoc n h e ∙ ap (λ (b : Bool). own n h ++ cond b (e ∷ []) []) (eq-eqb n n refl))) ok.calls;
-    }
-
-    views' : (i1 : ℕ) (v1 : View) → nth (renewed vs id v') i1 ≡ Some v1 → ViewOk m st h' i1 v1
-    views' i1 v1 q = go (nth_set vs id i1 v' v1 q)
-      where
-        go : ((i1 ≡ id) × (v' ≡ v1)) ⊎ ((i1 ≢ id) × (nth vs i1 ≡ Some v1)) → ViewOk m st h' i1 v1
-        go (inl a) = rw (a.0, ← a.1) new_ok
-        go (inr a) = view_kept m st h m st h' grows i1 v1 (λ b o. record { place = o; next = refl; body = λ y. refl; fbody = λ y. refl })
-            (λ c f. own_snoc c h e ∙ ap (λ (b : Bool). own c h ++ cond b (e ∷ []) []) (ne_eqb n c (λ g. a.0 (r.numbered i1 id n v1 v a.1 at (f ∙ ap Client (sym g)) role))) ∙ append-nil (own c h)) (r.views i1 v1 a.1)
-
-    pub decide_rule : Basis m0 used m (renewed vs id v') st h'
-    decide_rule = record {
-      core = r.core;
-      tale = tale';
-      bodies = r.bodies;
-      spent = subst (Each (Spent m st)) (sym (used_snoc used h e ∙ ap (grown (used_by used h)) cm)) r.spent;
-      bound = r.bound;
-      keyed = r.keyed;
-      views = views';
-      numbered = λ i1 j1 c a b qa qb ra rb. let x1 = role_was vs id v v' at refl i1 a qa in let y1 = role_was vs id v v' at refl j1 b qb in r.numbered i1 j1 c x1.0 y1.0 x1.1 y1.1 (x1.2 ∙ ra) (y1.2 ∙ rb);
-      longest = (id, v', set_here vs id v' v at, refl);
-    }
+  pub decide_rule : (n : ℕ) → v.pass.role ≡ Client n → (call : Call) (reply : Reply) → named call ≡ k → committed call reply ≡ None → Does (leads m0 h k) (used_by used h) call reply
+      → Basis m0 used m (renewed vs id (decided_view n call reply)) st (h ++ link_entry v n call reply ∷ [])
+  decide_rule n role = answered_rule m0 used m vs st h r id v at n role k unread_after (shown (home t) (age t) None ∷ v.pass.words) ((let a = ap gen found in omega arith, inl refl), ok.words) v.pass.most ok.most

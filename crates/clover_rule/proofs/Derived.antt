@@ -12,7 +12,7 @@ use Rattle.clover_rule.specs.Memory.{Next, word, gen, link, Mem}
 use Rattle.clover_rule.specs.Chains.{Walk, ChainsStand, AllButLast, Falls}
 use Rattle.clover_rule.specs.Holding.{recycled_by}
 use Rattle.clover_rule.specs.Known.{IsKnown, IsTarget}
-use Rattle.clover_rule.specs.declared.view.Task.{Task}
+use Rattle.clover_rule.specs.declared.view.ServerTask.{ServerTask}
 use Rattle.clover_rule.specs.Story.{Place, Chained, Stocked, Free, Worn, Taken, Loose, Story, tag_in_version, tag_at, only, Core, Durable}
 use Rattle.clover_rule.specs.Views.{IsLink, Past}
 use Rattle.clover_rule.specs.declared.view.Link.{Link}
@@ -64,7 +64,7 @@ module _ (m : Mem) (st : Story) (c : Core m st) where
   is_held s i t e g h = let d = c.led s in let q : i ≡ st.gone s = omega arith in let n : st.lead s ≢ st.gone s = λ z. omega arith in rw (ne_eqb (st.lead s) (st.gone s) n) (ap (tag_at st s) (sym q) ∙ e)
 
   -- what leaves is the task's version under recycling
-  pub known : (T : Task) → ((s t : ℕ) → held s ≡ Some t → recycled_by T s ≡ Some t) → (s t : ℕ) → Durable st s t → IsKnown m chain T s t
+  pub known : (T : ServerTask) → ((s t : ℕ) → held s ≡ Some t → recycled_by T s ≡ Some t) → (s t : ℕ) → Durable st s t → IsKnown m chain T s t
   known T task s t d = go (dec_le (st.gone s) d.0) (dec_le (st.lead s) d.0) (ℕ_discrete (st.lead s) d.0)
     where
       behind : (i : ℕ) → tag_at st s i ≡ Some t → i < st.sure s → st.lead s < i → IsKnown m chain T s t
@@ -85,7 +85,7 @@ module _ (m : Mem) (st : Story) (c : Core m st) where
       go (yes a) (yes x) (yes y) = IsKnown.leads (c.root s ∙ ap (tag_at st s) y ∙ d.1)
       go (yes a) (yes x) (no y) = behind d.0 d.1 d.2 (omega arith)
 
-  pub target : (T : Task) → ((s t : ℕ) → held s ≡ Some t → recycled_by T s ≡ Some t) → (l : Link) → IsLink st l → IsTarget m chain T l.slot l.to
+  pub target : (T : ServerTask) → ((s t : ℕ) → held s ≡ Some t → recycled_by T s ≡ Some t) → (l : Link) → IsLink st l → IsTarget m chain T l.slot l.to
   target T task l d = go (dec_le (st.gone l.slot) (suc d.0)) (dec_le (st.lead l.slot) (suc d.0))
     where
       go : Dec (st.gone l.slot ≤ suc d.0) → Dec (st.lead l.slot ≤ suc d.0) → IsTarget m chain T l.slot l.to

@@ -28,7 +28,7 @@ use Rattle.clover_rule.specs.Story.{Story}
 use Rattle.clover_rule.specs.Words.{mem_of, next_of}
 use Rattle.clover_rule.specs.declared.view.Link.{Link}
 use Rattle.clover_rule.specs.declared.view.Recycling.{Recycling}
-use Rattle.clover_rule.specs.declared.view.Task.TheVariants.{Both}
+use Rattle.clover_rule.specs.declared.view.ServerTask.TheVariants.{Both}
 use Rattle.clover_rule.specs.declared.view.View.{View}
 use Rattle.clover_rule.proofs.Acting.{step_side}
 use Rattle.clover_rule.proofs.AllKeeps.{no_restart}
@@ -36,7 +36,7 @@ use Rattle.clover_rule.proofs.Keeping.{inside_of, link_code}
 use Rattle.clover_rule.proofs.Keeps.{at_tail, by_test, own_range, raised_words, room}
 use Rattle.clover_rule.proofs.RaiseLaw.{known}
 use Rattle.clover_rule.proofs.ServerKeeps.{flushed_link_words, freed_words, link_stood, passed_words}
-use Rattle.clover_rule.proofs.Ties.{kind_of, content_kind, next_kept, fnext_kept, next_again, write_next}
+use Rattle.clover_rule.proofs.Ties.{kind_of, content_kind, next_else, fnext_else, next_again, write_next}
 use Rattle.clover_rule.proofs.Tools.{upd_same, upd_else}
 
 module _ (p : Pool) (first : Tagged) (used : List ℕ) (ws : List ℕ) (vs : List View) (st : Story) (h : List Entry) (r : Meets p first used ws vs st h) (id : ℕ) (v : View) (at : nth vs id ≡ Some v) where
@@ -55,7 +55,7 @@ module _ (p : Pool) (first : Tagged) (used : List ℕ) (ws : List ℕ) (vs : Lis
 
   -- a step on a word of another kind
   elsewhere : (a : Step) → kind_of (word_of a) ≢ 0 → IsWithin p (word_of a) → (n : ℕ) → Rose (mem_of p (slice_set ws (address_of p (word_of a) (side_of a)) n))
-  elsewhere a k hw n b = (inl (next_kept p ws (word_of a) (side_of a) n hw (step_side a) (inl k) b), inl (fnext_kept p ws (word_of a) (side_of a) n hw (step_side a) (inl k) b))
+  elsewhere a k hw n b = (inl (next_else p ws (word_of a) (side_of a) n hw (step_side a) b (λ e z. k (ap kind_of (sym e)))), inl (fnext_else p ws (word_of a) (side_of a) n hw (step_side a) b (λ e z. k (ap kind_of (sym e)))))
 
   -- a current copy that rose
   current : (b0 : ℕ) (n : Next) → order (m.next b0) < order n → Rose (record m { next = upd m.next b0 n })

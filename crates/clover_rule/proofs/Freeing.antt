@@ -19,7 +19,7 @@ use Rattle.clover_rule.specs.Views.{free_or_worn, Past, Book, book, Basis, renew
 use Rattle.clover_rule.specs.declared.view.BufferState.TheVariants.{Free as IsFree, Worn as IsWorn, Bound as IsBound, Out as IsOut}
 use Rattle.clover_rule.specs.declared.view.Recycling.{Recycling}
 use Rattle.clover_rule.specs.declared.view.Role.TheVariants.{Serving}
-use Rattle.clover_rule.specs.declared.view.Task.TheVariants.{Idle, Both, Exchanged}
+use Rattle.clover_rule.specs.declared.view.ServerTask.TheVariants.{Idle, Both, Exchanged}
 use Rattle.clover_rule.specs.declared.view.View.{View}
 use Rattle.clover_words.specs.declared.pool.Pool.{Pool}
 use Rattle.clover_rule.proofs.Tools.{upd_same, upd_else}

@@ -14,8 +14,8 @@ use Rattle.clover_rule.specs.Story.{Place, Chained, Stocked, Free, Worn, Taken, 
 use Rattle.clover_rule.specs.Views.{Owned, ViewOk, Spent, Numbered, handed}
 use Rattle.clover_rule.specs.Moves.{making, client_of}
 use Rattle.clover_rule.specs.declared.view.Role.TheVariants.{Client, Serving}
-use Rattle.clover_rule.specs.declared.view.Task.{Task}
-use Rattle.clover_rule.specs.declared.view.Task.TheVariants.{Idle, Storing, Rooted, Waiting, Loaded, Raised, Led, Both, Exchanged}
+use Rattle.clover_rule.specs.declared.view.ServerTask.{ServerTask}
+use Rattle.clover_rule.specs.declared.view.ServerTask.TheVariants.{Idle, Storing, Rooted, Waiting, Loaded, Raised, Led, Both, Exchanged}
 use Rattle.clover_rule.specs.declared.view.View.{View}
 use Rattle.clover_words.specs.declared.pool.Pool.{Pool}
 use Rattle.clover_rule.proofs.Tools.{upd_same, upd_else, nth_within, nth_snoc, nth_front}
@@ -79,7 +79,7 @@ module _ (l : Pool) (m0 : Map) (used : List ℕ) (m : Mem) (vs : List View) (st 
     short = p.short;
   }
     where
-      here : (T : Task) → AtStage l m st T → AtStage l m st' T
+      here : (T : ServerTask) → AtStage l m st T → AtStage l m st' T
       here Idle a = tt
       here (Storing bind n1) a = record { place = held_kept (home bind.tag) a.place; now = a.now; safe = a.safe; range = a.range; slot = a.slot; bare = a.bare; unnamed = a.unnamed; absent = a.absent; valid = a.valid; body = a.body; fbody = a.fbody; key = a.key; fkey = a.fkey }
       here (Rooted bind) a = (record { key = a.0.key; unnamed = a.0.unnamed; alone = a.0.alone; tag = a.0.tag; gone = a.0.gone }, a.1)

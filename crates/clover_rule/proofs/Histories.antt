@@ -8,12 +8,13 @@ use Rattle.clover_map.specs.declared.call.Call.TheVariants.{Get, Put, Delete, Sw
 use Rattle.clover_map.specs.declared.call.Reply.TheVariants.{Stored, Found, Absent, Deleted, Differs}
 use Rattle.clover_map.specs.declared.bytes.Held.{Held}
 use Rattle.clover_rule.proofs.Keys.{ne_key}
-use Rattle.clover_rule.specs.History.{Version, Map, key_of, commit_of, changed, Does, Fresh, Legal, after, grown, pair_of, same_key, commits, ends, kept, lost_in, Silent, Unread, Last, joined, used_by, leads}
+use Rattle.std.specs.Str.{bytes_eq}
+use Rattle.clover_rule.specs.History.{Version, Map, key_of, commit_of, changed, Does, Fresh, Legal, after, grown, pair_of, commits, ends, kept, lost_in, Silent, Unread, Last, joined, used_by, leads}
 use Rattle.clover_rule.specs.Lists.{Each, nth}
 
-ends_changed : (m : Map) (j k : List ℕ) (c : Option Version) (ws : List Version) → ends (changed m j c k) ws ≡ ends (m k) (cond (same_key j k) (joined c ws) ws)
-ends_changed m j k None ws = elim (same_key j k) as (λ b. ends (m k) ws ≡ ends (m k) (cond b ws ws)) [ true ↦ refl | false ↦ refl ]
-ends_changed m j k (Some w) ws = elim (same_key j k) as (λ b. ends (cond b (pair_of w) (m k)) ws ≡ ends (m k) (cond b (w ∷ ws) ws)) [ true ↦ refl | false ↦ refl ]
+ends_changed : (m : Map) (j k : List ℕ) (c : Option Version) (ws : List Version) → ends (changed m j c k) ws ≡ ends (m k) (cond (bytes_eq j k) (joined c ws) ws)
+ends_changed m j k None ws = elim (bytes_eq j k) as (λ b. ends (m k) ws ≡ ends (m k) (cond b ws ws)) [ true ↦ refl | false ↦ refl ]
+ends_changed m j k (Some w) ws = elim (bytes_eq j k) as (λ b. ends (cond b (pair_of w) (m k)) ws ≡ ends (m k) (cond b (w ∷ ws) ws)) [ true ↦ refl | false ↦ refl ]
 
 -- what a history leads to at a key
 pub leads_commits : (m : Map) (h : List Entry) (k : List ℕ) → leads m h k ≡ ends (m k) (commits k h)
@@ -36,7 +37,7 @@ commits_step (Some w) false xs ys = refl
 
 pub commits_snoc : (k : List ℕ) (h : List Entry) (e : Entry) → commits k (h ++ e ∷ []) ≡ commits k h ++ commits k (e ∷ [])
 commits_snoc k [] e = refl
-commits_snoc k (x ∷ h) e = rw (commits_snoc k h e) (commits_step (commit_of x) (same_key (key_of x) k) (commits k h) (commits k (e ∷ [])))
+commits_snoc k (x ∷ h) e = rw (commits_snoc k h e) (commits_step (commit_of x) (bytes_eq (key_of x) k) (commits k h) (commits k (e ∷ [])))
 
 pub ends_more : (x : Option Held) (vs ws : List Version) → ends x (vs ++ ws) ≡ ends (ends x vs) ws
 ends_more x [] ws = refl
@@ -85,7 +86,7 @@ fresh_less us vs (Some w) f t d = f t d.1
 
 changed_same : (m n : Map) (j k : List ℕ) (c : Option Version) → n k ≡ m k → changed n j c k ≡ changed m j c k
 changed_same m n j k None h = h
-changed_same m n j k (Some w) h = ap (λ (x : Option Held). cond (same_key j k) (pair_of w) x) h
+changed_same m n j k (Some w) h = ap (λ (x : Option Held). cond (bytes_eq j k) (pair_of w) x) h
 
 changed_else : (m : Map) (j k : List ℕ) (c : Option Version) → k ≢ j → changed m j c k ≡ m k
 changed_else m j k None h = refl

@@ -19,17 +19,60 @@ use Rattle.clover_rule.proofs.Steps.{each_map, nth_set, set_here, set_away}
 use Rattle.clover_rule.proofs.ServerTools.{book_same}
 use Rattle.clover_rule.proofs.Hands.{each_both, hand_whole, hand_view, hand_case, hand_owned}
 
+-- the view at a seat takes in the one at another, with its batch, and what is left of the other seat knows nothing
+module _ (l : Pool) (m0 : Map) (used : List ℕ) (m : Mem) (vs : List View) (st : Story) (h : List Entry) (w : Whole l m0 used m vs st h) (id j : ℕ) (apart_seats : j ≢ id) (v y : View) (at : nth vs id ≡ Some v) (there_at : nth vs j ≡ Some y)
+    (batch : List ℕ) (was : Each (λ (t : ℕ). st.place (home t) ≡ Stocked j) batch) where
+  abbrev after : Story
+  after = record st { place = handed st.place batch (Stocked id) }
+
+  module _ (joining : View) (role' : joining.pass.role ≡ v.pass.role) (server' : joining.server ≡ v.server) (knows : ViewOk m after h id joining)
+      (long_own : v.pass.history ≡ h → joining.pass.history ≡ h) (long_other : y.pass.history ≡ h → joining.pass.history ≡ h) where
+    abbrev views_then : List View
+    views_then = set (set vs id joining) j (spent v)
+
+    cases : (i : ℕ) (a : View) → nth views_then i ≡ Some a → ((i ≡ j) × (spent v ≡ a)) ⊎ (((i ≡ id) × (joining ≡ a)) ⊎ ((i ≢ id) × (i ≢ j) × (nth vs i ≡ Some a)))
+    cases i a e = ⊎_elim inl (λ d. inr (⊎_elim inl (λ f. inr (f.0, d.0, f.1)) (nth_set vs id i joining a d.1))) (nth_set (set vs id joining) j i (spent v) a e)
+
+    old : (i : ℕ) (a : View) → nth views_then i ≡ Some a → (Joined ≢ a.pass.role) → (z : View) × (nth vs i ≡ Some z) × (z.pass.role ≡ a.pass.role) × (z.server ≡ a.server)
+    old i a e d = ⊎_elim (λ b. absurd (d (ap (λ (q : View). q.pass.role) b.1))) (λ b. ⊎_elim (λ c. (v, ap (nth vs) c.0 ∙ at, sym role' ∙ ap (λ (q : View). q.pass.role) c.1, sym server' ∙ ap (λ (q : View). q.server) c.1)) (λ c. (a, c.2, refl, refl)) b) (cases i a e)
+
+    serves_kept : (sv : Server) → Serves l m st st.task sv → Serves l m after st.task sv
+    serves_kept sv e = record {
+      task_is = e.task_is;
+      directory = e.directory;
+      roots = e.roots;
+      books = λ b i. e.books b i ∙ ⊎_elim (λ d. ap (λ (q : Place). book_of st.task st q (gen (m.next b)) b) d.1 ∙ sym (ap (λ (q : Place). book_of st.task after q (gen (m.next b)) b) d.0))
+          (λ d. sym (book_same st.task st.task st after (st.place b) (gen (m.next b)) b (λ s q. refl) (λ q. refl)) ∙ sym (ap (λ (q : Place). book_of st.task after q (gen (m.next b)) b) d))
+          (hand_case l m0 used m vs st h w batch (Stocked j) id tt was b);
+    }
+
+    pub take_in : Whole l m0 used m views_then after h
+    take_in = let p = w.basis in hand_whole l m0 used m vs st h w batch (Stocked j) id tt was views_then
+        (λ i a e. ⊎_elim (λ b. rw (← b.1) (record { stocked = tt; apart = tt; durable = tt; links = tt; words = tt; written = tt; flushed = tt; copied = tt; names = (st.bindings, refl); added = inl refl; most = omega arith; history = (h, refl); calls = tt }))
+        (λ b. ⊎_elim (λ c. rw (c.0, ← c.1) knows) (λ c. hand_view l m0 used m vs st h w batch (Stocked j) id tt was i a (λ z. c.1 (let z1 : Stocked i ≡ Stocked j = z in cc)) (p.views i a c.2)) b) (cases i a e))
+        (λ i k c a b e f s t. let x = old i a e (λ z. absurd (cc (z, s))) in let z = old k b f (λ z. absurd (cc (z, t))) in p.numbered i k c x.0 z.0 x.1 z.1 (x.2 ∙ s) (z.2 ∙ t))
+        (let o = p.longest in longest_of o.0 o.1 o.2 o.3 (ℕ_discrete o.0 id) (ℕ_discrete o.0 j))
+        (λ i a e s. let x = old i a e (λ z. absurd (cc (z, s))) in subst (Serves l m after st.task) x.3 (serves_kept x.0.server (w.serves i x.0 x.1 (x.2 ∙ s))))
+        (λ i k a b e f s t. let x = old i a e (λ z. absurd (cc (z, s))) in let z = old k b f (λ z. absurd (cc (z, t))) in w.one i k x.0 z.0 x.1 z.1 (x.2 ∙ s) (z.2 ∙ t))
+        (λ i k c a b e f s t. let x = old i a e (λ z. absurd (cc (z, s))) in let z = old k b f (λ z. absurd (cc (z, t))) in subst (λ (q : Server). Within c q.clients) x.3 (w.made i k c x.0 z.0 x.1 z.1 (x.2 ∙ s) (z.2 ∙ t)))
+        (λ i a e s. let x = old i a e (λ z. absurd (cc (z, s))) in subst (λ (q : Server). Each (λ (g : Entry). Within g.client q.clients) h) x.3 (w.entered i x.0 x.1 (x.2 ∙ s)))
+      where
+        here : nth views_then id ≡ Some joining
+        here = set_away (set vs id joining) j id (spent v) (λ z. apart_seats (sym z)) ∙ set_here vs id joining v at
+
+        longest_of : (k : ℕ) (a : View) → nth vs k ≡ Some a → a.pass.history ≡ h → Dec (k ≡ id) → Dec (k ≡ j) → (i : ℕ) × (b : View) × (nth views_then i ≡ Some b) × (b.pass.history ≡ h)
+        longest_of k a q e (yes d) f = (id, joining, here, let z : v ≡ a = let zz : Some v ≡ Some a = sym at ∙ ap (nth vs) (sym d) ∙ q in cc in long_own (ap (λ (x : View). x.pass.history) z ∙ e))
+        longest_of k a q e (no d) (yes f) = (id, joining, here, let z : y ≡ a = let zz : Some y ≡ Some a = sym there_at ∙ ap (nth vs) (sym f) ∙ q in cc in long_other (ap (λ (x : View). x.pass.history) z ∙ e))
+        longest_of k a q e (no d) (no f) = (k, a, set_away (set vs id joining) j k (spent v) f ∙ set_away vs id k joining d ∙ q, e)
+
 -- a batch and names of a grant, or a refusal, are joined to a client's pass
 module _ (l : Pool) (m0 : Map) (used : List ℕ) (m : Mem) (vs : List View) (st : Story) (h : List Entry) (w : Whole l m0 used m vs st h) (id j : ℕ) (apart_seats : j ≢ id) (v y : View) (at : nth vs id ≡ Some v) (there_at : nth vs j ≡ Some y)
     (n : ℕ) (role : v.pass.role ≡ Client n) (granting : y.pass.role ≡ Granting) (fits : length v.pass.names ≡ y.pass.from) (bare : y.pass.history ≡ []) where
   abbrev joining : View
   joining = accepted v y
 
-  abbrev spent_view : View
-  spent_view = spent v
-
   abbrev pub joined_list : List View
-  joined_list = set (set vs id joining) j spent_view
+  joined_list = set (set vs id joining) j (spent v)
 
   okv : ViewOk m st h id v
   okv = w.basis.views id v at
@@ -75,44 +118,10 @@ module _ (l : Pool) (m0 : Map) (used : List ℕ) (m : Mem) (vs : List View) (st 
     calls = a.calls;
   }
 
-  cases : (i : ℕ) (a : View) → nth joined_list i ≡ Some a → ((i ≡ j) × (spent_view ≡ a)) ⊎ (((i ≡ id) × (joining ≡ a)) ⊎ ((i ≢ id) × (i ≢ j) × (nth vs i ≡ Some a)))
-  cases i a e = ⊎_elim inl (λ d. inr (⊎_elim inl (λ f. inr (f.0, d.0, f.1)) (nth_set vs id i joining a d.1))) (nth_set (set vs id joining) j i spent_view a e)
-
-  old : (i : ℕ) (a : View) → nth joined_list i ≡ Some a → (Joined ≢ a.pass.role) → (z : View) × (nth vs i ≡ Some z) × (z.pass.role ≡ a.pass.role) × (z.server ≡ a.server)
-  old i a e d = ⊎_elim (λ b. absurd (d (ap (λ (q : View). q.pass.role) b.1))) (λ b. ⊎_elim (λ c. (v, ap (nth vs) c.0 ∙ at, ap (λ (q : View). q.pass.role) c.1, ap (λ (q : View). q.server) c.1)) (λ c. (a, c.2, refl, refl)) b) (cases i a e)
-
-  serves_kept : (sv : Server) → Serves l m st st.task sv → Serves l m st1 st.task sv
-  serves_kept sv e = record {
-    task_is = e.task_is;
-    directory = e.directory;
-    roots = e.roots;
-    books = λ b i. e.books b i ∙ ⊎_elim (λ d. ap (λ (q : Place). book_of st.task st q (gen (m.next b)) b) d.1 ∙ sym (ap (λ (q : Place). book_of st.task st1 q (gen (m.next b)) b) d.0))
-        (λ d. sym (book_same st.task st.task st st1 (st.place b) (gen (m.next b)) b (λ s q. refl) (λ q. refl)) ∙ sym (ap (λ (q : Place). book_of st.task st1 q (gen (m.next b)) b) d))
-        (hand_case l m0 used m vs st h w y.pass.stock (Stocked j) id tt was b);
-  }
+  empty_prefix : (xs zs : List Entry) → [] ≡ xs ++ zs → xs ≡ []
+  empty_prefix [] zs f = refl
+  empty_prefix (x ∷ xs) zs f = absurd (let g = ap length f in omega arith)
 
   pub join_whole : Whole l m0 used m joined_list st1 h
-  join_whole = let p = w.basis in hand_whole l m0 used m vs st h w y.pass.stock (Stocked j) id tt was joined_list
-      (λ i a e. ⊎_elim (λ b. rw (← b.1) (record { stocked = tt; apart = tt; durable = tt; links = tt; words = tt; written = tt; flushed = tt; copied = tt; names = (st.bindings, refl); added = inl refl; most = omega arith; history = (h, refl); calls = tt }))
-      (λ b. ⊎_elim (λ c. rw (c.0, ← c.1) ok_join) (λ c. hand_view l m0 used m vs st h w y.pass.stock (Stocked j) id tt was i a (λ z. c.1 (let z1 : Stocked i ≡ Stocked j = z in cc)) (p.views i a c.2)) b) (cases i a e))
-      (λ i k c a b e f s t. let x = old i a e (λ z. absurd (cc (z, s))) in let z = old k b f (λ z. absurd (cc (z, t))) in p.numbered i k c x.0 z.0 x.1 z.1 (x.2 ∙ s) (z.2 ∙ t))
-      (let o = p.longest in longest_of o.0 o.1 o.2 o.3 (ℕ_discrete o.0 id) (ℕ_discrete o.0 j))
-      (λ i a e s. let x = old i a e (λ z. absurd (cc (z, s))) in subst (Serves l m st1 st.task) x.3 (serves_kept x.0.server (w.serves i x.0 x.1 (x.2 ∙ s))))
-      (λ i k a b e f s t. let x = old i a e (λ z. absurd (cc (z, s))) in let z = old k b f (λ z. absurd (cc (z, t))) in w.one i k x.0 z.0 x.1 z.1 (x.2 ∙ s) (z.2 ∙ t))
-      (λ i k c a b e f s t. let x = old i a e (λ z. absurd (cc (z, s))) in let z = old k b f (λ z. absurd (cc (z, t))) in subst (λ (q : Server). Within c q.clients) x.3 (w.made i k c x.0 z.0 x.1 z.1 (x.2 ∙ s) (z.2 ∙ t)))
-      (λ i a e s. let x = old i a e (λ z. absurd (cc (z, s))) in subst (λ (q : Server). Each (λ (g : Entry). Within g.client q.clients) h) x.3 (w.entered i x.0 x.1 (x.2 ∙ s)))
-    where
-      here : nth joined_list id ≡ Some joining
-      here = set_away (set vs id joining) j id spent_view (λ z. apart_seats (sym z)) ∙ set_here vs id joining v at
-
-      empty_prefix : IsPrefix v.pass.history [] → v.pass.history ≡ []
-      empty_prefix (zs, e) = go v.pass.history zs e
-        where
-          go : (xs zs : List Entry) → [] ≡ xs ++ zs → xs ≡ []
-          go [] zs f = refl
-          go (x ∷ xs) zs f = absurd (let g = ap length f in omega arith)
-
-      longest_of : (k : ℕ) (a : View) → nth vs k ≡ Some a → a.pass.history ≡ h → Dec (k ≡ id) → Dec (k ≡ j) → (i : ℕ) × (b : View) × (nth joined_list i ≡ Some b) × (b.pass.history ≡ h)
-      longest_of k a q e (yes d) f = (id, joining, here, let z : v ≡ a = let zz : Some v ≡ Some a = sym at ∙ ap (nth vs) (sym d) ∙ q in cc in ap (λ (x : View). x.pass.history) z ∙ e)
-      longest_of k a q e (no d) (yes f) = (id, joining, here, let z : y ≡ a = let zz : Some y ≡ Some a = sym there_at ∙ ap (nth vs) (sym f) ∙ q in cc in let g : [] ≡ h = sym bare ∙ ap (λ (x : View). x.pass.history) z ∙ e in empty_prefix (subst (IsPrefix v.pass.history) (sym g) okv.history) ∙ g)
-      longest_of k a q e (no d) (no f) = (k, a, set_away (set vs id joining) j k spent_view f ∙ set_away vs id k joining d ∙ q, e)
+  join_whole = take_in l m0 used m vs st h w id j apart_seats v y at there_at y.pass.stock was joining refl refl ok_join (λ e. e)
+      (λ e. let g : [] ≡ h = sym bare ∙ e in let p = subst (IsPrefix v.pass.history) (sym g) okv.history in empty_prefix v.pass.history p.0 p.1 ∙ g)

@@ -47,8 +47,7 @@ use Rattle.clover_rule.proofs.Learning.{seen_whole, started_whole, copied_whole,
 use Rattle.clover_rule.proofs.Calls.{put_decides, delete_decides, swap_decides, load_whole, found_get, absent_get, absent_delete, absent_swap, differs}
 use Rattle.clover_rule.proofs.CountLaw.{count_whole, absent_now}
 use Rattle.clover_rule.proofs.ClientLaws.{raise_whole}
-use Rattle.clover_rule.proofs.StoreLaw.{store_whole}
-use Rattle.clover_rule.proofs.FlushLaw.{flush_whole}
+use Rattle.clover_rule.proofs.StoreLaw.{store_whole, flush_whole}
 use Rattle.clover_rule.proofs.RaiseLaw.{known}
 
 -- a test of two numbers
@@ -269,7 +268,7 @@ module _ (p : Pool) (first : Tagged) (used : List ℕ) (ws : List ℕ) (vs : Lis
       let mem = write_body p ws x (home t) j q.0 q.1 (room (content_at (home t) j) Current hw hs) in (
         st,
         stepped p first used ws vs st h r id v at (content_at (home t) j) Current x hw hs (content_code (home t) j x) (stored_view v t j x) (record { role = refl; pool = refl; map = refl; used = refl; plan = refl }) st h (λ c i e. e) (λ z e q. q)
-            (subst (λ (z : Mem). Whole p m0 used z (renewed vs id (stored_view v t j x)) st h) (sym mem) (store_whole p m0 used m vs st h r.whole id v at (client v) cl t j x own)) b (act_of (StoreContent t j x) (found p (StoreContent t j x) ws)) 0,
+            (subst (λ (z : Mem). Whole p m0 used z (renewed vs id (stored_view v t j x)) st h) (sym mem) (store_whole p m0 used m vs st h r.whole id v at (client v) cl t own j x)) b (act_of (StoreContent t j x) (found p (StoreContent t j x) ws)) 0,
       )
 
   pub flush_content : (b : Bool) (t j x : ℕ) → IsWithin p (content_at (home t) j) → IsClient v → Within t v.pass.stock → After (FlushContent t j x) b x (flushed_view v t j x) 0 h
@@ -279,7 +278,7 @@ module _ (p : Pool) (first : Tagged) (used : List ℕ) (ws : List ℕ) (vs : Lis
       let mem = write_fbody p ws x (home t) j q.0 q.1 (room (content_at (home t) j) Flushed hw hs) in (
         st,
         stepped p first used ws vs st h r id v at (content_at (home t) j) Flushed x hw hs (content_code (home t) j x) (flushed_view v t j x) (record { role = refl; pool = refl; map = refl; used = refl; plan = refl }) st h (λ c i e. e) (λ z e q. q)
-            (subst (λ (z : Mem). Whole p m0 used z (renewed vs id (flushed_view v t j x)) st h) (sym mem) (flush_whole p m0 used m vs st h r.whole id v at (client v) cl t j x own)) b (act_of (FlushContent t j x) (found p (FlushContent t j x) ws)) 0,
+            (subst (λ (z : Mem). Whole p m0 used z (renewed vs id (flushed_view v t j x)) st h) (sym mem) (flush_whole p m0 used m vs st h r.whole id v at (client v) cl t own j x)) b (act_of (FlushContent t j x) (found p (FlushContent t j x) ws)) 0,
       )
 
   pub load_content : (b : Bool) (s t j : ℕ) → IsWithin p (content_at (home t) j) → IsClient v → Within (s, t) v.pass.durable → After (LoadContent s t j) b (found p (LoadContent s t j) ws) (learned (LoadContent s t j) h v (found p (LoadContent s t j) ws)) 0 h

@@ -1,35 +1,25 @@
 -- Keys are the same exactly where their test says so, and a function of keys changed at one key.
-use Rattle.std.proofs.Common.{◌≡◌, ◌≢◌, ℕ, List, [], ◌∷◌, ◌&&◌, true, false, eqb, refl, eq-eqb, ne_eqb}
-use native.Mathlib.Decide.{ℕ_discrete}
-use Rattle.clover_rule.specs.History.{same_key, at_key}
+use Rattle.std.proofs.Common.{◌≡◌, ◌≢◌, ℕ, List, Bool, true, false, refl, sym, ◌∙◌, true≢false}
+use Rattle.std.specs.Str.{bytes_eq}
+use Rattle.std.proofs.lemmas.Slice.Eq.{bytes_eq-Decides}
+use Rattle.clover_rule.specs.History.{at_key}
 
-pub eq_key : (a b : List ℕ) → a ≡ b → same_key a b ≡ true
-eq_key a b e = rw e (itself b)
-  where
-    itself : (c : List ℕ) → same_key c c ≡ true
-    itself [] = refl
-    itself (x ∷ xs) = rw (eq-eqb x x refl) (itself xs)
+pub eq_key : (a b : List ℕ) → a ≡ b → bytes_eq a b ≡ true
+eq_key a b = (bytes_eq-Decides a b).1
 
-pub ne_key : (a b : List ℕ) → a ≢ b → same_key a b ≡ false
-ne_key [] [] n = absurd (n refl)
-ne_key [] (y ∷ ys) n = refl
-ne_key (x ∷ xs) [] n = refl
-ne_key (x ∷ xs) (y ∷ ys) n = go (ℕ_discrete x y) (ne_key xs ys)
+pub ne_key : (a b : List ℕ) → a ≢ b → bytes_eq a b ≡ false
+ne_key a b n = go (bytes_eq a b) refl
   where
-    go : Dec (x ≡ y) → (xs ≢ ys → same_key xs ys ≡ false) → eqb x y && same_key xs ys ≡ false
-    go (yes e) f = rw (eq-eqb x y e) (f (λ q. n cc))
-    go (no d) f = rw (ne_eqb x y d) refl
+    go : (t : Bool) → bytes_eq a b ≡ t → bytes_eq a b ≡ false
+    go true e = absurd (n ((bytes_eq-Decides a b).0 e))
+    go false e = e
 
 pub key_discrete : (a b : List ℕ) → Dec (a ≡ b)
-key_discrete [] [] = yes refl
-key_discrete [] (y ∷ ys) = no (λ e. cc)
-key_discrete (x ∷ xs) [] = no (λ e. cc)
-key_discrete (x ∷ xs) (y ∷ ys) = go (ℕ_discrete x y) (key_discrete xs ys)
+key_discrete a b = go (bytes_eq a b) refl
   where
-    go : Dec (x ≡ y) → Dec (xs ≡ ys) → Dec (x ∷ xs ≡ y ∷ ys)
-    go (yes e) (yes q) = yes cc
-    go (yes e) (no n) = no (λ z. n cc)
-    go (no n) q = no (λ z. n cc)
+    go : (t : Bool) → bytes_eq a b ≡ t → Dec (a ≡ b)
+    go true e = yes ((bytes_eq-Decides a b).0 e)
+    go false e = no (λ q. true≢false (sym (eq_key a b q) ∙ e))
 
 module _ {A : Type 0} where
   pub at_key_same : (f : List ℕ → A) (k : List ℕ) (a : A) → at_key f k a k ≡ a

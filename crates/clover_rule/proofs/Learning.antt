@@ -19,7 +19,6 @@ use Rattle.clover_rule.proofs.Standings.{tag_there, tag_within}
 use Rattle.clover_rule.proofs.Steps.{each_map, each_within, set_here}
 use Rattle.clover_rule.proofs.Derived.{current_past}
 use Rattle.clover_rule.proofs.Quiet.{loaded_link, loaded_body}
-use Rattle.clover_rule.proofs.Raising.{most_kept}
 use Rattle.clover_rule.proofs.ClientLaws.{quiet_whole, short_whole}
 use Rattle.clover_rule.proofs.ServerTools.{core_copy, own_whole}
 
@@ -74,7 +73,7 @@ module _ (p : Pool) (m0 : Map) (used : List ℕ) (m : Mem) (vs : List View) (st 
 
   pub counts_whole : Whole p m0 used m (renewed vs id (counts v m.count)) st h
   counts_whole = quiet_whole p m0 used m vs st h w id v at (client v) cl (counts v m.count) refl refl
-      record { stocked = ok.stocked; apart = ok.apart; durable = ok.durable; links = ok.links; words = ok.words; written = ok.written; flushed = ok.flushed; copied = ok.copied; names = ok.names; added = ok.added; most = most_kept v.pass.most m.count m.count ok.most (omega arith); history = ok.history; calls = ok.calls }
+      record { stocked = ok.stocked; apart = ok.apart; durable = ok.durable; links = ok.links; words = ok.words; written = ok.written; flushed = ok.flushed; copied = ok.copied; names = ok.names; added = ok.added; most = let q = ok.most in omega arith; history = ok.history; calls = ok.calls }
 
   -- a shortcut that is stored
   pub lead_whole : (s t : ℕ) → Within (s, t) v.pass.durable → Whole p m0 used (record m { short = upd m.short s (Some t) }) (renewed vs id v) st h

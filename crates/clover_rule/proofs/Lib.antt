@@ -51,6 +51,7 @@ pub mod Soundness
 pub mod ClientSteps
 pub mod ClientLaws
 pub mod Commit
+pub mod Uncommitted
 pub mod Decide
 pub mod Calls
 pub mod Hands
@@ -62,6 +63,5 @@ pub mod Restarts
 pub mod StoreLaw
 pub mod Moved
 pub mod Notes
-pub mod FlushLaw
 pub mod Blank
 pub mod Spots

@@ -4,14 +4,15 @@ use Rattle.std.proofs.lemmas.Bool.{leb-true, leb-false}
 use Rattle.clover_map.specs.declared.call.Entry.{Entry}
 use Rattle.clover_rule.specs.Laws.{LongestLaw}
 use Rattle.clover_rule.specs.Lists.{Within, IsPrefix}
-use Rattle.clover_rule.specs.Rule.{longest, longer_of}
+use Rattle.clover_rule.specs.Rule.{longest}
+use Rattle.clover_rule.specs.History.{longer}
 use Rattle.clover_rule.specs.declared.view.View.{View}
 use Rattle.clover_rule.proofs.AbsentLaw.{whole_prefix}
 
-longer_begins : (a b h : List Entry) → IsPrefix a h → IsPrefix b h → IsPrefix (longer_of a b) h
+longer_begins : (a b h : List Entry) → IsPrefix a h → IsPrefix b h → IsPrefix (longer a b) h
 longer_begins a b h p q = elim (leb (length a) (length b)) as (λ (t : Bool). IsPrefix (cond t b a) h) [ true ↦ q | false ↦ p ]
 
-longer_long : (a b : List Entry) → (length a ≤ length (longer_of a b)) × (length b ≤ length (longer_of a b))
+longer_long : (a b : List Entry) → (length a ≤ length (longer a b)) × (length b ≤ length (longer a b))
 longer_long a b = go (leb (length a) (length b)) refl
   where
     go : (t : Bool) → leb (length a) (length b) ≡ t → (length a ≤ length (cond t b a)) × (length b ≤ length (cond t b a))

@@ -17,9 +17,9 @@ use Rattle.clover_rule.specs.Server.{Whole, waiting_name}
 use Rattle.clover_rule.specs.Story.{Place, Stocked, Story}
 use Rattle.clover_rule.specs.Views.{handed}
 use Rattle.clover_rule.specs.Words.{mem_of}
-use Rattle.clover_rule.specs.declared.view.Refusal.{Refusal}
+use Rattle.clover_rule.specs.declared.view.GrantRefusal.{GrantRefusal}
 use Rattle.clover_rule.specs.declared.view.Role.TheVariants.{Client, Serving}
-use Rattle.clover_rule.specs.declared.view.Task.{Task}
+use Rattle.clover_rule.specs.declared.view.ServerTask.{ServerTask}
 use Rattle.clover_rule.specs.declared.view.View.{View}
 use Rattle.clover_rule.proofs.Dropped.{dropped}
 use Rattle.clover_rule.proofs.GrantLaw.{all_there}
@@ -83,7 +83,7 @@ module _ (p : Pool) (first : Tagged) (used : List ℕ) (ws : List ℕ) (vs : Lis
 
   -- the bindings, as the server's directory has them
   bindings_are : v.pass.role ≡ Serving → (bs : List (ℕ × List ℕ)) → v.server.directory ≡ bs ++ waiting_name v.server.task → st.bindings ≡ bs
-  bindings_are role bs e = let s = r.whole.serves id v at role in cut_rest st.bindings bs (waiting_name st.task) (sym s.directory ∙ e ∙ ap (λ (t : Task). bs ++ waiting_name t) s.task_is)
+  bindings_are role bs e = let s = r.whole.serves id v at role in cut_rest st.bindings bs (waiting_name st.task) (sym s.directory ∙ e ∙ ap (λ (t : ServerTask). bs ++ waiting_name t) s.task_is)
 
   -- a split over the same words
   split_met : (left right : View) → OfRun p first used left → OfRun p first used right → left.plan ≡ [] → right.plan ≡ [] → (st1 : Story) → InStocks (split vs id left right) st1 → Whole p (shows first) used m (split vs id left right) st1 h → Meets p first used ws (split vs id left right) st1 h
@@ -257,7 +257,7 @@ module _ (p : Pool) (first : Tagged) (used : List ℕ) (ws : List ℕ) (vs : Lis
   views_are = ap (λ (xs : List View). set xs (length front) (spent cv)) (set_front front grant_view taken j inside_front) ∙ set_last (set front j taken) grant_view (spent cv) (length front) (sym (length-set front j taken))
 
   taken_is : taken ≡ given batch names cv
-  taken_is = ap (λ (xs : List Refusal). record cv { pass = record cv.pass { stock = cv.pass.stock ++ batch; names = cv.pass.names ++ names; refusals = xs } }) (append-nil cv.pass.refusals)
+  taken_is = ap (λ (xs : List GrantRefusal). record cv { pass = record cv.pass { stock = cv.pass.stock ++ batch; names = cv.pass.names ++ names; refusals = xs } }) (append-nil cv.pass.refusals)
 
   pub hand_met : (st1 : Story) × Meets p first used ws (set (set vs i (giving batch sv)) j (given batch names cv)) st1 h
   hand_met = (

@@ -21,7 +21,7 @@ use Rattle.clover_rule.specs.Views.{Apart, book, free_or_worn}
 use Rattle.clover_rule.specs.Words.{mem_of}
 use Rattle.clover_rule.specs.declared.view.BufferState.TheVariants.{Free as IsFree, Worn as IsWorn, Bound as IsBound, Out as IsOut}
 use Rattle.clover_rule.specs.declared.view.Server.{Server}
-use Rattle.clover_rule.specs.declared.view.Task.TheVariants.{Idle}
+use Rattle.clover_rule.specs.declared.view.ServerTask.TheVariants.{Idle}
 use Rattle.clover_rule.specs.declared.view.View.{View}
 use Rattle.clover_rule.proofs.Opening.{open_core, open_whole, opened, placed, rest_place, versions_tag}
 use Rattle.clover_rule.proofs.Tools.{nth_within, nth_some}

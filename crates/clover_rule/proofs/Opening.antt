@@ -20,7 +20,7 @@ use Rattle.clover_rule.specs.declared.view.Content.{Content}
 use Rattle.clover_rule.specs.declared.view.Role.{Role}
 use Rattle.clover_rule.specs.declared.view.Role.TheVariants.{Client, Serving, Granting, Noting, Joined, Restarting}
 use Rattle.clover_rule.specs.declared.view.Shown.{Shown}
-use Rattle.clover_rule.specs.declared.view.Task.TheVariants.{Idle}
+use Rattle.clover_rule.specs.declared.view.ServerTask.TheVariants.{Idle}
 use Rattle.clover_rule.specs.declared.view.View.{View}
 use Rattle.clover_words.specs.declared.pool.Pool.{Pool}
 use Rattle.clover_rule.proofs.Tools.{nth_within}

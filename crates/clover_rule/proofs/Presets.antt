@@ -6,7 +6,8 @@ use Rattle.std.specs.Prelude.{Option, Some, None}
 use Rattle.clover_words.specs.declared.pool.Pool.{Pool}
 use Rattle.clover_words.specs.Tag.{home, age}
 use Rattle.clover_rule.specs.Content.{Spells, InRange, inside}
-use Rattle.clover_rule.specs.History.{shows, Map, same_key, ends}
+use Rattle.std.specs.Str.{bytes_eq}
+use Rattle.clover_rule.specs.History.{shows, Map, ends}
 use Rattle.clover_rule.specs.Image.{Image, Chain}
 use Rattle.clover_rule.specs.Lists.{nth, Within}
 use Rattle.clover_rule.specs.Meets.{InStocks}
@@ -28,14 +29,14 @@ use Rattle.clover_rule.proofs.TwelveParts.{rule_holds}
 -- the first slot with a key
 position : List ℕ → ℕ → List (List ℕ) → ℕ
 position k s [] = s
-position k s (j ∷ ks) = cond (same_key j k) s (position k (suc s) ks)
+position k s (j ∷ ks) = cond (bytes_eq j k) s (position k (suc s) ks)
 
 position_here : (keys : List (List ℕ)) (k : List ℕ) (s n : ℕ) → ((r : ℕ) → nth keys r ≡ Some k → r ≡ n) → nth keys n ≡ Some k → position k s keys ≡ n + s
 unfolding position
 position_here [] k s n f e = absurd cc
 position_here (j ∷ ks) k s n f e = go (key_discrete j k) n f e (λ m g z. position_here ks k (suc s) m g z)
   where
-    go : Dec (j ≡ k) → (n : ℕ) → ((r : ℕ) → nth (j ∷ ks) r ≡ Some k → r ≡ n) → nth (j ∷ ks) n ≡ Some k → ((m : ℕ) → ((r : ℕ) → nth ks r ≡ Some k → r ≡ m) → nth ks m ≡ Some k → position k (suc s) ks ≡ m + suc s) → cond (same_key j k) s (position k (suc s) ks) ≡ n + s
+    go : Dec (j ≡ k) → (n : ℕ) → ((r : ℕ) → nth (j ∷ ks) r ≡ Some k → r ≡ n) → nth (j ∷ ks) n ≡ Some k → ((m : ℕ) → ((r : ℕ) → nth ks r ≡ Some k → r ≡ m) → nth ks m ≡ Some k → position k (suc s) ks ≡ m + suc s) → cond (bytes_eq j k) s (position k (suc s) ks) ≡ n + s
     go (yes d) n f e rest = ap (λ (b : Bool). cond b s (position k (suc s) ks)) (eq_key j k d) ∙ (let z : 0 ≡ n = f 0 (ap Some d) in omega arith)
     go (no d) zero f e rest = absurd (d (let z : Some j ≡ Some k = e in cc))
     go (no d) (suc n) f e rest = ap (λ (b : Bool). cond b s (position k (suc s) ks)) (ne_key j k d) ∙ rest n (λ r z. let q = f (suc r) z in omega arith) e ∙ (let q : n + suc s ≡ suc n + s = omega arith in q)

@@ -1,9 +1,8 @@
 -- The law of the raise over a link.
-use Rattle.std.proofs.Common.{◌≡◌, ℕ, suc, ◌<◌, ◌≤◌, ◌≢◌, ◌⊎◌, List, true, refl, ◌∙◌, inl, inr, arith}
-use native.Mathlib.Decide.{ℕ_discrete}
+use Rattle.std.proofs.Common.{◌≡◌, ℕ, suc, ◌<◌, ◌≢◌, ◌⊎◌, List, true, refl, ◌∙◌, inl, inr, arith}
 use Rattle.std.specs.Prelude.{Some}
 use Rattle.clover_map.specs.declared.call.Entry.{Entry}
-use Rattle.clover_rule.specs.Changes.{raised_mem, raised_story, greatest}
+use Rattle.clover_rule.specs.Changes.{raised_mem, raised_story}
 use Rattle.clover_rule.specs.History.{Map}
 use Rattle.clover_rule.specs.Lists.{nth, Within}
 use Rattle.clover_rule.specs.Memory.{Mem}
@@ -11,9 +10,8 @@ use Rattle.clover_rule.specs.Story.{Stocked, Story, Core, Tale, unsure}
 use Rattle.clover_rule.specs.Views.{IsLink, ViewOk, Basis, renewed, raise_view}
 use Rattle.clover_rule.specs.declared.view.Link.{Link}
 use Rattle.clover_rule.specs.declared.view.View.{View}
-use Rattle.clover_rule.proofs.Tools.{upd_same, upd_else}
 use Rattle.clover_rule.proofs.Steps.{each_within, prefix_self, Grows, Leaves, view_kept, nth_set, role_was, longest_was}
-use Rattle.clover_rule.proofs.Raising.{raise_core, most_left, most_right}
+use Rattle.clover_rule.proofs.Raising.{raise_core, raised_more, raised_now}
 use Rattle.clover_rule.proofs.Cuts.{unread_less, unsure_less}
 
 module _ (m0 : Map) (used : List ℕ) (m : Mem) (vs : List View) (st : Story) (h : List Entry) (r : Basis m0 used m vs st h)
@@ -39,18 +37,11 @@ module _ (m0 : Map) (used : List ℕ) (m : Mem) (vs : List View) (st : Story) (h
   core' : Core m' st'
   core' = raise_core m st l.slot i l.from l.to r.core record { from = known.1; to = known.2 }
 
-  sure_more : (s : ℕ) → st.sure s ≤ st'.sure s
-  sure_more s = go (ℕ_discrete s l.slot)
-    where
-      go : Dec (s ≡ l.slot) → st.sure s ≤ st'.sure s
-      go (yes d) = rw d (rw (upd_same st.sure l.slot (greatest (st.sure l.slot) (suc (suc i)))) (most_left (st.sure l.slot) (suc (suc i))))
-      go (no n) = let q : st'.sure s ≡ st.sure s = upd_else st.sure l.slot s (greatest (st.sure l.slot) (suc (suc i))) n in omega arith
-
   now_sure : suc i < st'.sure l.slot
-  now_sure = rw (upd_same st.sure l.slot (greatest (st.sure l.slot) (suc (suc i)))) (most_right (st.sure l.slot) (suc (suc i)))
+  now_sure = raised_now st l.slot i
 
   less_unsure : (t : ℕ) → unsure st' t ≡ true → unsure st t ≡ true
-  less_unsure t q = let a = sure_more (st.slot_of t) in unsure_less (st.sure (st.slot_of t)) (st'.sure (st.slot_of t)) (st.rank t) a q
+  less_unsure t q = let a = raised_more st l.slot i (st.slot_of t) in unsure_less (st.sure (st.slot_of t)) (st'.sure (st.slot_of t)) (st.rank t) a q
 
   tale' : Tale st' m0 used h
   tale' = record {
@@ -58,12 +49,12 @@ module _ (m0 : Map) (used : List ℕ) (m : Mem) (vs : List View) (st : Story) (h
     told = r.tale.told;
     began = r.tale.began;
     unread = unread_less (unsure st) (unsure st') less_unsure h r.tale.unread;
-    settled = λ s j w e. let a = r.tale.settled s j w e in let b = sure_more s in omega arith;
+    settled = λ s j w e. let a = r.tale.settled s j w e in let b = raised_more st l.slot i s in omega arith;
     unbound = r.tale.unbound;
   }
 
   pub grows : Grows m st h m' st' h
-  grows = record { versions = λ s1 i1 w1 q. q; sure = sure_more; gone = λ j. omega arith; gens = λ b. omega arith; names = prefix_self st.bindings; count = omega arith; history = prefix_self h }
+  grows = record { versions = λ s1 i1 w1 q. q; sure = raised_more st l.slot i; gone = λ j. omega arith; gens = λ b. omega arith; names = prefix_self st.bindings; count = omega arith; history = prefix_self h }
 
   leaves : (j b : ℕ) → st.place b ≡ Stocked j → Leaves m st m' st' j b
   leaves j b o = record { place = o; next = refl; body = λ y. refl; fbody = λ y. refl }

@@ -1,11 +1,11 @@
 -- The law of the raise step on the core facts.
-use Rattle.std.proofs.Common.{◌≡◌, ℕ, suc, ◌<◌, ◌≤◌, ◌≢◌, ◌⊎◌, length, Bool, true, false, ltb, refl, sym, ap, ◌∙◌, inl, inr, ⊎_elim, arith, subst}
+use Rattle.std.proofs.Common.{◌≡◌, ℕ, suc, ◌<◌, ◌≤◌, ◌≢◌, ◌⊎◌, length, Bool, true, false, cond, ltb, refl, sym, ap, ◌∙◌, inl, inr, ⊎_elim, arith, subst}
 use native.Mathlib.Decide.{ℕ_discrete, dec_le}
 use mathlib.Core.Logic.{dite}
-use Rattle.std.specs.Prelude.{Option, Some, None}
+use Rattle.std.specs.Prelude.{Option, Some, None, max}
 use Rattle.std.proofs.lemmas.Bool.Decides.{nat_tests}
 use Rattle.clover_words.specs.Tag.{home, age}
-use Rattle.clover_rule.specs.Changes.{greatest, raised_mem, raised_story}
+use Rattle.clover_rule.specs.Changes.{raised_mem, raised_story}
 use Rattle.clover_rule.specs.Lists.{upd}
 use Rattle.clover_rule.specs.Memory.{Next, word, gen, link, Mem, order, greater}
 use Rattle.clover_rule.specs.Story.{Loose, Story, tag_at, only, safe_at, Standing, Core, Passed}
@@ -21,14 +21,47 @@ upd_again f i a e = fun_ext (λ j. go j (ℕ_discrete j i))
     go j (yes d) = rw d (upd_same f i a ∙ sym e)
     go j (no n) = upd_else f i j a n
 
-pub most_left : (a b : ℕ) → a ≤ greatest a b
-most_left a b = grind (arith, nat_tests)
+gen_most : (o n : Next) (a : ℕ) → gen o ≤ a → gen n ≤ a → gen (greater o n) ≤ a
+gen_most o n a p q = elim (ltb (order o) (order n)) as (λ (b : Bool). gen (cond b n o) ≤ a) [ true ↦ q | false ↦ p ]
 
-pub most_right : (a b : ℕ) → b ≤ greatest a b
-most_right a b = grind (arith, nat_tests)
+gen_least : (o n : Next) → gen o ≤ gen (greater o n)
+gen_least o n = go (ltb (order o) (order n)) refl
+  where
+    rises : (x y : Next) → ltb (order x) (order y) ≡ true → gen x ≤ gen y
+    rises (word a None) (word b None) q = grind (arith, nat_tests)
+    rises (word a None) (word b (Some y)) q = grind (arith, nat_tests)
+    rises (word a (Some x)) (word b None) q = grind (arith, nat_tests)
+    rises (word a (Some x)) (word b (Some y)) q = grind (arith, nat_tests)
 
-pub most_kept : (a b c : ℕ) → a ≤ c → b ≤ c → greatest a b ≤ c
-most_kept a b c h i = grind (arith, nat_tests)
+    go : (b : Bool) → ltb (order o) (order n) ≡ b → gen o ≤ gen (cond b n o)
+    go true q = rises o n q
+    go false q = omega arith
+
+-- the flushed generation after a raise
+pub raised_higher : (m : Mem) (u t b : ℕ) → gen (m.fnext b) ≤ gen ((raised_mem m u t).fnext b)
+raised_higher m u t b = go (ℕ_discrete b (home u))
+  where
+    go : Dec (b ≡ home u) → gen (m.fnext b) ≤ gen ((raised_mem m u t).fnext b)
+    go (yes d) = rw d (rw (upd_same m.fnext (home u) (greater (m.fnext (home u)) (word (age u) (Some t)))) (gen_least (m.fnext (home u)) (word (age u) (Some t))))
+    go (no n) = let z = ap gen (upd_else m.fnext (home u) b (greater (m.fnext (home u)) (word (age u) (Some t))) n) in omega arith
+
+pub raised_below : (m : Mem) (u t b : ℕ) → age u ≤ gen (m.next (home u)) → gen (m.fnext b) ≤ gen (m.next b) → gen ((raised_mem m u t).fnext b) ≤ gen (m.next b)
+raised_below m u t b old below = go (ℕ_discrete b (home u))
+  where
+    go : Dec (b ≡ home u) → gen ((raised_mem m u t).fnext b) ≤ gen (m.next b)
+    go (yes d) = rw d (rw (upd_same m.fnext (home u) (greater (m.fnext (home u)) (word (age u) (Some t)))) (gen_most (m.fnext (home u)) (word (age u) (Some t)) (gen (m.next (home u))) (subst (λ (x : ℕ). gen (m.fnext x) ≤ gen (m.next x)) d below) old))
+    go (no n) = let z = ap gen (upd_else m.fnext (home u) b (greater (m.fnext (home u)) (word (age u) (Some t))) n) in omega arith
+
+-- how much of a slot is sure after a raise
+pub raised_more : (st : Story) (s i j : ℕ) → st.sure j ≤ (raised_story st s i).sure j
+raised_more st s i j = go (ℕ_discrete j s)
+  where
+    go : Dec (j ≡ s) → st.sure j ≤ (raised_story st s i).sure j
+    go (yes d) = rw d (rw (upd_same st.sure s (max (st.sure s) (suc (suc i)))) (omega arith))
+    go (no n) = let q = upd_else st.sure s j (max (st.sure s) (suc (suc i))) n in omega arith
+
+pub raised_now : (st : Story) (s i : ℕ) → suc i < (raised_story st s i).sure s
+raised_now st s i = rw (upd_same st.sure s (max (st.sure s) (suc (suc i)))) (omega arith)
 
 pub order_below : (n o : Next) → gen n < gen o → ltb (order o) (order n) ≡ false
 order_below (word a None) (word b None) h = grind (arith, nat_tests)
@@ -57,7 +90,7 @@ module _ (m : Mem) (st : Story) (s i u t : ℕ) (c : Core m st) (l : CanRaise m 
   nothing : greater (m.fnext (home u)) (word (age u) (Some t)) ≡ m.fnext (home u) → suc (suc i) ≤ st.sure s → Core (raised_mem m u t) (raised_story st s i)
   nothing e h =
       let e1 : raised_mem m u t ≡ m = ap (λ (f : ℕ → Next). record m { fnext = f }) (upd_again m.fnext (home u) _ (sym e)) in
-      let g : greatest (st.sure s) (suc (suc i)) ≡ st.sure s = grind (arith, nat_tests) in
+      let g : max (st.sure s) (suc (suc i)) ≡ st.sure s = omega arith in
       let e2 : raised_story st s i ≡ st = ap (λ (f : ℕ → ℕ). record st { sure = f }) (upd_again st.sure s _ (sym g)) in
       subst (λ (x : Mem). Core x (raised_story st s i)) (sym e1) (subst (λ (x : Story). Core m x) (sym e2) c)
 
@@ -87,10 +120,10 @@ module _ (m : Mem) (st : Story) (s i u t : ℕ) (c : Core m st) (l : CanRaise m 
     else_same b n = upd_else m.fnext (home u) b (greater (m.fnext (home u)) (word (age u) (Some t))) n
 
     sure_now : (raised_story st s i).sure s ≡ suc (suc i)
-    sure_now = upd_same st.sure s (greatest (st.sure s) (suc (suc i))) ∙ grind (arith, nat_tests)
+    sure_now = upd_same st.sure s (max (st.sure s) (suc (suc i))) ∙ (let q : max (st.sure s) (suc (suc i)) ≡ suc (suc i) = omega arith in q)
 
     sure_else : (s' : ℕ) → s' ≢ s → (raised_story st s i).sure s' ≡ st.sure s'
-    sure_else s' n = upd_else st.sure s s' (greatest (st.sure s) (suc (suc i))) n
+    sure_else s' n = upd_else st.sure s s' (max (st.sure s) (suc (suc i))) n
 
     raised_passed : (s' i' t' : ℕ) → tag_at st s' i' ≡ Some t' → i' < st.gone s' → Passed (raised_mem m u t) (raised_story st s i) s' i' t'
     raised_passed s' i' t' e h = go (ℕ_discrete (home t') (home u))

@@ -13,8 +13,8 @@ use Rattle.clover_rule.specs.Memory.{Mem, Next, word, gen, link}
 use Rattle.clover_rule.specs.Server.{AtStage, Stage, holding, Whole}
 use Rattle.clover_rule.specs.Story.{Place, Chained, Stocked, Free, Worn, Taken, Loose, Story, Core}
 use Rattle.clover_rule.specs.Views.{Spent}
-use Rattle.clover_rule.specs.declared.view.Task.{Task}
-use Rattle.clover_rule.specs.declared.view.Task.TheVariants.{Idle, Storing, Rooted, Waiting, Loaded, Raised, Led, Both, Exchanged}
+use Rattle.clover_rule.specs.declared.view.ServerTask.{ServerTask}
+use Rattle.clover_rule.specs.declared.view.ServerTask.TheVariants.{Idle, Storing, Rooted, Waiting, Loaded, Raised, Led, Both, Exchanged}
 use Rattle.clover_rule.specs.declared.view.View.{View}
 use Rattle.clover_rule.proofs.Restarts.{cut_used}
 
@@ -41,10 +41,10 @@ module _ (l : Pool) (m0 : Map) (used : List ℕ) (m : Mem) (vs : List View) (st 
   at_place b Worn e = let o = c.loose b (subst Loose (sym e) tt) in (λ z. o.0, λ z. ap link o.1 ∙ o.0)
   at_place b Taken e = held st.task w.help.stage
     where
-      held : (T : Task) → Stage l m st T → AtRest (m.next b) × AtRest (m.fnext b)
+      held : (T : ServerTask) → Stage l m st T → AtRest (m.next b) × AtRest (m.fnext b)
       held T g = by T (g.holds b e) g.here
         where
-          by : (T : Task) → holding T ≡ Some b → AtStage l m st T → AtRest (m.next b) × AtRest (m.fnext b)
+          by : (T : ServerTask) → holding T ≡ Some b → AtStage l m st T → AtRest (m.next b) × AtRest (m.fnext b)
           by (Storing bind n) z a = let q = same_Some (home bind.tag) b z in (λ u. ap link (ap m.next (sym q) ∙ a.now), λ u. ap link (ap m.fnext (sym q) ∙ a.safe))
           by (Exchanged cycle) z a = let q = same_Some (home cycle.root) b z in let g : gen (m.fnext b) ≡ age cycle.root = ap gen (ap m.fnext (sym q) ∙ a.safe) in let d = a.young in (λ u. ap link (ap m.next (sym q) ∙ a.now), λ u. absurd (omega arith))
           by Idle z a = absurd cc

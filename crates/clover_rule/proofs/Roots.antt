@@ -104,16 +104,16 @@ module _ (m : Mem) (st : Story) (b a : ℕ) (q : Place) (c : Core m st) (held : 
         (λ n. c.chained j s' (sym (upd_else st.place b j q n) ∙ f));
   }
 
--- a loose buffer changes hands
-module _ (m : Mem) (st : Story) (b : ℕ) (q : Place) (c : Core m st) (was : Loose (st.place b)) (loose_q : (s : ℕ) → q ≢ Chained s) where
-  abbrev handed_story : Story
-  handed_story = record st { place = upd st.place b q }
+-- a buffer that is off the chains and unlinked goes to another place
+module _ (m : Mem) (st : Story) (b : ℕ) (q : Place) (c : Core m st) (off : (s : ℕ) → st.place b ≢ Chained s) (off_then : (s : ℕ) → q ≢ Chained s) (lone : link (m.next b) ≡ None) (flushed : Loose q → m.fnext b ≡ m.next b) where
+  abbrev placed_story : Story
+  placed_story = record st { place = upd st.place b q }
 
-  pub handed_core : Core m handed_story
-  handed_core = record {
+  pub placed_core : Core m placed_story
+  placed_core = record {
     spotted = c.spotted;
     passed = λ s' i t e h. let x = c.passed s' i t e h in record { later = x.later; safe = x.safe };
-    standing = λ s' i t e h. let x = c.standing s' i t e h in record { placed = upd_else st.place b (home t) q (λ z. absurd (subst Loose (sym (ap st.place z) ∙ x.placed) was)) ∙ x.placed; now = x.now; safe = x.safe };
+    standing = λ s' i t e h. let x = c.standing s' i t e h in record { placed = upd_else st.place b (home t) q (λ z. off s' (ap st.place (sym z) ∙ x.placed)) ∙ x.placed; now = x.now; safe = x.safe };
     sure_most = c.sure_most;
     sure_all = c.sure_all;
     rooted = c.rooted;
@@ -121,9 +121,17 @@ module _ (m : Mem) (st : Story) (b : ℕ) (q : Place) (c : Core m st) (was : Loo
     led = c.led;
     root = c.root;
     froot = λ s'. ⊎_elim inl (λ h. inr record { empty = h.empty; unnamed = h.unnamed; alone = h.alone; dead = h.dead }) (c.froot s');
-    loose = λ j f. dite (ℕ_discrete j b) (λ d. c.loose j (subst (λ (x : ℕ). Loose (st.place x)) (sym d) was)) (λ n. c.loose j (subst Loose (upd_else st.place b j q n) f));
-    held = λ j f. dite (ℕ_discrete j b) (λ d. (c.loose j (subst (λ (x : ℕ). Loose (st.place x)) (sym d) was)).0) (λ n. c.held j (sym (upd_else st.place b j q n) ∙ f));
+    loose = λ j f. dite (ℕ_discrete j b) (λ d. (ap (λ (x : ℕ). link (m.next x)) d ∙ lone, ap m.fnext d ∙ flushed (subst Loose (ap placed_story.place d ∙ upd_same st.place b q) f) ∙ sym (ap m.next d))) (λ n. c.loose j (subst Loose (upd_else st.place b j q n) f));
+    held = λ j f. dite (ℕ_discrete j b) (λ d. ap (λ (x : ℕ). link (m.next x)) d ∙ lone) (λ n. c.held j (sym (upd_else st.place b j q n) ∙ f));
     chained = λ j s' f. dite (ℕ_discrete j b)
-        (λ d. absurd (loose_q s' (sym (upd_same st.place b q) ∙ ap handed_story.place (sym d) ∙ f)))
+        (λ d. absurd (off_then s' (sym (upd_same st.place b q) ∙ ap placed_story.place (sym d) ∙ f)))
         (λ n. c.chained j s' (sym (upd_else st.place b j q n) ∙ f));
   }
+
+-- a loose buffer changes hands
+pub handed_core : (m : Mem) (st : Story) (b : ℕ) (q : Place) → Core m st → Loose (st.place b) → ((s : ℕ) → q ≢ Chained s) → Core m (record st { place = upd st.place b q })
+handed_core m st b q c was off = placed_core m st b q c (λ s z. absurd (subst Loose z was)) off (c.loose b was).0 (λ f. (c.loose b was).1)
+
+-- a buffer that is off the chains is held from now on
+pub hold_core : (m : Mem) (st : Story) (b : ℕ) → Core m st → link (m.next b) ≡ None → ((s : ℕ) → st.place b ≢ Chained s) → Core m (record st { place = upd st.place b Taken })
+hold_core m st b c lone off = placed_core m st b Taken c off (λ s z. absurd cc) lone (λ f. absurd f)

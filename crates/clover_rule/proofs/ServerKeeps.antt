@@ -32,8 +32,8 @@ use Rattle.clover_rule.specs.Words.{mem_of, next_code, next_of}
 use Rattle.clover_rule.specs.declared.view.BufferState.TheVariants.{Bound as IsBound, Free as IsFree, Out as IsOut, Worn as IsWorn}
 use Rattle.clover_rule.specs.declared.view.NewBinding.{NewBinding}
 use Rattle.clover_rule.specs.declared.view.Recycling.{Recycling}
-use Rattle.clover_rule.specs.declared.view.Task.{Task}
-use Rattle.clover_rule.specs.declared.view.Task.TheVariants.{Idle, Storing, Rooted, Waiting, Loaded, Raised, Led, Both, Exchanged}
+use Rattle.clover_rule.specs.declared.view.ServerTask.{ServerTask}
+use Rattle.clover_rule.specs.declared.view.ServerTask.TheVariants.{Idle, Storing, Rooted, Waiting, Loaded, Raised, Led, Both, Exchanged}
 use Rattle.clover_rule.specs.declared.view.View.{View}
 use Rattle.clover_rule.proofs.AfterCuts.{nowhere}
 use Rattle.clover_rule.proofs.BindLaws.{bind_root_whole}
@@ -89,10 +89,10 @@ module _ (p : Pool) (first : Tagged) (used : List ℕ) (ws : List ℕ) (vs : Lis
   same_run : (y : View) → y.pass.role ≡ v.pass.role → y.pass.pool ≡ v.pass.pool → y.pass.map ≡ v.pass.map → y.pass.used ≡ v.pass.used → y.plan ≡ v.plan → SameRun v y
   same_run y a b c d e = record { role = a; pool = b; map = c; used = d; plan = e }
 
-  stage_of : (T : Task) → IsAt v T → Stage p m st T
+  stage_of : (T : ServerTask) → IsAt v T → Stage p m st T
   stage_of T i = stage_at p m0 used m vs id v st h r.whole at i.server T i.task_is
 
-  serves_of : (T : Task) → IsAt v T → Serves p m st T v.server
+  serves_of : (T : ServerTask) → IsAt v T → Serves p m st T v.server
   serves_of T i = serves_at p m0 used m vs id v st h r.whole at i.server T i.task_is
 
   -- the root version's next word

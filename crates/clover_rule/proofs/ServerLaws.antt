@@ -18,8 +18,8 @@ use Rattle.clover_rule.specs.Views.{book, renewed, book_at, line}
 use Rattle.clover_rule.specs.declared.view.BufferState.TheVariants.{Out as IsOut}
 use Rattle.clover_rule.specs.declared.view.Role.TheVariants.{Serving}
 use Rattle.clover_rule.specs.declared.view.NewBinding.{NewBinding}
-use Rattle.clover_rule.specs.declared.view.Task.{Task}
-use Rattle.clover_rule.specs.declared.view.Task.TheVariants.{Idle, Storing}
+use Rattle.clover_rule.specs.declared.view.ServerTask.{ServerTask}
+use Rattle.clover_rule.specs.declared.view.ServerTask.TheVariants.{Idle, Storing}
 use Rattle.clover_rule.specs.declared.view.View.{View}
 use Rattle.clover_words.specs.declared.pool.Pool.{Pool}
 use Rattle.clover_rule.proofs.Standings.{word_is}
@@ -31,11 +31,11 @@ module _ (l : Pool) (m0 : Map) (used : List ℕ) (m : Mem) (vs : List View) (id 
   served : Serves l m st st.task v.server
   served = w.serves id v at role
 
-  pub stage_at : (T : Task) → v.server.task ≡ T → Stage l m st T
+  pub stage_at : (T : ServerTask) → v.server.task ≡ T → Stage l m st T
   stage_at T e = subst (Stage l m st) (sym served.task_is ∙ e) w.help.stage
 
-  pub serves_at : (T : Task) → v.server.task ≡ T → Serves l m st T v.server
-  serves_at T e = subst (λ (x : Task). Serves l m st x v.server) (sym served.task_is ∙ e) served
+  pub serves_at : (T : ServerTask) → v.server.task ≡ T → Serves l m st T v.server
+  serves_at T e = subst (λ (x : ServerTask). Serves l m st x v.server) (sym served.task_is ∙ e) served
 
   module _ (bind : NewBinding) where
     abbrev s : ℕ

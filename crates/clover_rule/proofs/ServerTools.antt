@@ -2,21 +2,21 @@
 use Rattle.std.proofs.Common.{◌≡◌, ℕ, ◌≤◌, ◌≢◌, List, Bool, true, false, cond, refl, sym, ap, ◌∙◌, inl, inr, ⊎_elim, arith, subst}
 use native.Mathlib.Decide.{ℕ_discrete}
 use mathlib.Core.Logic.{dite}
-use Rattle.std.specs.Prelude.{Option, Some, None}
+use Rattle.std.specs.Prelude.{Option, Some}
 use Rattle.clover_words.specs.Tag.{home, age}
 use Rattle.clover_map.specs.declared.call.Entry.{Entry}
 use Rattle.clover_rule.specs.History.{Version, Map, used_by}
 use Rattle.clover_rule.specs.Lists.{Each, nth, upd, Within}
-use Rattle.clover_rule.specs.Memory.{gen, link, Mem}
+use Rattle.clover_rule.specs.Memory.{gen, Mem}
 use Rattle.clover_rule.specs.Server.{Help, root_in, is_home, held_book, book_of, Serves, Whole}
-use Rattle.clover_rule.specs.Story.{Place, Chained, Stocked, Free, Worn, Taken, Loose, Story, Core, Tale}
+use Rattle.clover_rule.specs.Story.{Place, Chained, Stocked, Free, Worn, Taken, Story, Core, Tale}
 use Rattle.clover_rule.specs.Views.{book, Holds, Stands, ViewOk, Spent, Basis, renewed}
 use Rattle.clover_rule.specs.declared.view.BufferState.{BufferState}
 use Rattle.clover_rule.specs.declared.view.BufferState.TheVariants.{Free as IsFree, Bound as IsBound, Out as IsOut}
 use Rattle.clover_rule.specs.declared.view.Role.TheVariants.{Serving}
 use Rattle.clover_rule.specs.declared.view.Server.{Server}
-use Rattle.clover_rule.specs.declared.view.Task.{Task}
-use Rattle.clover_rule.specs.declared.view.Task.TheVariants.{Idle, Storing, Rooted, Waiting, Loaded, Raised, Led, Both, Exchanged}
+use Rattle.clover_rule.specs.declared.view.ServerTask.{ServerTask}
+use Rattle.clover_rule.specs.declared.view.ServerTask.TheVariants.{Idle, Storing, Rooted, Waiting, Loaded, Raised, Led, Both, Exchanged}
 use Rattle.clover_rule.specs.declared.view.View.{View}
 use Rattle.clover_words.specs.declared.pool.Pool.{Pool}
 use Rattle.clover_rule.proofs.Tools.{upd_same, upd_else}
@@ -24,7 +24,7 @@ use Rattle.clover_rule.proofs.Quiet.{quiet}
 use Rattle.clover_rule.proofs.Steps.{each_map, Grows, Leaves, view_kept, nth_set, longest_was}
 
 -- the core facts read neither contents, keys, shortcuts nor the count, nor names and tasks
-pub core_copy : (m : Mem) (st : Story) → Core m st → (b fb k fk : ℕ → ℕ → ℕ) (sh : ℕ → Option ℕ) (ct : ℕ) (keys : ℕ → Option (List ℕ)) (first : ℕ → List Version) (bindings : List (ℕ × List ℕ)) (task : Task) (sn : List ℕ → ℕ)
+pub core_copy : (m : Mem) (st : Story) → Core m st → (b fb k fk : ℕ → ℕ → ℕ) (sh : ℕ → Option ℕ) (ct : ℕ) (keys : ℕ → Option (List ℕ)) (first : ℕ → List Version) (bindings : List (ℕ × List ℕ)) (task : ServerTask) (sn : List ℕ → ℕ)
     → Core (record m { body = b; fbody = fb; key = k; fkey = fk; short = sh; count = ct }) (record st { keys = keys; first = first; bindings = bindings; task = task; slot_named = sn })
 core_copy m st c b fb k fk sh ct keys first bindings task sn = record {
   spotted = c.spotted;
@@ -125,7 +125,7 @@ module _ (l : Pool) (m0 : Map) (used : List ℕ) (m : Mem) (vs : List View) (st 
   }
 
 -- the same books at the same place under another task
-pub book_same : (T T' : Task) (st st' : Story) (p : Place) (g b : ℕ) → ((s : ℕ) → p ≡ Chained s → is_home (root_in T' st' s) b ≡ is_home (root_in T st s) b) → (p ≡ Taken → book_of T' st' Taken g b ≡ book_of T st Taken g b) → book_of T' st' p g b ≡ book_of T st p g b
+pub book_same : (T T' : ServerTask) (st st' : Story) (p : Place) (g b : ℕ) → ((s : ℕ) → p ≡ Chained s → is_home (root_in T' st' s) b ≡ is_home (root_in T st s) b) → (p ≡ Taken → book_of T' st' Taken g b ≡ book_of T st Taken g b) → book_of T' st' p g b ≡ book_of T st p g b
 book_same T T' st st' (Chained s) g b r h = ap (λ (x : Bool). book g (cond x IsBound IsOut)) (r s refl)
 book_same T T' st st' (Stocked i) g b r h = refl
 book_same T T' st st' Free g b r h = refl
@@ -136,7 +136,7 @@ same_state : (g a : ℕ) (x y : BufferState) → book g x ≡ book a y → x ≡
 same_state g a x y e = cc
 
 -- the books call a buffer that the task holds bound or out
-pub held_out : (T : Task) (g a : ℕ) (x : BufferState) → held_book T g ≡ book a x → x ≢ IsBound → x ≢ IsOut → ⊥
+pub held_out : (T : ServerTask) (g a : ℕ) (x : BufferState) → held_book T g ≡ book a x → x ≢ IsBound → x ≢ IsOut → ⊥
 held_out (Exchanged cycle) g a x e n o = n (sym (same_state (age cycle.root) a IsBound x e))
 held_out Idle g a x e n o = o (sym (same_state g a IsOut x e))
 held_out (Storing bind n1) g a x e n o = o (sym (same_state g a IsOut x e))
@@ -148,7 +148,7 @@ held_out (Led cycle) g a x e n o = o (sym (same_state g a IsOut x e))
 held_out (Both cycle) g a x e n o = o (sym (same_state g a IsOut x e))
 
 -- what the free ones of the books are
-pub free_place : (T : Task) (st : Story) (p : Place) (g b a : ℕ) → book_of T st p g b ≡ book a IsFree → (p ≡ Free) × (g ≡ a)
+pub free_place : (T : ServerTask) (st : Story) (p : Place) (g b a : ℕ) → book_of T st p g b ≡ book a IsFree → (p ≡ Free) × (g ≡ a)
 free_place T st (Chained s) g b a e = go (is_home (root_in T st s) b) e
   where
     go : (x : Bool) → book g (cond x IsBound IsOut) ≡ book a IsFree → (Chained s ≡ Free) × (g ≡ a)
@@ -159,24 +159,7 @@ free_place T st Free g b a e = (refl, cc)
 free_place T st Worn g b a e = absurd cc
 free_place T st Taken g b a e = absurd (held_out T g a IsFree e (λ z. absurd cc) (λ z. absurd cc))
 
--- a buffer that is off the chains is held from now on
-pub hold_core : (m : Mem) (st : Story) (b0 : ℕ) → Core m st → link (m.next b0) ≡ None → ((s : ℕ) → st.place b0 ≢ Chained s) → Core m (record st { place = upd st.place b0 Taken })
-hold_core m st b0 c lone loose = record {
-  spotted = c.spotted;
-  passed = λ s i t e g. let x = c.passed s i t e g in record { later = x.later; safe = x.safe };
-  standing = λ s i t e g. let x = c.standing s i t e g in record { placed = upd_else st.place b0 (home t) Taken (λ q. loose s (ap st.place (sym q) ∙ x.placed)) ∙ x.placed; now = x.now; safe = x.safe };
-  sure_most = c.sure_most;
-  sure_all = c.sure_all;
-  rooted = c.rooted;
-  bare = c.bare;
-  led = c.led;
-  root = c.root;
-  froot = λ s. ⊎_elim inl (λ h. inr record { empty = h.empty; unnamed = h.unnamed; alone = h.alone; dead = h.dead }) (c.froot s);
-  loose = λ b f. dite (ℕ_discrete b b0) (λ d. absurd (subst Loose (ap (upd st.place b0 Taken) d ∙ upd_same st.place b0 Taken) f)) (λ n. c.loose b (subst Loose (upd_else st.place b0 b Taken n) f));
-  held = λ b f. dite (ℕ_discrete b b0) (λ d. ap (λ (x : ℕ). link (m.next x)) d ∙ lone) (λ n. c.held b (sym (upd_else st.place b0 b Taken n) ∙ f));
-  chained = λ b s f. dite (ℕ_discrete b b0) (λ d. absurd (cc (ap (upd st.place b0 Taken) d, upd_same st.place b0 Taken, f))) (λ n. c.chained b s (sym (upd_else st.place b0 b Taken n) ∙ f));
-}
-
-pub tale_copy : (st : Story) (m0 : Map) (used : List ℕ) (h : List Entry) → Tale st m0 used h → (place : ℕ → Place) (gone lead flead : ℕ → ℕ) (named : ℕ → Bool) (bindings : List (ℕ × List ℕ)) (task : Task) (sn : List ℕ → ℕ)
+-- the history's facts read neither places, roots, names nor tasks
+pub tale_copy : (st : Story) (m0 : Map) (used : List ℕ) (h : List Entry) → Tale st m0 used h → (place : ℕ → Place) (gone lead flead : ℕ → ℕ) (named : ℕ → Bool) (bindings : List (ℕ × List ℕ)) (task : ServerTask) (sn : List ℕ → ℕ)
     → Tale (record st { place = place; gone = gone; lead = lead; flead = flead; named = named; bindings = bindings; task = task; slot_named = sn }) m0 used h
 tale_copy st m0 used h t place gone lead flead named bindings task sn = record { legal = t.legal; told = t.told; began = t.began; unread = t.unread; settled = t.settled; unbound = t.unbound }

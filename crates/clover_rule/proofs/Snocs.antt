@@ -3,7 +3,8 @@ use Rattle.std.proofs.Common.{◌≡◌, ℕ, zero, suc, ◌≢◌, List, [], �
 use Rattle.std.specs.Prelude.{Option, Some, None}
 use Rattle.clover_map.specs.declared.call.Entry.{Entry}
 use Rattle.clover_rule.proofs.Keys.{eq_key}
-use Rattle.clover_rule.specs.History.{same_key, Version, own, used_by, commits, joined, Unread, Silent, key_of, commit_of, lost_in, Fresh, grown}
+use Rattle.std.specs.Str.{bytes_eq}
+use Rattle.clover_rule.specs.History.{Version, own, used_by, commits, joined, Unread, Silent, key_of, commit_of, lost_in, Fresh, grown}
 use Rattle.clover_rule.specs.Lists.{nth, Within}
 
 pub unread_snoc : (a b : ℕ → Bool) (h : List Entry) (e : Entry) → Unread a h → ((x : Entry) → Within x h → lost_in b (commit_of x) ≡ true → (lost_in a (commit_of x) ≡ true) × (key_of e ≢ key_of x)) → Unread b (h ++ e ∷ [])
@@ -32,7 +33,7 @@ within_nth a (x ∷ xs) w = ⊎_elim (λ q. (zero, ap Some q)) (λ q. let r = wi
 
 pub within_commits : (h : List Entry) (x : Entry) (y : Version) → Within x h → commit_of x ≡ Some y → Within y (commits (key_of x) h)
 within_commits [] x y w c = absurd w
-within_commits (z ∷ h) x y w c = ⊎_elim (λ q. rw q (rw c (rw (eq_key (key_of x) (key_of x) refl) (inl refl)))) (λ q. more (same_key (key_of z) (key_of x)) (commit_of z) (within_commits h x y q c)) w
+within_commits (z ∷ h) x y w c = ⊎_elim (λ q. rw q (rw c (rw (eq_key (key_of x) (key_of x) refl) (inl refl)))) (λ q. more (bytes_eq (key_of z) (key_of x)) (commit_of z) (within_commits h x y q c)) w
   where
     more : (b : Bool) (o : Option Version) → Within y (commits (key_of x) h) → Within y (cond b (joined o (commits (key_of x) h)) (commits (key_of x) h))
     more true None d = d

@@ -12,8 +12,8 @@ use Rattle.clover_rule.specs.Memory.{gen, link, Mem}
 use Rattle.clover_rule.specs.Server.{holding, AtStage, Stage, Help, Whole}
 use Rattle.clover_rule.specs.Sound.{versions_of, Sound}
 use Rattle.clover_rule.specs.Story.{Place, Chained, Stocked, Free, Worn, Taken, Loose, Story, tag_in_version, tag_at, Core, only}
-use Rattle.clover_rule.specs.declared.view.Task.{Task}
-use Rattle.clover_rule.specs.declared.view.Task.TheVariants.{Idle, Storing, Rooted, Waiting, Loaded, Raised, Led, Both, Exchanged}
+use Rattle.clover_rule.specs.declared.view.ServerTask.{ServerTask}
+use Rattle.clover_rule.specs.declared.view.ServerTask.TheVariants.{Idle, Storing, Rooted, Waiting, Loaded, Raised, Led, Both, Exchanged}
 use Rattle.clover_rule.specs.declared.view.View.{View}
 use Rattle.clover_words.specs.declared.pool.Pool.{Pool}
 use Rattle.clover_rule.proofs.Spelling.{one_key}
@@ -118,10 +118,10 @@ module _ (l : Pool) (m0 : Map) (used : List ℕ) (m : Mem) (vs : List View) (st 
       p.ranged.tags s (suc a.0) t (⊎_elim (λ g. sym (ap link (ap m.next (sym a.4) ∙ x.now)) ∙ g) (λ g. only_some (ltb (suc a.0) (st.sure s)) (tag_at st s (suc a.0)) t (sym (ap link (ap m.fnext (sym a.4) ∙ x.safe)) ∙ g)) f)
   place_cases b t Taken e f = held st.task p.stage
     where
-      held : (T : Task) → Stage l m st T → InRange l t
+      held : (T : ServerTask) → Stage l m st T → InRange l t
       held T g = by T (g.holds b e) g.here
         where
-          by : (T : Task) → holding T ≡ Some b → AtStage l m st T → InRange l t
+          by : (T : ServerTask) → holding T ≡ Some b → AtStage l m st T → InRange l t
           by (Storing bind n) z a = let q : home bind.tag ≡ b = cc in ⊎_elim (λ g1. absurd (cc (ap m.next q, ap link a.now, ap link (ap m.next q), g1))) (λ g1. absurd (cc (ap link (ap m.fnext q), ap link a.safe, g1))) f
           by (Exchanged cycle) z a = let q : home cycle.root ≡ b = cc in ⊎_elim (λ g1. absurd (cc (ap link (ap m.next q), ap link a.now, g1)))
               (λ g1. let u : cycle.next ≡ t = let u1 : Some cycle.next ≡ Some t = sym (ap link a.safe) ∙ ap link (ap m.fnext q) ∙ g1 in cc in p.ranged.tags cycle.slot (st.gone cycle.slot) t (a.root ∙ ap Some u)) f

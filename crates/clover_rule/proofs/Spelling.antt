@@ -3,10 +3,10 @@ use Rattle.std.proofs.Common.{◌≡◌, ℕ, zero, suc, ◌+◌, ◌*◌, ◌/�
 use Rattle.std.specs.Prelude.{Option, Some, None, slice_index}
 use Rattle.std.proofs.lemmas.Option.{same_Some}
 use Rattle.std.proofs.lemmas.List.{ext_get_or}
-use Rattle.clover_words.specs.Pack.{AreBytes, words_of, packed, eight_at}
+use Rattle.clover_words.specs.Pack.{AreBytes, words_of, packed}
 use Rattle.std.specs.Int.{w64, to_be_bytes}
 use Rattle.clover_words.specs.Meta.{meta_word, tombstone}
-use Rattle.clover_words.proofs.Packing.{one_byte, packed_spells}
+use Rattle.clover_words.proofs.Packing.{one_byte, packed_spells, eight_byte}
 use Rattle.clover_words.specs.declared.pool.Pool.{Pool}
 use Rattle.clover_words.specs.declared.meta.Kind.TheVariants.{Value as IsValue}
 use Rattle.clover_map.specs.declared.bytes.Value.{Value}
@@ -90,17 +90,6 @@ one_key f j k hj hk sj sk =
     let lens : length j ≡ length k = one_byte (length j ∷ j) (length k ∷ k) 0 (key_bytes j hj) (key_bytes k hk) (sym (word_j 0 (omega arith)) ∙ word_k 0 (omega arith)) in
     tail_same (length j) (length k) j k (same_bytes (length j ∷ j) (length k ∷ k) (key_bytes j hj) (key_bytes k hk) (ap suc lens)
     (λ i b. sym (word_j i b) ∙ word_k i (subst (λ (n : ℕ). i < words_of (suc n)) lens b)))
-
-pub eight_byte : (bytes : List ℕ) (k i : ℕ) → i < 8 → slice_index (eight_at bytes k) i ≡ slice_index bytes (8 * k + i)
-eight_byte bytes k zero lt = ap (slice_index bytes) (omega arith)
-eight_byte bytes k (suc zero) lt = refl
-eight_byte bytes k (suc (suc zero)) lt = refl
-eight_byte bytes k (suc (suc (suc zero))) lt = refl
-eight_byte bytes k (suc (suc (suc (suc zero)))) lt = refl
-eight_byte bytes k (suc (suc (suc (suc (suc zero))))) lt = refl
-eight_byte bytes k (suc (suc (suc (suc (suc (suc zero)))))) lt = refl
-eight_byte bytes k (suc (suc (suc (suc (suc (suc (suc zero))))))) lt = refl
-eight_byte bytes k (suc (suc (suc (suc (suc (suc (suc (suc i)))))))) lt = absurd (omega arith)
 
 -- a content whose words were read is the value that they unpack to
 pub read_content : (p : Pool) (o : Option Value) (x : Value) → Fits p o → x.flags < 2 ^ 32 → length x.bytes ≤ 1024 → ((y : ℕ) → nth (content o) 0 ≡ Some y → y ≡ value_meta x)

@@ -1,65 +1,49 @@
 -- The laws of a recycling's steps, of a binding's flushed root and of the count.
-use Rattle.std.proofs.Common.{◌≡◌, ℕ, suc, ◌<◌, ◌≤◌, ◌≢◌, ◌⊎◌, List, [], ◌∷◌, ◌++◌, length, length-append, append-nil, Bool, true, false, cond, ltb, refl, sym, ap, ◌∙◌, inl, inr, ⊎_elim, arith, true≢false, eqb, eq-eqb, ne_eqb, subst}
+use Rattle.std.proofs.Common.{◌≡◌, ℕ, suc, ◌<◌, ◌≤◌, ◌≢◌, ◌⊎◌, List, [], ◌∷◌, ◌++◌, length, length-append, append-nil, Bool, true, false, cond, refl, sym, ap, ◌∙◌, inl, inr, ⊎_elim, arith, true≢false, eqb, eq-eqb, ne_eqb, subst}
 use native.Mathlib.Decide.{ℕ_discrete}
 use mathlib.Core.Logic.{dite}
 use Rattle.std.specs.Prelude.{Option, Some, None}
-use Rattle.std.proofs.lemmas.Bool.Decides.{nat_tests}
 use Rattle.clover_words.specs.Tag.{home, age}
 use Rattle.clover_map.specs.declared.call.Entry.{Entry}
-use Rattle.clover_rule.specs.Changes.{raised_mem, raised_story, greatest}
+use Rattle.clover_rule.specs.Changes.{raised_mem, raised_story}
 use Rattle.clover_rule.specs.Content.{inside}
 use Rattle.clover_rule.specs.History.{Version, Map}
 use Rattle.clover_rule.specs.Lists.{Each, nth, upd, Within, IsPrefix}
-use Rattle.clover_rule.specs.Memory.{Next, word, gen, Mem, greater, order}
-use Rattle.clover_rule.specs.Server.{holding, IsRecycling, Stage, or_else, root_in, is_home, book_of, Serves, Whole}
+use Rattle.clover_rule.specs.Memory.{Next, word, gen, Mem}
+use Rattle.clover_rule.specs.Server.{AtStage, Help, Settled, moving, unnamed, holding, waiting_name, IsRecycling, Stage, or_else, root_in, is_home, book_of, Serves, Whole}
 use Rattle.clover_rule.specs.Learned.{at_task, looked, link_flushed, entered}
-use Rattle.clover_rule.specs.Story.{Taken, Story, tag_at, now_at, unsure, Place, Chained, Standing}
-use Rattle.clover_rule.specs.Views.{SlotsOnce, IsLink, Past, Basis, renewed, root_at, book_at, book}
+use Rattle.clover_rule.specs.Story.{Core, Tale, Taken, Story, tag_at, now_at, unsure, Place, Chained, Standing}
+use Rattle.clover_rule.specs.Views.{SlotsOnce, IsLink, Past, ViewOk, Basis, renewed, root_at, book_at, book}
 use Rattle.clover_rule.specs.declared.view.BufferState.TheVariants.{Bound as IsBound, Out as IsOut}
 use Rattle.clover_rule.specs.declared.view.NewBinding.{NewBinding}
+use Rattle.clover_rule.specs.declared.view.Pass.{Pass}
 use Rattle.clover_rule.specs.declared.view.Recycling.{Recycling}
 use Rattle.clover_rule.specs.declared.view.Role.TheVariants.{Serving}
 use Rattle.clover_rule.specs.declared.view.Server.{Server}
-use Rattle.clover_rule.specs.declared.view.Task.{Task}
-use Rattle.clover_rule.specs.declared.view.Task.TheVariants.{Idle, Rooted, Waiting, Loaded, Raised, Led, Both}
+use Rattle.clover_rule.specs.declared.view.ServerTask.{ServerTask}
+use Rattle.clover_rule.specs.declared.view.ServerTask.TheVariants.{Idle, Rooted, Waiting, Loaded, Raised, Led, Both}
 use Rattle.clover_rule.specs.declared.view.View.{View}
 use Rattle.clover_words.specs.declared.pool.Pool.{Pool}
 use Rattle.clover_rule.proofs.Bindings.{nth_among}
 use Rattle.clover_rule.proofs.Tools.{upd_same, upd_else, nth_snoc}
 use Rattle.clover_rule.proofs.Standings.{tag_within}
 use Rattle.clover_rule.proofs.Steps.{prefix_self, within_prefix, within_last, Grows, durable_kept}
-use Rattle.clover_rule.proofs.ServerTools.{IsServed, same_known, own_whole, core_copy, whole, book_same, tale_copy}
+use Rattle.clover_rule.proofs.ServerTools.{IsServed, Moves, same_known, own_whole, core_copy, whole, book_same, tale_copy}
 use Rattle.clover_rule.proofs.Derived.{current_past}
 use Rattle.clover_rule.proofs.ServerLaws.{stage_at, serves_at}
 use Rattle.clover_rule.proofs.Roots.{root_core, flush_core, flead_cases}
-use Rattle.clover_rule.proofs.Raising.{raise_core, most_left, most_right}
+use Rattle.clover_rule.proofs.Raising.{raise_core, raised_more, raised_now, raised_higher, raised_below}
 use Rattle.clover_rule.proofs.Cuts.{unread_less, unsure_less}
 
 pub grow_refl : (m m' : Mem) (st st' : Story) (h : List Entry) → ((s : ℕ) → st'.log s ≡ st.log s) → ((s : ℕ) → st'.sure s ≡ st.sure s) → ((s : ℕ) → st'.gone s ≡ st.gone s) → ((b : ℕ) → m'.next b ≡ m.next b) → IsPrefix st.bindings st'.bindings → m.count ≤ m'.count → Grows m st h m' st' h
 grow_refl m m' st st' h a b c d e f = record { versions = λ s i w q. ap (λ (ws : List Version). nth ws i) (a s) ∙ q; sure = λ s. let x = b s in omega arith; gone = λ s. let x = c s in omega arith; gens = λ y. let x = ap gen (d y) in omega arith; names = e; count = f; history = prefix_self h }
 
 -- the books stay where no buffer is held and each slot keeps its root
-books_still : (l : Pool) (m : Mem) (st st' : Story) (T T' : Task) (sv : Server) → Stage l m st T → holding T ≡ None → Serves l m st T sv → ((s : ℕ) → root_in T' st' s ≡ root_in T st s) → (b : ℕ) → inside l b ≡ true → book_at sv b ≡ book_of T' st' (st.place b) (gen (m.next b)) b
+books_still : (l : Pool) (m : Mem) (st st' : Story) (T T' : ServerTask) (sv : Server) → Stage l m st T → holding T ≡ None → Serves l m st T sv → ((s : ℕ) → root_in T' st' s ≡ root_in T st s) → (b : ℕ) → inside l b ≡ true → book_at sv b ≡ book_of T' st' (st.place b) (gen (m.next b)) b
 books_still l m st st' T T' sv g n e r b i = e.books b i ∙ sym (book_same T T' st st' (st.place b) (gen (m.next b)) b (λ s q. ap (λ (x : Option ℕ). is_home x b) (r s)) (λ q. absurd (cc (n, g.holds b q))))
 
-none_held : (l : Pool) (m : Mem) (st : Story) (T : Task) → Stage l m st T → holding T ≡ None → (b : ℕ) → st.place b ≢ Taken
+none_held : (l : Pool) (m : Mem) (st : Story) (T : ServerTask) → Stage l m st T → holding T ≡ None → (b : ℕ) → st.place b ≢ Taken
 none_held l m st T g n b q = absurd (cc (n, g.holds b q))
-
-pub gen_most : (o n : Next) (a : ℕ) → gen o ≤ a → gen n ≤ a → gen (greater o n) ≤ a
-gen_most o n a p q = elim (ltb (order o) (order n)) as (λ (b : Bool). gen (cond b n o) ≤ a) [ true ↦ q | false ↦ p ]
-
-pub gen_least : (o n : Next) → gen o ≤ gen (greater o n)
-gen_least o n = go (ltb (order o) (order n)) refl
-  where
-    rises : (x y : Next) → ltb (order x) (order y) ≡ true → gen x ≤ gen y
-    rises (word a None) (word b None) q = grind (arith, nat_tests)
-    rises (word a None) (word b (Some y)) q = grind (arith, nat_tests)
-    rises (word a (Some x)) (word b None) q = grind (arith, nat_tests)
-    rises (word a (Some x)) (word b (Some y)) q = grind (arith, nat_tests)
-
-    go : (b : Bool) → ltb (order o) (order n) ≡ b → gen o ≤ gen (cond b n o)
-    go true q = rises o n q
-    go false q = omega arith
 
 pub within_two : {A : Type 0} (x y : A) (xs : List A) → Within x (xs ++ y ∷ []) → Within x xs ⊎ (y ≡ x)
 within_two x y [] w = ⊎_elim inr (λ q. absurd q) w
@@ -69,11 +53,85 @@ module _ (l : Pool) (m0 : Map) (used : List ℕ) (m : Mem) (vs : List View) (id 
   abbrev ru : Basis m0 used m vs st h
   ru = w.basis
 
-  stage_of : (T : Task) → v.server.task ≡ T → Stage l m st T
+  stage_of : (T : ServerTask) → v.server.task ≡ T → Stage l m st T
   stage_of T e = stage_at l m0 used m vs id v st h w at role T e
 
-  serves_of : (T : Task) → v.server.task ≡ T → Serves l m st T v.server
+  serves_of : (T : ServerTask) → v.server.task ≡ T → Serves l m st T v.server
   serves_of T e = serves_at l m0 used m vs id v st h w at role T e
+
+  -- a step that changes roots, flushed next words and the task alone, and what the pass knows
+  module _ (T T' : ServerTask) (e : v.server.task ≡ T) (free : holding T ≡ None) (roots : (s : ℕ) → root_in T' st s ≡ root_in T st s) (listed : waiting_name T' ≡ waiting_name T)
+      (fnext : ℕ → Next) (root froot : ℕ → Option ℕ) (sure lead flead : ℕ → ℕ) where
+    abbrev mt : Mem
+    mt = record m { fnext = fnext; root = root; froot = froot }
+
+    abbrev led : Story
+    led = record st { sure = sure; lead = lead; flead = flead }
+
+    abbrev stt : Story
+    stt = record led { task = T' }
+
+    module _ (core : Core mt led) (more : (s : ℕ) → st.sure s ≤ sure s) (higher : (b : ℕ) → gen (m.fnext b) ≤ gen (fnext b)) (below : (b : ℕ) → gen (fnext b) ≤ gen (m.next b))
+        (settled : (s : ℕ) → moving T' ≢ Some s → Settled stt s) (names : (s : ℕ) (k : List ℕ) → st.keys s ≡ Some k → (st.named s ≡ true) ⊎ (unnamed T' ≡ Some s)) (here : AtStage l mt stt T')
+        (pass : Pass) (role' : pass.role ≡ v.pass.role) (past' : pass.history ≡ v.pass.history) where
+      abbrev vt : View
+      vt = record v { pass = pass; server = record v.server { task = T' } }
+
+      grown : Grows m st h mt stt h
+      grown = record { versions = λ s i w q. q; sure = more; gone = λ j. omega arith; gens = λ b. omega arith; names = prefix_self st.bindings; count = omega arith; history = prefix_self h }
+
+      tale_then : Tale stt m0 used h
+      tale_then = record {
+        legal = ru.tale.legal;
+        told = ru.tale.told;
+        began = ru.tale.began;
+        unread = unread_less (unsure st) (unsure stt) (λ y q. unsure_less (st.sure (st.slot_of y)) (sure (st.slot_of y)) (st.rank y) (more (st.slot_of y)) q) h ru.tale.unread;
+        settled = λ s j y q. let a = ru.tale.settled s j y q in let b = more s in omega arith;
+        unbound = ru.tale.unbound;
+      }
+
+      help_then : Help l mt stt
+      help_then = let p = w.help in record {
+        ranged = let a = p.ranged in record { tags = a.tags; own = a.own; below = below; ready = a.ready; worn = a.worn; fits = a.fits };
+        keyed = let a = p.keyed in record { valid = a.valid; current = a.current; flushed = a.flushed; bare = a.bare; nameless = a.nameless; filled = a.filled; slots = a.slots };
+        naming = let a = p.naming in record { counted = a.counted; found = a.found; listed = a.listed; waiting = a.waiting; once = a.once };
+        stage = record { settled = settled; holds = λ b q. absurd (none_held l m st T (stage_of T e) free b q); names = names; here = here };
+        short = λ s y q. durable_kept m st h mt stt h grown s y (p.short s y q);
+      }
+
+      moves : Moves l m0 used m st h mt stt
+      moves = record {
+        core = core_copy mt led core m.body m.fbody m.key m.fkey m.short m.count st.keys st.first st.bindings T' st.slot_named;
+        tale = tale_then;
+        bodies = ru.bodies;
+        spent = λ y q. q;
+        bound = ru.bound;
+        keyed = ru.keyed;
+        grows = grown;
+        leaves = λ j b f. record { place = f; next = refl; body = λ y. refl; fbody = λ y. refl };
+        help = help_then;
+        fgens = higher;
+      }
+
+      led_whole : (ViewOk mt stt h id v → ViewOk mt stt h id vt) → IsServed l m0 used mt (renewed vs id vt) st h
+      led_whole knows = let sv = serves_of T e in (
+        stt,
+        whole l m0 used m vs st h w id v at role vt role' past' refl mt stt moves knows
+            record { task_is = refl; directory = sv.directory ∙ ap (λ (bs : List (ℕ × List ℕ)). st.bindings ++ bs) (sym listed); roots = λ s. sv.roots s ∙ sym (roots s); books = λ b i. books_still l m st stt T T' v.server (stage_of T e) free sv roots b i },
+        λ b i f. f,
+      )
+
+  -- nothing changes but the roots
+  module _ (T T' : ServerTask) (e : v.server.task ≡ T) (free : holding T ≡ None) (roots : (s : ℕ) → root_in T' st s ≡ root_in T st s) (listed : waiting_name T' ≡ waiting_name T) (root froot : ℕ → Option ℕ) (lead flead : ℕ → ℕ) where
+    abbrev mk : Mem
+    mk = record m { root = root; froot = froot }
+
+    abbrev sk : Story
+    sk = record st { lead = lead; flead = flead; task = T' }
+
+    roots_whole : Core mk (record st { lead = lead; flead = flead }) → ((s : ℕ) → moving T' ≢ Some s → Settled sk s) → ((s : ℕ) (k : List ℕ) → st.keys s ≡ Some k → (st.named s ≡ true) ⊎ (unnamed T' ≡ Some s)) → AtStage l mk sk T'
+        → IsServed l m0 used mk (renewed vs id (at_task v T')) st h
+    roots_whole core settled names here = led_whole T T' e free roots listed m.fnext root froot st.sure lead flead core (λ s. omega arith) (λ b. omega arith) w.help.ranged.below settled names here v.pass refl refl (same_known mk sk h id v (at_task v T').server)
 
   -- the load of the root version's next word
   module _ (s r : ℕ) (e : v.server.task ≡ Idle) (root : root_at v.server s ≡ Some r) where
@@ -105,39 +163,14 @@ module _ (l : Pool) (m0 : Map) (used : List ℕ) (m : Mem) (vs : List View) (id 
       abbrev y : View
       y = looked s r v (word (age r) (Some t))
 
-      abbrev sl : Story
-      sl = record st { task = Loaded cycle }
-
       link_there : (b : Bool) → Each (IsLink st) v.pass.links → Each (IsLink st) (cond b (record { slot = s; from = r; to = t } ∷ v.pass.links) v.pass.links)
       link_there true k = ((st.gone s, recycling.root, recycling.next), k)
       link_there false k = k
 
       pub read_linked : IsServed l m0 used m (renewed vs id y) st h
-      read_linked = let p = w.help in let g = stage_of Idle e in let sv = serves_of Idle e in (
-        sl,
-        whole l m0 used m vs st h w id v at role y refl refl refl m sl
-            record {
-              core = core_copy m st ru.core m.body m.fbody m.key m.fkey m.short m.count st.keys st.first st.bindings (Loaded cycle) st.slot_named;
-              tale = tale_copy st m0 used h ru.tale st.place st.gone st.lead st.flead st.named st.bindings (Loaded cycle) st.slot_named;
-              bodies = ru.bodies;
-              spent = λ y q. q;
-              bound = ru.bound;
-              keyed = ru.keyed;
-              grows = grow_refl m m st sl h (λ a. refl) (λ a. refl) (λ a. refl) (λ a. refl) (prefix_self st.bindings) (omega arith);
-              leaves = λ j b f. record { place = f; next = refl; body = λ y. refl; fbody = λ y. refl };
-              help = record {
-                ranged = let a = p.ranged in record { tags = a.tags; own = a.own; below = a.below; ready = a.ready; worn = a.worn; fits = a.fits };
-                keyed = let a = p.keyed in record { valid = a.valid; current = a.current; flushed = a.flushed; bare = a.bare; nameless = a.nameless; filled = a.filled; slots = a.slots };
-                naming = let a = p.naming in record { counted = a.counted; found = a.found; listed = a.listed; waiting = a.waiting; once = a.once };
-                stage = record { settled = λ s1 q. g.settled s1 (λ z. absurd cc); holds = λ b q. g.holds b q; names = g.names; here = record { root = recycling.root; next = recycling.next } };
-                short = p.short;
-              };
-              fgens = λ b. omega arith;
-            }
-            (λ k. record { stocked = k.stocked; apart = k.apart; durable = k.durable; links = link_there (eqb (age r) (age r)) k.links; words = (past (word (age r) (Some t)) shows, k.words); written = k.written; flushed = k.flushed; copied = k.copied; names = k.names; added = k.added; most = k.most; history = k.history; calls = k.calls })
-            record { task_is = refl; directory = sv.directory; roots = sv.roots; books = λ b i. books_still l m st sl Idle (Loaded cycle) v.server g refl sv (λ s1. refl) b i },
-        λ b i f. f,
-      )
+      read_linked = let g = stage_of Idle e in led_whole Idle (Loaded cycle) e refl (λ s1. refl) refl m.fnext m.root m.froot st.sure st.lead st.flead ru.core (λ s1. omega arith) (λ b. omega arith) w.help.ranged.below
+          (λ s1 q. g.settled s1 (λ z. absurd cc)) g.names record { root = recycling.root; next = recycling.next } y.pass refl refl
+          (λ k. record { stocked = k.stocked; apart = k.apart; durable = k.durable; links = link_there (eqb (age r) (age r)) k.links; words = (past (word (age r) (Some t)) shows, k.words); written = k.written; flushed = k.flushed; copied = k.copied; names = k.names; added = k.added; most = k.most; history = k.history; calls = k.calls })
 
   -- the raise over its link
   module _ (cycle : Recycling) (e : v.server.task ≡ Loaded cycle) where
@@ -150,190 +183,45 @@ module _ (l : Pool) (m0 : Map) (used : List ℕ) (m : Mem) (vs : List View) (id 
     abbrev ss : Story
     ss = record (raised_story st cycle.slot (st.gone cycle.slot)) { task = Raised cycle }
 
-    sure_more : (s1 : ℕ) → st.sure s1 ≤ ss.sure s1
-    sure_more s1 = dite (ℕ_discrete s1 cycle.slot) (λ d. rw d (rw (upd_same st.sure cycle.slot (greatest (st.sure cycle.slot) (suc (suc (st.gone cycle.slot))))) (most_left (st.sure cycle.slot) (suc (suc (st.gone cycle.slot)))))) (λ n. let q : ss.sure s1 ≡ st.sure s1 = upd_else st.sure cycle.slot s1 (greatest (st.sure cycle.slot) (suc (suc (st.gone cycle.slot)))) n in omega arith)
-
     now_sure : suc (st.gone cycle.slot) < ss.sure cycle.slot
-    now_sure = rw (upd_same st.sure cycle.slot (greatest (st.sure cycle.slot) (suc (suc (st.gone cycle.slot))))) (most_right (st.sure cycle.slot) (suc (suc (st.gone cycle.slot))))
+    now_sure = raised_now st cycle.slot (st.gone cycle.slot)
 
-    grow : Grows m st h ms ss h
-    grow = record { versions = λ s1 i1 w1 q. q; sure = sure_more; gone = λ j. omega arith; gens = λ b. omega arith; names = prefix_self st.bindings; count = omega arith; history = prefix_self h }
-
-    new_f : ms.fnext (home cycle.root) ≡ greater (m.fnext (home cycle.root)) (word (age cycle.root) (Some cycle.next))
-    new_f = upd_same m.fnext (home cycle.root) (greater (m.fnext (home cycle.root)) (word (age cycle.root) (Some cycle.next)))
-
-    else_f : (b : ℕ) → b ≢ home cycle.root → ms.fnext b ≡ m.fnext b
-    else_f b n = upd_else m.fnext (home cycle.root) b (greater (m.fnext (home cycle.root)) (word (age cycle.root) (Some cycle.next))) n
+    old_root : age cycle.root ≤ gen (m.next (home cycle.root))
+    old_root = let z = ap gen (ru.core.standing cycle.slot (st.gone cycle.slot) cycle.root gl.here.root (omega arith)).now in omega arith
 
     pub flush_link_whole : IsServed l m0 used ms (renewed vs id (link_flushed v cycle)) st h
-    flush_link_whole = let p = w.help in let sv = serves_of (Loaded cycle) e in (
-      ss,
-      whole l m0 used m vs st h w id v at role (link_flushed v cycle) refl refl refl ms ss
-          record {
-            core = core_copy ms (raised_story st cycle.slot (st.gone cycle.slot)) (raise_core m st cycle.slot (st.gone cycle.slot) cycle.root cycle.next ru.core record { from = gl.here.root; to = gl.here.next }) m.body m.fbody m.key m.fkey m.short m.count st.keys st.first st.bindings (Raised cycle) st.slot_named;
-            tale = record {
-              legal = ru.tale.legal;
-              told = ru.tale.told;
-              began = ru.tale.began;
-              unread = unread_less (unsure st) (unsure ss) (λ y q. unsure_less (st.sure (st.slot_of y)) (ss.sure (st.slot_of y)) (st.rank y) (sure_more (st.slot_of y)) q) h ru.tale.unread;
-              settled = λ s1 j y q. let a = ru.tale.settled s1 j y q in let b = sure_more s1 in omega arith;
-              unbound = ru.tale.unbound;
-            };
-            bodies = ru.bodies;
-            spent = λ y q. q;
-            bound = ru.bound;
-            keyed = ru.keyed;
-            grows = grow;
-            leaves = λ j b f. record { place = f; next = refl; body = λ y. refl; fbody = λ y. refl };
-            help = record {
-              ranged = let a = p.ranged in record {
-                tags = a.tags;
-                own = a.own;
-                ready = a.ready;
-                worn = a.worn;
-                fits = a.fits;
-                below = λ b. dite (ℕ_discrete b (home cycle.root)) (λ d. rw d (rw new_f (gen_most (m.fnext (home cycle.root)) (word (age cycle.root) (Some cycle.next)) (gen (m.next (home cycle.root))) (a.below (home cycle.root)) (let z = ap gen (ru.core.standing cycle.slot (st.gone cycle.slot) cycle.root gl.here.root (omega arith)).now in omega arith)))) (λ n. let z = ap gen (else_f b n) in let z1 = a.below b in omega arith);
-              };
-              keyed = let a = p.keyed in record { valid = a.valid; current = a.current; flushed = a.flushed; bare = a.bare; nameless = a.nameless; filled = a.filled; slots = a.slots };
-              naming = let a = p.naming in record { counted = a.counted; found = a.found; listed = a.listed; waiting = a.waiting; once = a.once };
-              stage = record { settled = λ s1 q. gl.settled s1 (λ z. absurd cc); holds = λ b q. gl.holds b q; names = gl.names; here = (record { root = gl.here.root; next = gl.here.next }, now_sure) };
-              short = λ s1 y q. durable_kept m st h ms ss h grow s1 y (p.short s1 y q);
-            };
-            fgens = λ b. dite (ℕ_discrete b (home cycle.root)) (λ d. rw d (rw new_f (gen_least (m.fnext (home cycle.root)) (word (age cycle.root) (Some cycle.next))))) (λ n. let z = ap gen (else_f b n) in omega arith);
-          }
-          (λ q. let a = same_known ms ss h id v (link_flushed v cycle).server q in record { stocked = a.stocked; apart = a.apart; durable = ((suc (st.gone cycle.slot), gl.here.next, now_sure), a.durable); links = a.links; words = a.words; written = a.written; flushed = a.flushed; copied = a.copied; names = a.names; added = a.added; most = a.most; history = a.history; calls = a.calls })
-          record { task_is = refl; directory = sv.directory; roots = sv.roots; books = λ b i. books_still l m st ss (Loaded cycle) (Raised cycle) v.server gl refl sv (λ s1. refl) b i },
-      λ b i f. f,
-    )
+    flush_link_whole = led_whole (Loaded cycle) (Raised cycle) e refl (λ s1. refl) refl ms.fnext m.root m.froot ss.sure st.lead st.flead (raise_core m st cycle.slot (st.gone cycle.slot) cycle.root cycle.next ru.core record { from = gl.here.root; to = gl.here.next })
+        (raised_more st cycle.slot (st.gone cycle.slot)) (raised_higher m cycle.root cycle.next) (λ b. raised_below m cycle.root cycle.next b old_root (w.help.ranged.below b))
+        (λ s1 q. gl.settled s1 (λ z. absurd cc)) gl.names (record { root = gl.here.root; next = gl.here.next }, now_sure) (link_flushed v cycle).pass refl refl
+        (λ a. record { stocked = a.stocked; apart = a.apart; durable = ((suc (st.gone cycle.slot), gl.here.next, now_sure), a.durable); links = a.links; words = a.words; written = a.written; flushed = a.flushed; copied = a.copied; names = a.names; added = a.added; most = a.most; history = a.history; calls = a.calls })
 
   -- the store of the root
   module _ (cycle : Recycling) (e : v.server.task ≡ Raised cycle) where
-    gr : Stage l m st (Raised cycle)
-    gr = stage_of (Raised cycle) e
-
-    abbrev mr : Mem
-    mr = record m { root = upd m.root cycle.slot (Some cycle.next) }
-
-    abbrev sr : Story
-    sr = record st { lead = upd st.lead cycle.slot (suc (st.gone cycle.slot)); task = Led cycle }
-
-    pub store_root_whole : IsServed l m0 used mr (renewed vs id (at_task v (Led cycle))) st h
-    store_root_whole = let p = w.help in let sv = serves_of (Raised cycle) e in (
-      sr,
-      whole l m0 used m vs st h w id v at role (at_task v (Led cycle)) refl refl refl mr sr
-          record {
-            core = core_copy mr (record st { lead = upd st.lead cycle.slot (suc (st.gone cycle.slot)) }) (root_core m st cycle.slot cycle.root cycle.next ru.core gr.here.0.root gr.here.0.next gr.here.1) m.body m.fbody m.key m.fkey m.short m.count st.keys st.first st.bindings (Led cycle) st.slot_named;
-            tale = tale_copy st m0 used h ru.tale st.place st.gone (upd st.lead cycle.slot (suc (st.gone cycle.slot))) st.flead st.named st.bindings (Led cycle) st.slot_named;
-            bodies = ru.bodies;
-            spent = λ y q. q;
-            bound = ru.bound;
-            keyed = ru.keyed;
-            grows = grow_refl m mr st sr h (λ a. refl) (λ a. refl) (λ a. refl) (λ a. refl) (prefix_self st.bindings) (omega arith);
-            leaves = λ j b f. record { place = f; next = refl; body = λ y. refl; fbody = λ y. refl };
-            help = record {
-              ranged = let a = p.ranged in record { tags = a.tags; own = a.own; below = a.below; ready = a.ready; worn = a.worn; fits = a.fits };
-              keyed = let a = p.keyed in record { valid = a.valid; current = a.current; flushed = a.flushed; bare = a.bare; nameless = a.nameless; filled = a.filled; slots = a.slots };
-              naming = let a = p.naming in record { counted = a.counted; found = a.found; listed = a.listed; waiting = a.waiting; once = a.once };
-              stage = record {
-                settled = λ s1 q. let d : s1 ≢ cycle.slot = λ z. q (ap Some (sym z)) in let a = gr.settled s1 (λ z. absurd cc) in (upd_else st.lead cycle.slot s1 (suc (st.gone cycle.slot)) d ∙ a.0, a.1);
-                holds = λ b q. gr.holds b q;
-                names = gr.names;
-                here = (record { root = gr.here.0.root; next = gr.here.0.next }, gr.here.1, upd_same st.lead cycle.slot (suc (st.gone cycle.slot)), (gr.settled cycle.slot (λ z. absurd cc)).1);
-              };
-              short = p.short;
-            };
-            fgens = λ b. omega arith;
-          }
-          (same_known mr sr h id v (at_task v (Led cycle)).server)
-          record { task_is = refl; directory = sv.directory; roots = sv.roots; books = λ b i. books_still l m st sr (Raised cycle) (Led cycle) v.server gr refl sv (λ s1. refl) b i },
-      λ b i f. f,
-    )
+    pub store_root_whole : IsServed l m0 used (record m { root = upd m.root cycle.slot (Some cycle.next) }) (renewed vs id (at_task v (Led cycle))) st h
+    store_root_whole = let g = stage_of (Raised cycle) e in roots_whole (Raised cycle) (Led cycle) e refl (λ s1. refl) refl (upd m.root cycle.slot (Some cycle.next)) m.froot (upd st.lead cycle.slot (suc (st.gone cycle.slot))) st.flead
+        (root_core m st cycle.slot cycle.root cycle.next ru.core g.here.0.root g.here.0.next g.here.1)
+        (λ s1 q. let d : s1 ≢ cycle.slot = λ z. q (ap Some (sym z)) in let a = g.settled s1 (λ z. absurd cc) in (upd_else st.lead cycle.slot s1 (suc (st.gone cycle.slot)) d ∙ a.0, a.1))
+        g.names (record { root = g.here.0.root; next = g.here.0.next }, g.here.1, upd_same st.lead cycle.slot (suc (st.gone cycle.slot)), (g.settled cycle.slot (λ z. absurd cc)).1)
 
   -- the store of its flushed copy
   module _ (cycle : Recycling) (e : v.server.task ≡ Led cycle) where
-    gd : Stage l m st (Led cycle)
-    gd = stage_of (Led cycle) e
-
-    abbrev mf : Mem
-    mf = record m { froot = upd m.froot cycle.slot (Some cycle.next) }
-
-    abbrev sf : Story
-    sf = record st { flead = upd st.flead cycle.slot (st.lead cycle.slot); task = Both cycle }
-
-    pub store_flushed_whole : IsServed l m0 used mf (renewed vs id (at_task v (Both cycle))) st h
-    store_flushed_whole = let p = w.help in let sv = serves_of (Led cycle) e in (
-      sf,
-      whole l m0 used m vs st h w id v at role (at_task v (Both cycle)) refl refl refl mf sf
-          record {
-            core = core_copy mf (record st { flead = upd st.flead cycle.slot (st.lead cycle.slot) }) (flush_core m st cycle.slot cycle.next ru.core (ap (tag_at st cycle.slot) gd.here.2 ∙ gd.here.0.next)) m.body m.fbody m.key m.fkey m.short m.count st.keys st.first st.bindings (Both cycle) st.slot_named;
-            tale = tale_copy st m0 used h ru.tale st.place st.gone st.lead (upd st.flead cycle.slot (st.lead cycle.slot)) st.named st.bindings (Both cycle) st.slot_named;
-            bodies = ru.bodies;
-            spent = λ y q. q;
-            bound = ru.bound;
-            keyed = ru.keyed;
-            grows = grow_refl m mf st sf h (λ a. refl) (λ a. refl) (λ a. refl) (λ a. refl) (prefix_self st.bindings) (omega arith);
-            leaves = λ j b f. record { place = f; next = refl; body = λ y. refl; fbody = λ y. refl };
-            help = record {
-              ranged = let a = p.ranged in record { tags = a.tags; own = a.own; below = a.below; ready = a.ready; worn = a.worn; fits = a.fits };
-              keyed = let a = p.keyed in record { valid = a.valid; current = a.current; flushed = a.flushed; bare = a.bare; nameless = a.nameless; filled = a.filled; slots = a.slots };
-              naming = let a = p.naming in record { counted = a.counted; found = a.found; listed = a.listed; waiting = a.waiting; once = a.once };
-              stage = record {
-                settled = λ s1 q. let d : s1 ≢ cycle.slot = λ z. q (ap Some (sym z)) in let a = gd.settled s1 q in (a.0, upd_else st.flead cycle.slot s1 (st.lead cycle.slot) d ∙ a.1);
-                holds = λ b q. gd.holds b q;
-                names = gd.names;
-                here = (record { root = gd.here.0.root; next = gd.here.0.next }, gd.here.1, gd.here.2, upd_same st.flead cycle.slot (st.lead cycle.slot) ∙ gd.here.2);
-              };
-              short = p.short;
-            };
-            fgens = λ b. omega arith;
-          }
-          (same_known mf sf h id v (at_task v (Both cycle)).server)
-          record { task_is = refl; directory = sv.directory; roots = sv.roots; books = λ b i. books_still l m st sf (Led cycle) (Both cycle) v.server gd refl sv (λ s1. refl) b i },
-      λ b i f. f,
-    )
+    pub store_flushed_whole : IsServed l m0 used (record m { froot = upd m.froot cycle.slot (Some cycle.next) }) (renewed vs id (at_task v (Both cycle))) st h
+    store_flushed_whole = let g = stage_of (Led cycle) e in roots_whole (Led cycle) (Both cycle) e refl (λ s1. refl) refl m.root (upd m.froot cycle.slot (Some cycle.next)) st.lead (upd st.flead cycle.slot (st.lead cycle.slot))
+        (flush_core m st cycle.slot cycle.next ru.core (ap (tag_at st cycle.slot) g.here.2 ∙ g.here.0.next))
+        (λ s1 q. let d : s1 ≢ cycle.slot = λ z. q (ap Some (sym z)) in let a = g.settled s1 q in (a.0, upd_else st.flead cycle.slot s1 (st.lead cycle.slot) d ∙ a.1))
+        g.names (record { root = g.here.0.root; next = g.here.0.next }, g.here.1, g.here.2, upd_same st.flead cycle.slot (st.lead cycle.slot) ∙ g.here.2)
 
   -- a binding's store of the flushed root
   module _ (bind : NewBinding) (e : v.server.task ≡ Rooted bind) where
-    gb : Stage l m st (Rooted bind)
-    gb = stage_of (Rooted bind) e
-
-    abbrev mb : Mem
-    mb = record m { froot = upd m.froot bind.slot (Some bind.tag) }
-
-    abbrev sb : Story
-    sb = record st { flead = upd st.flead bind.slot (st.lead bind.slot); task = Waiting bind }
-
-    pub bind_flushed_whole : IsServed l m0 used mb (renewed vs id (at_task v (Waiting bind))) st h
-    bind_flushed_whole = let p = w.help in let sv = serves_of (Rooted bind) e in let a0 = gb.here.0 in (
-      sb,
-      whole l m0 used m vs st h w id v at role (at_task v (Waiting bind)) refl refl refl mb sb
-          record {
-            core = core_copy mb (record st { flead = upd st.flead bind.slot (st.lead bind.slot) }) (flush_core m st bind.slot bind.tag ru.core (ap (tag_at st bind.slot) ((gb.settled bind.slot (λ z. absurd cc)).0 ∙ a0.gone) ∙ a0.tag)) m.body m.fbody m.key m.fkey m.short m.count st.keys st.first st.bindings (Waiting bind) st.slot_named;
-            tale = tale_copy st m0 used h ru.tale st.place st.gone st.lead (upd st.flead bind.slot (st.lead bind.slot)) st.named st.bindings (Waiting bind) st.slot_named;
-            bodies = ru.bodies;
-            spent = λ y q. q;
-            bound = ru.bound;
-            keyed = ru.keyed;
-            grows = grow_refl m mb st sb h (λ a. refl) (λ a. refl) (λ a. refl) (λ a. refl) (prefix_self st.bindings) (omega arith);
-            leaves = λ j b f. record { place = f; next = refl; body = λ y. refl; fbody = λ y. refl };
-            help = record {
-              ranged = let a = p.ranged in record { tags = a.tags; own = a.own; below = a.below; ready = a.ready; worn = a.worn; fits = a.fits };
-              keyed = let a = p.keyed in record { valid = a.valid; current = a.current; flushed = a.flushed; bare = a.bare; nameless = a.nameless; filled = a.filled; slots = a.slots };
-              naming = let a = p.naming in record { counted = a.counted; found = a.found; listed = a.listed; waiting = a.waiting; once = a.once };
-              stage = record {
-                settled = λ s1 q. let a = gb.settled s1 (λ z. absurd cc) in (a.0, ⊎_elim (λ d. d.1 ∙ ap st.lead (sym d.0) ∙ a.0) (λ d. d.1 ∙ a.1) (flead_cases m st bind.slot bind.tag ru.core (ap (tag_at st bind.slot) ((gb.settled bind.slot (λ z. absurd cc)).0 ∙ a0.gone) ∙ a0.tag) s1));
-                holds = λ b q. gb.holds b q;
-                names = gb.names;
-                here = (record { key = a0.key; unnamed = a0.unnamed; alone = a0.alone; tag = a0.tag; gone = a0.gone }, upd_same m.froot bind.slot (Some bind.tag));
-              };
-              short = p.short;
-            };
-            fgens = λ b. omega arith;
-          }
-          (same_known mb sb h id v (at_task v (Waiting bind)).server)
-          record { task_is = refl; directory = sv.directory; roots = sv.roots; books = λ b i. books_still l m st sb (Rooted bind) (Waiting bind) v.server gb refl sv (λ s1. refl) b i },
-      λ b i f. f,
-    )
+    pub bind_flushed_whole : IsServed l m0 used (record m { froot = upd m.froot bind.slot (Some bind.tag) }) (renewed vs id (at_task v (Waiting bind))) st h
+    bind_flushed_whole =
+        let g = stage_of (Rooted bind) e in
+        let a0 = g.here.0 in
+        let leads : tag_at st bind.slot (st.lead bind.slot) ≡ Some bind.tag = ap (tag_at st bind.slot) ((g.settled bind.slot (λ z. absurd cc)).0 ∙ a0.gone) ∙ a0.tag in
+        roots_whole (Rooted bind) (Waiting bind) e refl (λ s1. refl) refl m.root (upd m.froot bind.slot (Some bind.tag)) st.lead (upd st.flead bind.slot (st.lead bind.slot))
+        (flush_core m st bind.slot bind.tag ru.core leads)
+        (λ s1 q. let a = g.settled s1 (λ z. absurd cc) in (a.0, ⊎_elim (λ d. d.1 ∙ ap st.lead (sym d.0) ∙ a.0) (λ d. d.1 ∙ a.1) (flead_cases m st bind.slot bind.tag ru.core leads s1)))
+        g.names (record { key = a0.key; unnamed = a0.unnamed; alone = a0.alone; tag = a0.tag; gone = a0.gone }, upd_same m.froot bind.slot (Some bind.tag))
 
   -- the store of the count
   module _ (bind : NewBinding) (e : v.server.task ≡ Waiting bind) where

@@ -1,41 +1,71 @@
--- A client's store of a content word of its own stock.
-use Rattle.std.proofs.Common.{◌≡◌, ℕ, ◌≢◌, List, [], ◌∷◌, Bool, true, false, cond, eqb, refl, sym, ap, ◌∙◌, ⊎_elim, arith}
+-- A client's store of one copy of a content word of its own stock: what any change within a buffer of a stock
+-- keeps, and the law for the current and for the flushed copy.
+use Rattle.std.proofs.Common.{◌≡◌, ℕ, ◌≤◌, ◌≢◌, List, [], ◌∷◌, Bool, true, false, cond, eqb, refl, sym, ap, ◌∙◌, ⊎_elim, arith}
 use native.Mathlib.Decide.{ℕ_discrete}
 use mathlib.Core.Logic.{dite}
-use Rattle.std.specs.Prelude.{Some}
+use Rattle.std.specs.Prelude.{◌&&◌, Some}
 use Rattle.clover_words.specs.Tag.{home}
 use Rattle.clover_map.specs.declared.call.Entry.{Entry}
-use Rattle.clover_rule.specs.History.{Map, used_by}
-use Rattle.clover_rule.specs.Knowing.{dropped, stored_view, stored_mem}
+use Rattle.clover_rule.specs.History.{Version, Map, used_by}
+use Rattle.clover_rule.specs.Knowing.{dropped, stored_view, stored_mem, flushed_view, flushed_mem}
 use Rattle.clover_rule.specs.Lists.{Each, nth, upd, Within}
 use Rattle.clover_rule.specs.Memory.{gen, Mem}
 use Rattle.clover_rule.specs.Server.{AtStage, Whole}
 use Rattle.clover_rule.specs.Story.{Stocked, Story, tag_in_version}
-use Rattle.clover_rule.specs.Views.{Owned, ViewOk, Basis, renewed}
+use Rattle.clover_rule.specs.Views.{Owned, Stands, ViewOk, Basis, renewed}
 use Rattle.clover_rule.specs.declared.view.Content.{Content}
 use Rattle.clover_rule.specs.declared.view.Role.TheVariants.{Client}
-use Rattle.clover_rule.specs.declared.view.Task.{Task}
-use Rattle.clover_rule.specs.declared.view.Task.TheVariants.{Idle, Storing, Rooted, Waiting, Loaded, Raised, Led, Both, Exchanged}
+use Rattle.clover_rule.specs.declared.view.ServerTask.{ServerTask}
+use Rattle.clover_rule.specs.declared.view.ServerTask.TheVariants.{Idle, Storing, Rooted, Waiting, Loaded, Raised, Led, Both, Exchanged}
 use Rattle.clover_rule.specs.declared.view.View.{View}
 use Rattle.clover_words.specs.declared.pool.Pool.{Pool}
 use Rattle.clover_rule.proofs.Tools.{upd_same, upd_else, other_place}
 use Rattle.clover_rule.proofs.Standings.{exchanged_tag, same_tag}
 use Rattle.clover_rule.proofs.Steps.{each_map, each_within, prefix_self, Grows, view_kept, nth_set, role_was, longest_was}
-use Rattle.std.specs.Prelude.{◌&&◌}
 use Rattle.clover_rule.proofs.ServerTools.{core_copy}
 use Rattle.clover_rule.proofs.ClientSteps.{client_whole}
 use Rattle.clover_rule.proofs.Stages.{grow_refl}
 
+-- the word at this place of the buffer of t
+abbrev written : (ℕ → ℕ → ℕ) → ℕ → ℕ → ℕ → ℕ → ℕ → ℕ
+written f t j x = upd f (home t) (upd (f (home t)) j x)
+
+-- a seat's own tag, at whose place the copy has this word
+abbrev Wrote : Mem → Story → ℕ → (ℕ → ℕ → ℕ) → Content → Type 0
+Wrote m st id f c = Owned m st id c.tag × (f (home c.tag) c.place ≡ c.word)
+
+-- what a seat knows that it wrote stays so where it writes one more word, and drops what stood there
+module _ (m : Mem) (st : Story) (id : ℕ) (f : ℕ → ℕ → ℕ) (t j x : ℕ) (owned : Owned m st id t) where
+  word_else : (b : ℕ) → b ≢ home t → written f t j x b ≡ f b
+  word_else b d = upd_else f (home t) b (upd (f (home t)) j x) d
+
+  word_here : written f t j x (home t) ≡ upd (f (home t)) j x
+  word_here = upd_same f (home t) (upd (f (home t)) j x)
+
+  word_kept : (c : Content) → Wrote m st id f c → eqb c.tag t && eqb c.place j ≡ false → Wrote m st id (written f t j x) c
+  word_kept c a e = (
+    a.0,
+    dite (ℕ_discrete (home c.tag) (home t))
+        (λ d. let same : c.tag ≡ t = same_tag c.tag t d (sym a.0.1 ∙ ap gen (ap m.next d) ∙ owned.1) in
+        ap (λ (b : ℕ). written f t j x b c.place) d ∙ ap (λ (g : ℕ → ℕ). g c.place) word_here ∙ upd_else (f (home t)) j c.place x (other_place c.tag t j c.place same e) ∙ ap (λ (b : ℕ). f b c.place) (sym d) ∙ a.1)
+        (λ d. ap (λ (g : ℕ → ℕ). g c.place) (word_else (home c.tag) d) ∙ a.1),
+  )
+
+  others_kept : (cs : List Content) → Each (Wrote m st id f) cs → Each (Wrote m st id (written f t j x)) (dropped t j cs)
+  others_kept [] a = tt
+  others_kept (c ∷ cs) a = go (eqb c.tag t && eqb c.place j) refl (others_kept cs a.1)
+    where
+      go : (b : Bool) → eqb c.tag t && eqb c.place j ≡ b → Each (Wrote m st id (written f t j x)) (dropped t j cs) → Each (Wrote m st id (written f t j x)) (cond b (dropped t j cs) (c ∷ dropped t j cs))
+      go true e q = q
+      go false e q = (word_kept c a.0 e, q)
+
+  all_wrote : (cs : List Content) → Each (Wrote m st id f) cs → Each (Wrote m st id (written f t j x)) (record { tag = t; place = j; word = x } ∷ dropped t j cs)
+  all_wrote cs a = ((owned, ap (λ (g : ℕ → ℕ). g j) word_here ∙ upd_same (f (home t)) j x), others_kept cs a)
+
 module _ (l : Pool) (m0 : Map) (used : List ℕ) (m : Mem) (vs : List View) (st : Story) (h : List Entry) (w : Whole l m0 used m vs st h) (id : ℕ) (v : View) (at : nth vs id ≡ Some v) (n : ℕ) (role : v.pass.role ≡ Client n)
-    (t j x : ℕ) (own : Within t v.pass.stock) where
+    (t : ℕ) (own : Within t v.pass.stock) where
   abbrev r : Basis m0 used m vs st h
   r = w.basis
-
-  abbrev m1 : Mem
-  m1 = stored_mem m t j x
-
-  abbrev v' : View
-  v' = stored_view v t j x
 
   ok : ViewOk m st h id v
   ok = r.views id v at
@@ -43,121 +73,112 @@ module _ (l : Pool) (m0 : Map) (used : List ℕ) (m : Mem) (vs : List View) (st 
   owned : Owned m st id t
   owned = each_within (Owned m st id) t v.pass.stock ok.stocked own
 
-  body_else : (b : ℕ) → b ≢ home t → m1.body b ≡ m.body b
-  body_else b d = upd_else m.body (home t) b (upd (m.body (home t)) j x) d
+  -- content words changed in the buffer of t alone, and the seat knows what it wrote
+  module _ (body fbody : ℕ → ℕ → ℕ) (body_else : (b : ℕ) → b ≢ home t → body b ≡ m.body b) (fbody_else : (b : ℕ) → b ≢ home t → fbody b ≡ m.fbody b)
+      (stored flushed : List Content) (stored_ok : Each (Wrote m st id body) stored) (flushed_ok : Each (Wrote m st id fbody) flushed) where
+    abbrev m1 : Mem
+    m1 = record m { body = body; fbody = fbody }
 
-  body_here : m1.body (home t) ≡ upd (m.body (home t)) j x
-  body_here = upd_same m.body (home t) (upd (m.body (home t)) j x)
+    abbrev v' : View
+    v' = record v { pass = record v.pass { written = stored; flushed = flushed } }
 
-  Kept : Content → Type 0
-  Kept c = Owned m st id c.tag × (m1.body (home c.tag) c.place ≡ c.word)
+    ok' : ViewOk m1 st h id v'
+    ok' = record {
+      stocked = ok.stocked;
+      apart = ok.apart;
+      durable = ok.durable;
+      links = ok.links;
+      words = ok.words;
+      written = stored_ok;
+      flushed = flushed_ok;
+      copied = ok.copied;
+      names = ok.names;
+      added = ok.added;
+      most = ok.most;
+      history = ok.history;
+      calls = ok.calls;
+    }
 
-  old_kept : (c : Content) → Owned m st id c.tag × (m.body (home c.tag) c.place ≡ c.word) → eqb c.tag t && eqb c.place j ≡ false → Owned m st id c.tag × (m1.body (home c.tag) c.place ≡ c.word)
-  old_kept c a e = (
-    a.0,
-    dite (ℕ_discrete (home c.tag) (home t))
-        (λ d. let same : c.tag ≡ t = same_tag c.tag t d (sym a.0.1 ∙ ap gen (ap m.next d) ∙ owned.1) in
-        ap (λ (b : ℕ). m1.body b c.place) d ∙ ap (λ (f : ℕ → ℕ). f c.place) body_here ∙ upd_else (m.body (home t)) j c.place x (other_place c.tag t j c.place same e) ∙ ap (λ (b : ℕ). m.body b c.place) (sym d) ∙ a.1)
-        (λ d. ap (λ (f : ℕ → ℕ). f c.place) (body_else (home c.tag) d) ∙ a.1),
-  )
+    grows : Grows m st h m1 st h
+    grows = grow_refl m m1 st st h (λ a. refl) (λ a. refl) (λ a. refl) (λ a. refl) (prefix_self st.bindings) (omega arith)
 
-  written' : (cs : List Content) → Each (λ (c : Content). Owned m st id c.tag × (m.body (home c.tag) c.place ≡ c.word)) cs → Each (λ (c : Content). Owned m st id c.tag × (m1.body (home c.tag) c.place ≡ c.word)) (dropped t j cs)
-  written' [] a = tt
-  written' (c ∷ cs) a = go (eqb c.tag t && eqb c.place j) refl (written' cs a.1)
-    where
-      go : (b : Bool) → eqb c.tag t && eqb c.place j ≡ b → Each (λ (c : Content). Owned m st id c.tag × (m1.body (home c.tag) c.place ≡ c.word)) (dropped t j cs) → Each (λ (c : Content). Owned m st id c.tag × (m1.body (home c.tag) c.place ≡ c.word)) (cond b (dropped t j cs) (c ∷ dropped t j cs))
-      go true e q = q
-      go false e q = (old_kept c a.0 e, q)
+    views' : (i : ℕ) (y : View) → nth (renewed vs id v') i ≡ Some y → ViewOk m1 st h i y
+    views' i y q = ⊎_elim (λ a. rw (a.0, ← a.1) ok') (λ a. view_kept m st h m1 st h grows i y (λ b o.
+        let away : b ≢ home t = λ d. a.0 (let s1 : Stocked i ≡ Stocked id = sym o ∙ ap st.place d ∙ owned.0 in cc) in
+        record { place = o; next = refl; body = λ z. ap (λ (f : ℕ → ℕ). f z) (body_else b away); fbody = λ z. ap (λ (f : ℕ → ℕ). f z) (fbody_else b away) }) (λ c f. refl) (r.views i y a.1)) (nth_set vs id i v' y q)
 
-  ok' : ViewOk m1 st h id v'
-  ok' = record {
-    stocked = ok.stocked;
-    apart = ok.apart;
-    durable = ok.durable;
-    links = ok.links;
-    words = ok.words;
-    written = ((owned, ap (λ (f : ℕ → ℕ). f j) body_here ∙ upd_same (m.body (home t)) j x), written' v.pass.written ok.written);
-    flushed = ok.flushed;
-    copied = ok.copied;
-    names = ok.names;
-    added = ok.added;
-    most = ok.most;
-    history = ok.history;
-    calls = ok.calls;
-  }
+    -- a standing version is in another buffer
+    elsewhere : (s i : ℕ) (y : Version) → Stands st s i y → st.gone s ≤ i → home y.tag ≢ home t
+    elsewhere s i y e g d = absurd (cc (ap st.place d, (r.core.standing s i y.tag (ap tag_in_version e) g).placed, owned.0))
 
-  grows : Grows m st h m1 st h
-  grows = grow_refl m m1 st st h (λ a. refl) (λ a. refl) (λ a. refl) (λ a. refl) (prefix_self st.bindings) (omega arith)
+    rule' : Basis m0 used m1 (renewed vs id v') st h
+    rule' = record {
+      core = core_copy m st r.core body fbody m.key m.fkey m.short m.count st.keys st.first st.bindings st.task st.slot_named;
+      tale = r.tale;
+      bodies = λ s i y e g k z q. let a = r.bodies s i y e g k z q in let d = elsewhere s i y e g in (ap (λ (f : ℕ → ℕ). f k) (body_else (home y.tag) d) ∙ a.0, ap (λ (f : ℕ → ℕ). f k) (fbody_else (home y.tag) d) ∙ a.1);
+      spent = each_map (λ y a. a) (used_by used h) r.spent;
+      bound = r.bound;
+      keyed = r.keyed;
+      views = views';
+      numbered = λ i1 j1 c a b qa qb ra rb. let x1 = role_was vs id v v' at refl i1 a qa in let y1 = role_was vs id v v' at refl j1 b qb in r.numbered i1 j1 c x1.0 y1.0 x1.1 y1.1 (x1.2 ∙ ra) (y1.2 ∙ rb);
+      longest = longest_was vs id v v' at h refl r.longest;
+    }
 
-  views' : (i : ℕ) (y : View) → nth (renewed vs id v') i ≡ Some y → ViewOk m1 st h i y
-  views' i y q = ⊎_elim (λ a. rw (a.0, ← a.1) ok') (λ a. view_kept m st h m1 st h grows i y (λ b o. record {
-    place = o;
-    next = refl;
-    fbody = λ z. refl;
-    body = λ z. ap (λ (f : ℕ → ℕ). f z) (body_else b (λ d. a.0 (let s1 : Stocked i ≡ Stocked id = sym o ∙ ap st.place d ∙ owned.0 in cc)));
-  }) (λ c f. refl) (r.views i y a.1)) (nth_set vs id i v' y q)
+    here : (T : ServerTask) → AtStage l m st T → AtStage l m1 st T
+    here Idle a = tt
+    here (Storing bind n1) a =
+        let away : home bind.tag ≢ home t = λ d. absurd (cc (ap st.place d, a.place, owned.0)) in
+        record {
+          place = a.place;
+          now = a.now;
+          safe = a.safe;
+          range = a.range;
+          slot = a.slot;
+          bare = a.bare;
+          unnamed = a.unnamed;
+          absent = a.absent;
+          valid = a.valid;
+          body = λ q. ap (λ (f : ℕ → ℕ). f 0) (body_else (home bind.tag) away) ∙ a.body q;
+          fbody = λ q. ap (λ (f : ℕ → ℕ). f 0) (fbody_else (home bind.tag) away) ∙ a.fbody q;
+          key = a.key;
+          fkey = a.fkey;
+        }
+    here (Rooted bind) a = (record { key = a.0.key; unnamed = a.0.unnamed; alone = a.0.alone; tag = a.0.tag; gone = a.0.gone }, a.1)
+    here (Waiting bind) a = (record { key = a.0.key; unnamed = a.0.unnamed; alone = a.0.alone; tag = a.0.tag; gone = a.0.gone }, a.1)
+    here (Loaded cycle) a = a
+    here (Raised cycle) a = a
+    here (Led cycle) a = a
+    here (Both cycle) a = a
+    here (Exchanged cycle) a =
+        let away : home a.body.0.tag ≢ home t = λ d. absurd (cc (ap (λ (b : ℕ). st.place (home b)) (exchanged_tag l m st cycle a), a.place, ap st.place d, owned.0)) in
+        record {
+          place = a.place;
+          now = a.now;
+          safe = a.safe;
+          root = a.root;
+          old = a.old;
+          body = (
+            a.body.0,
+            a.body.1,
+            λ i y q. let z = a.body.2 i y q in (ap (λ (f : ℕ → ℕ). f i) (body_else (home a.body.0.tag) away) ∙ z.0, ap (λ (f : ℕ → ℕ). f i) (fbody_else (home a.body.0.tag) away) ∙ z.1),
+          );
+          inside = a.inside;
+          young = a.young;
+        }
 
-  rule' : Basis m0 used m1 (renewed vs id v') st h
-  rule' = record {
-    core = core_copy m st r.core m1.body m.fbody m.key m.fkey m.short m.count st.keys st.first st.bindings st.task st.slot_named;
-    tale = r.tale;
-    bodies = λ s i y e g k z q. let a = r.bodies s i y e g k z q in (ap (λ (f : ℕ → ℕ). f k) (body_else (home y.tag) (λ d. absurd (cc (ap st.place d, (r.core.standing s i y.tag (ap tag_in_version e) g).placed, owned.0)))) ∙ a.0, a.1);
-    spent = each_map (λ y a. a) (used_by used h) r.spent;
-    bound = r.bound;
-    keyed = r.keyed;
-    views = views';
-    numbered = λ i1 j1 c a b qa qb ra rb. let x1 = role_was vs id v v' at refl i1 a qa in let y1 = role_was vs id v v' at refl j1 b qb in r.numbered i1 j1 c x1.0 y1.0 x1.1 y1.1 (x1.2 ∙ ra) (y1.2 ∙ rb);
-    longest = longest_was vs id v v' at h refl r.longest;
-  }
+    within_own : Whole l m0 used m1 (renewed vs id v') st h
+    within_own = let p = w.help in client_whole l m0 used m vs st h w id v v' at n role refl m1 st h rule'
+        record {
+          ranged = let a = p.ranged in record { tags = a.tags; own = a.own; below = a.below; ready = a.ready; worn = a.worn; fits = a.fits };
+          keyed = let a = p.keyed in record { valid = a.valid; current = a.current; flushed = a.flushed; bare = a.bare; nameless = a.nameless; filled = a.filled; slots = a.slots };
+          naming = let a = p.naming in record { counted = a.counted; found = a.found; listed = a.listed; waiting = a.waiting; once = a.once };
+          stage = record { settled = p.stage.settled; holds = p.stage.holds; names = p.stage.names; here = here st.task p.stage.here };
+          short = p.short;
+        }
+        (λ sv e. record { task_is = e.task_is; directory = e.directory; roots = e.roots; books = e.books }) w.safe (λ cs a b. b)
 
-  here : (T : Task) → AtStage l m st T → AtStage l m1 st T
-  here Idle a = tt
-  here (Storing bind n1) a = record {
-    place = a.place;
-    now = a.now;
-    safe = a.safe;
-    range = a.range;
-    slot = a.slot;
-    bare = a.bare;
-    unnamed = a.unnamed;
-    absent = a.absent;
-    valid = a.valid;
-    body = λ q. ap (λ (f : ℕ → ℕ). f 0) (body_else (home bind.tag) (λ d. absurd (cc (ap st.place d, a.place, owned.0)))) ∙ a.body q;
-    fbody = a.fbody;
-    key = a.key;
-    fkey = a.fkey;
-  }
-  here (Rooted bind) a = (record { key = a.0.key; unnamed = a.0.unnamed; alone = a.0.alone; tag = a.0.tag; gone = a.0.gone }, a.1)
-  here (Waiting bind) a = (record { key = a.0.key; unnamed = a.0.unnamed; alone = a.0.alone; tag = a.0.tag; gone = a.0.gone }, a.1)
-  here (Loaded cycle) a = a
-  here (Raised cycle) a = a
-  here (Led cycle) a = a
-  here (Both cycle) a = a
-  here (Exchanged cycle) a = record {
-    place = a.place;
-    now = a.now;
-    safe = a.safe;
-    root = a.root;
-    old = a.old;
-    body = (
-      a.body.0,
-      a.body.1,
-      λ i y q.
-          let z = a.body.2 i y q in
-          let still : m1.body (home a.body.0.tag) ≡ m.body (home a.body.0.tag) = body_else (home a.body.0.tag) (λ d. absurd (cc (ap (λ (b : ℕ). st.place (home b)) (exchanged_tag l m st cycle a), a.place, ap st.place d, owned.0))) in
-          (ap (λ (f : ℕ → ℕ). f i) still ∙ z.0, z.1),
-    );
-    inside = a.inside;
-    young = a.young;
-  }
+  pub store_whole : (j x : ℕ) → Whole l m0 used (stored_mem m t j x) (renewed vs id (stored_view v t j x)) st h
+  store_whole j x = within_own (written m.body t j x) m.fbody (word_else m st id m.body t j x owned) (λ b d. refl) (record { tag = t; place = j; word = x } ∷ dropped t j v.pass.written) v.pass.flushed (all_wrote m st id m.body t j x owned v.pass.written ok.written) ok.flushed
 
-  pub store_whole : Whole l m0 used m1 (renewed vs id v') st h
-  store_whole = let p = w.help in client_whole l m0 used m vs st h w id v v' at n role refl m1 st h rule'
-      record {
-        ranged = let a = p.ranged in record { tags = a.tags; own = a.own; below = a.below; ready = a.ready; worn = a.worn; fits = a.fits };
-        keyed = let a = p.keyed in record { valid = a.valid; current = a.current; flushed = a.flushed; bare = a.bare; nameless = a.nameless; filled = a.filled; slots = a.slots };
-        naming = let a = p.naming in record { counted = a.counted; found = a.found; listed = a.listed; waiting = a.waiting; once = a.once };
-        stage = record { settled = p.stage.settled; holds = p.stage.holds; names = p.stage.names; here = here st.task p.stage.here };
-        short = p.short;
-      }
-      (λ sv e. record { task_is = e.task_is; directory = e.directory; roots = e.roots; books = e.books }) w.safe (λ cs a b. b)
+  pub flush_whole : (j x : ℕ) → Whole l m0 used (flushed_mem m t j x) (renewed vs id (flushed_view v t j x)) st h
+  flush_whole j x = within_own m.body (written m.fbody t j x) (λ b d. refl) (word_else m st id m.fbody t j x owned) v.pass.written (record { tag = t; place = j; word = x } ∷ dropped t j v.pass.flushed) ok.written (all_wrote m st id m.fbody t j x owned v.pass.flushed ok.flushed)

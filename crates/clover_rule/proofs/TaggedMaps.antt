@@ -19,17 +19,18 @@ use Rattle.clover_map.specs.Tags.{IsFresh, new_tags}
 use Rattle.clover_map.specs.Does.{held}
 use Rattle.clover_map.specs.Does as Theirs
 use Rattle.clover_map.specs.Legal as Runs
-use Rattle.clover_rule.specs.History.{Map, Version, same_key, at_key, Fresh, Does, Legal, leads, grown, commit_of, changed, named, committed, tag_in, shows}
+use Rattle.std.specs.Str.{bytes_eq}
+use Rattle.clover_rule.specs.History.{Map, Version, at_key, Fresh, Does, Legal, leads, grown, commit_of, changed, named, committed, tag_in, shows}
 use Rattle.clover_rule.proofs.Keys.{eq_key, ne_key, key_discrete}
 
-same_test : (k q : List ℕ) → eq_by_cmp (slice_cmp nat_cmp) q k ≡ same_key k q
+same_test : (k q : List ℕ) → eq_by_cmp (slice_cmp nat_cmp) q k ≡ bytes_eq k q
 same_test k q = go (key_discrete k q)
   where
     ties : (b : Bool) → eq_by_cmp (slice_cmp nat_cmp) q k ≡ b → k ≢ q → b ≡ false
     ties false e n = refl
     ties true e n = absurd (n (sym (exact_keys q k ((Equal-is (slice_cmp nat_cmp q k)).0 e))))
 
-    go : Dec (k ≡ q) → eq_by_cmp (slice_cmp nat_cmp) q k ≡ same_key k q
+    go : Dec (k ≡ q) → eq_by_cmp (slice_cmp nat_cmp) q k ≡ bytes_eq k q
     go (yes e) = ap (λ (z : List ℕ). eq_by_cmp (slice_cmp nat_cmp) q z) e ∙ (eq_by_cmp_equiv nat_list_cmp_total).refl q ∙ sym (eq_key k q e)
     go (no n) = ties (eq_by_cmp (slice_cmp nat_cmp) q k) refl n ∙ sym (ne_key k q n)
 

@@ -28,8 +28,8 @@ use Rattle.clover_rule.specs.Words.{mem_of}
 use Rattle.clover_rule.specs.declared.view.RestartStore.{RestartStore}
 use Rattle.clover_rule.specs.declared.view.RestartStore.TheVariants.{ClearRoot, ClearFlushedRoot, Lift, LiftFlushed, SetCount}
 use Rattle.clover_rule.specs.declared.view.View.{View}
-use Rattle.clover_rule.specs.declared.view.Task.{Task}
-use Rattle.clover_rule.specs.declared.view.Task.TheVariants.{Idle, Storing, Rooted, Waiting, Loaded, Raised, Led, Both, Exchanged}
+use Rattle.clover_rule.specs.declared.view.ServerTask.{ServerTask}
+use Rattle.clover_rule.specs.declared.view.ServerTask.TheVariants.{Idle, Storing, Rooted, Waiting, Loaded, Raised, Led, Both, Exchanged}
 use Rattle.clover_rule.proofs.ServerTools.{free_place}
 use Rattle.clover_rule.proofs.Hands.{each_both}
 use Rattle.clover_rule.proofs.Steps.{each_map, each_of, within_prefix, set_here}
@@ -68,7 +68,7 @@ module _ (p : Pool) (first : Tagged) (used : List ℕ) (ws : List ℕ) (vs : Lis
   root_in_range s t d = r.whole.help.ranged.tags s d.0 t d.1
 
   -- a root of the directory is in range, whatever the task
-  root_ranged : (T : Task) → AtStage p m st T → (s t : ℕ) → root_in T st s ≡ Some t → (s < p.slots) × InRange p t
+  root_ranged : (T : ServerTask) → AtStage p m st T → (s t : ℕ) → root_in T st s ≡ Some t → (s < p.slots) × InRange p t
   root_ranged T a s t e = by T a e
     where
       here : tag_at st s (st.gone s) ≡ Some t → (s < p.slots) × InRange p t
@@ -78,7 +78,7 @@ module _ (p : Pool) (first : Tagged) (used : List ℕ) (ws : List ℕ) (vs : Lis
       none_or true f = absurd (let z : ◌≡◌ {A = Option ℕ} None (Some t) = f in cc)
       none_or false f = here f
 
-      by : (T : Task) → AtStage p m st T → root_in T st s ≡ Some t → (s < p.slots) × InRange p t
+      by : (T : ServerTask) → AtStage p m st T → root_in T st s ≡ Some t → (s < p.slots) × InRange p t
       by Idle a f = here f
       by (Storing bind n1) a f = here f
       by (Rooted bind) a f = none_or (eqb bind.slot s) f
@@ -97,7 +97,7 @@ module _ (p : Pool) (first : Tagged) (used : List ℕ) (ws : List ℕ) (vs : Lis
   bound_in : (s : ℕ) (k : List ℕ) → st.keys s ≡ Some k → (s < p.slots) × IsKey k
   bound_in s k e = (r.whole.help.keyed.slots s k e, r.whole.help.keyed.valid s k e)
 
-  waiting_in : (T : Task) → AtStage p m st T → Each (λ (q : ℕ × List ℕ). (q.0 < p.slots) × IsKey q.1) (waiting_name T)
+  waiting_in : (T : ServerTask) → AtStage p m st T → Each (λ (q : ℕ × List ℕ). (q.0 < p.slots) × IsKey q.1) (waiting_name T)
   waiting_in (Rooted bind) a = (bound_in bind.slot bind.key a.0.key, tt)
   waiting_in (Waiting bind) a = (bound_in bind.slot bind.key a.0.key, tt)
   waiting_in Idle a = tt

@@ -1,5 +1,5 @@
 -- A write to one copy of a word changes the decoded words at that place alone.
-use Rattle.std.proofs.Common.{◌≡◌, ℕ, zero, suc, ◌+◌, ◌-◌, ◌*◌, ◌/◌, ◌%◌, ◌<◌, ◌≢◌, ◌⊎◌, ◌&&◌, List, length, Bool, true, false, cond, refl, sym, ap, ◌∙◌, inl, inr, ⊎_elim, arith, nat_lt}
+use Rattle.std.proofs.Common.{◌≡◌, ℕ, zero, suc, ◌+◌, ◌-◌, ◌*◌, ◌/◌, ◌%◌, ◌<◌, ◌≢◌, ◌&&◌, List, length, Bool, true, false, cond, eqb, refl, sym, ap, ◌∙◌, arith, nat_lt, eq-eqb, true≢false}
 use native.Mathlib.Decide.{ℕ_discrete}
 use Rattle.std.specs.Prelude.{Option, Some, None, slice_set}
 use Rattle.std.proofs.lemmas.Bool.Decides.{nat_tests}
@@ -122,11 +122,40 @@ key_same : (a j b k : ℕ) → Key a j ≡ Key b k → (a ≡ b) × (j ≡ k)
 unfolding value_of rest_of
 key_same a j b k e = (ap value_of e, ap rest_of e)
 
-flushed_side : Flushed ≢ Current
-flushed_side e = cc
+-- whether two sides are one
+abbrev same_side : Side → Side → Bool
+same_side Current Current = true
+same_side Flushed Flushed = true
+same_side s t = false
 
-current_side : Current ≢ Flushed
-current_side e = cc
+side_same : (s t : Side) → s ≡ t → same_side s t ≡ true
+side_same Current Current e = refl
+side_same Flushed Flushed e = refl
+side_same Current Flushed e = absurd cc
+side_same Flushed Current e = absurd cc
+
+-- copies of words of kinds j and k: of two kinds, or of two sides
+abbrev Apart : ℕ → Side → ℕ → Side → Type 0
+Apart j s k t = eqb j k && same_side s t ≡ false
+
+apart : (j : ℕ) (s : Side) (k : ℕ) (t : Side) → Apart j s k t → j ≡ k → s ≡ t → ⊥
+apart j s k t a e f = true≢false (sym (and_true (eqb j k) (same_side s t) (eq-eqb j k e) (side_same s t f)) ∙ a)
+
+-- a function that another one is but for one place
+changed : {A : Type 0} (f g : ℕ → A) (i : ℕ) (a : A) → f i ≡ a → ((j : ℕ) → j ≢ i → f j ≡ g j) → (j : ℕ) → f j ≡ upd g i a j
+changed {A} f g i a here else j = by (ℕ_discrete j i)
+  where
+    by : Dec (j ≡ i) → f j ≡ upd g i a j
+    by (yes d) = rw d (here ∙ sym (upd_same g i a))
+    by (no d) = else j d ∙ sym (upd_else g i j a d)
+
+changed_in : (f g : ℕ → ℕ → ℕ) (i k a : ℕ) → f i k ≡ a → ((j l : ℕ) → (j ≡ i → l ≡ k → ⊥) → f j l ≡ g j l) → (j l : ℕ) → f j l ≡ upd g i (upd (g i) k a) j l
+changed_in f g i k a here else j l = by (ℕ_discrete j i) (ℕ_discrete l k)
+  where
+    by : Dec (j ≡ i) → Dec (l ≡ k) → f j l ≡ upd g i (upd (g i) k a) j l
+    by (yes d) (yes e) = rw (d, e) (here ∙ sym (ap (λ (q : ℕ → ℕ). q k) (upd_same g i (upd (g i) k a)) ∙ upd_same (g i) k a))
+    by (yes d) (no e) = else j l (λ x y. e y) ∙ rw d (sym (ap (λ (q : ℕ → ℕ). q l) (upd_same g i (upd (g i) k a)) ∙ upd_else (g i) k l a e))
+    by (no d) e = else j l (λ x y. d x) ∙ sym (ap (λ (q : ℕ → ℕ). q l) (upd_else g i j (upd (g i) k a) d))
 
 -- the codes and what they say
 pub root_again : (x : Option ℕ) → root_of (root_code x) ≡ x
@@ -138,245 +167,129 @@ next_again a x h = let n : ℕ = root_code x in
     let q : (a * 8796093022208 + n) / 8796093022208 ≡ a = omega arith in let r : (a * 8796093022208 + n) % 8796093022208 ≡ n = omega arith in
     ap (λ (y : ℕ). word y (root_of ((a * 8796093022208 + n) % 8796093022208))) q ∙ ap (λ (y : ℕ). word a (root_of y)) r ∙ ap (word a) (root_again x)
 
+-- the decoded words of m are those of n, each kind and side but those of a written copy
+record Others (m n : Mem) (j : ℕ) (s : Side) : Type 0 where
+  pub next : Apart j s 0 Current → (b : ℕ) → m.next b ≡ n.next b
+  pub fnext : Apart j s 0 Flushed → (b : ℕ) → m.fnext b ≡ n.fnext b
+  pub body : Apart j s 1 Current → (b k : ℕ) → m.body b k ≡ n.body b k
+  pub fbody : Apart j s 1 Flushed → (b k : ℕ) → m.fbody b k ≡ n.fbody b k
+  pub root : Apart j s 2 Current → (b : ℕ) → m.root b ≡ n.root b
+  pub froot : Apart j s 2 Flushed → (b : ℕ) → m.froot b ≡ n.froot b
+  pub short : Apart j s 4 Current → (b : ℕ) → m.short b ≡ n.short b
+  pub count : Apart j s 5 Current → m.count ≡ n.count
+  pub key : Apart j s 3 Current → (b k : ℕ) → m.key b k ≡ n.key b k
+  pub fkey : Apart j s 3 Flushed → (b k : ℕ) → m.fkey b k ≡ n.fkey b k
+
+-- one copy of one word is written: each other one is as before
 module _ (p : Pool) (ws : List ℕ) (w : Word) (s0 : Side) (n : ℕ) (hw : IsWithin p w) (hs : HasSide w s0) where
   abbrev new : List ℕ
   new = slice_set ws (address_of p w s0) n
 
-  -- the written copy is of another kind of word, or of the other side
-  abbrev pub Off : ℕ → Side → Type 0
-  Off k t = (kind_of w ≢ k) ⊎ (t ≢ s0)
+  -- this copy is not the one that is written
+  abbrev Other : Word → Side → Type 0
+  Other v t = v ≡ w → t ≡ s0 → ⊥
 
-  copy_off : (v : Word) (t : Side) (k : ℕ) → kind_of v ≡ k → Off k t → IsWithin p v → HasSide v t → copy_in p new v t ≡ copy_in p ws v t
-  copy_off v t k e f h i = copy_kept p ws w s0 v t n hw hs h i (λ q z. ⊎_elim {C = ⊥} (λ g. g (ap kind_of (sym q) ∙ e)) (λ g. g z) f)
+  copy_else : (v : Word) (t : Side) → Other v t → IsWithin p v → HasSide v t → copy_in p new v t ≡ copy_in p ws v t
+  copy_else v t d h i = copy_kept p ws w s0 v t n hw hs h i d
 
-  pub next_kept : Off 0 Current → (b : ℕ) → (mem_of p new).next b ≡ (mem_of p ws).next b
-  next_kept off b = guard (inside p b) _ _ (word 0 None) (λ h. ap next_of (copy_off (NextOf (buffer_at b)) Current 0 refl off (buffer_in p b h) tt))
+  pub next_else : (b : ℕ) → Other (NextOf (buffer_at b)) Current → (mem_of p new).next b ≡ (mem_of p ws).next b
+  next_else b d = guard (inside p b) _ _ (word 0 None) (λ h. ap next_of (copy_else (NextOf (buffer_at b)) Current d (buffer_in p b h) tt))
 
-  pub fnext_kept : Off 0 Flushed → (b : ℕ) → (mem_of p new).fnext b ≡ (mem_of p ws).fnext b
-  fnext_kept off b = guard (inside p b) _ _ (word 0 None) (λ h. ap next_of (copy_off (NextOf (buffer_at b)) Flushed 0 refl off (buffer_in p b h) tt))
+  pub fnext_else : (b : ℕ) → Other (NextOf (buffer_at b)) Flushed → (mem_of p new).fnext b ≡ (mem_of p ws).fnext b
+  fnext_else b d = guard (inside p b) _ _ (word 0 None) (λ h. ap next_of (copy_else (NextOf (buffer_at b)) Flushed d (buffer_in p b h) tt))
 
-  body_kept : Off 1 Current → (b k : ℕ) → (mem_of p new).body b k ≡ (mem_of p ws).body b k
-  body_kept off b k = guard (inside p b && nat_lt k (1 + p.words)) _ _ 0 (λ h. copy_off (content_at b k) Current 1 (content_kind b k) off (let q = both (inside p b) (nat_lt k (1 + p.words)) h in content_in p b k q.0 (below k (1 + p.words) q.1)) (content_side b k Current))
+  body_else : (b k : ℕ) → Other (content_at b k) Current → (mem_of p new).body b k ≡ (mem_of p ws).body b k
+  body_else b k d = guard (inside p b && nat_lt k (1 + p.words)) _ _ 0 (λ h. copy_else (content_at b k) Current d (let q = both (inside p b) (nat_lt k (1 + p.words)) h in content_in p b k q.0 (below k (1 + p.words) q.1)) (content_side b k Current))
 
-  fbody_kept : Off 1 Flushed → (b k : ℕ) → (mem_of p new).fbody b k ≡ (mem_of p ws).fbody b k
-  fbody_kept off b k = guard (inside p b && nat_lt k (1 + p.words)) _ _ 0 (λ h. copy_off (content_at b k) Flushed 1 (content_kind b k) off (let q = both (inside p b) (nat_lt k (1 + p.words)) h in content_in p b k q.0 (below k (1 + p.words) q.1)) (content_side b k Flushed))
+  fbody_else : (b k : ℕ) → Other (content_at b k) Flushed → (mem_of p new).fbody b k ≡ (mem_of p ws).fbody b k
+  fbody_else b k d = guard (inside p b && nat_lt k (1 + p.words)) _ _ 0 (λ h. copy_else (content_at b k) Flushed d (let q = both (inside p b) (nat_lt k (1 + p.words)) h in content_in p b k q.0 (below k (1 + p.words) q.1)) (content_side b k Flushed))
 
-  root_kept : Off 2 Current → (s : ℕ) → (mem_of p new).root s ≡ (mem_of p ws).root s
-  root_kept off s = guard (nat_lt s p.slots) _ _ None (λ h. ap root_of (copy_off (Root s) Current 2 refl off (below s p.slots h) tt))
+  root_else : (s : ℕ) → Other (Root s) Current → (mem_of p new).root s ≡ (mem_of p ws).root s
+  root_else s d = guard (nat_lt s p.slots) _ _ None (λ h. ap root_of (copy_else (Root s) Current d (below s p.slots h) tt))
 
-  froot_kept : Off 2 Flushed → (s : ℕ) → (mem_of p new).froot s ≡ (mem_of p ws).froot s
-  froot_kept off s = guard (nat_lt s p.slots) _ _ None (λ h. ap root_of (copy_off (Root s) Flushed 2 refl off (below s p.slots h) tt))
+  froot_else : (s : ℕ) → Other (Root s) Flushed → (mem_of p new).froot s ≡ (mem_of p ws).froot s
+  froot_else s d = guard (nat_lt s p.slots) _ _ None (λ h. ap root_of (copy_else (Root s) Flushed d (below s p.slots h) tt))
 
-  short_kept : Off 4 Current → (s : ℕ) → (mem_of p new).short s ≡ (mem_of p ws).short s
-  short_kept off s = guard (nat_lt s p.slots) _ _ None (λ h. ap root_of (copy_off (Short s) Current 4 refl off (below s p.slots h) tt))
+  short_else : (s : ℕ) → Other (Short s) Current → (mem_of p new).short s ≡ (mem_of p ws).short s
+  short_else s d = guard (nat_lt s p.slots) _ _ None (λ h. ap root_of (copy_else (Short s) Current d (below s p.slots h) tt))
 
-  count_kept : Off 5 Current → (mem_of p new).count ≡ (mem_of p ws).count
-  count_kept off = copy_off Count Current 5 refl off tt tt
+  count_else : Other Count Current → (mem_of p new).count ≡ (mem_of p ws).count
+  count_else d = copy_else Count Current d tt tt
 
-  key_kept : Off 3 Current → (s k : ℕ) → (mem_of p new).key s k ≡ (mem_of p ws).key s k
-  key_kept off s k = guard (nat_lt s p.slots && nat_lt k 32) _ _ 0 (λ h. copy_off (Key s k) Current 3 refl off (let q = both (nat_lt s p.slots) (nat_lt k 32) h in (below s p.slots q.0, below k 32 q.1)) tt)
+  key_else : (s k : ℕ) → Other (Key s k) Current → (mem_of p new).key s k ≡ (mem_of p ws).key s k
+  key_else s k d = guard (nat_lt s p.slots && nat_lt k 32) _ _ 0 (λ h. copy_else (Key s k) Current d (let q = both (nat_lt s p.slots) (nat_lt k 32) h in (below s p.slots q.0, below k 32 q.1)) tt)
 
-  fkey_kept : Off 3 Flushed → (s k : ℕ) → (mem_of p new).fkey s k ≡ (mem_of p ws).fkey s k
-  fkey_kept off s k = guard (nat_lt s p.slots && nat_lt k 32) _ _ 0 (λ h. copy_off (Key s k) Flushed 3 refl off (let q = both (nat_lt s p.slots) (nat_lt k 32) h in (below s p.slots q.0, below k 32 q.1)) tt)
+  fkey_else : (s k : ℕ) → Other (Key s k) Flushed → (mem_of p new).fkey s k ≡ (mem_of p ws).fkey s k
+  fkey_else s k d = guard (nat_lt s p.slots && nat_lt k 32) _ _ 0 (λ h. copy_else (Key s k) Flushed d (let q = both (nat_lt s p.slots) (nat_lt k 32) h in (below s p.slots q.0, below k 32 q.1)) tt)
 
+  -- the written word is of this kind
+  module _ (j : ℕ) (kind : kind_of w ≡ j) where
+    other : (k : ℕ) (t : Side) → Apart j s0 k t → (v : Word) → kind_of v ≡ k → Other v t
+    other k t a v e q z = apart j s0 k t a (sym kind ∙ (ap kind_of (sym q) ∙ e)) (sym z)
+
+    others : Others (mem_of p new) (mem_of p ws) j s0
+    others = record {
+      next = λ a b. next_else b (other 0 Current a (NextOf (buffer_at b)) refl);
+      fnext = λ a b. fnext_else b (other 0 Flushed a (NextOf (buffer_at b)) refl);
+      body = λ a b k. body_else b k (other 1 Current a (content_at b k) (content_kind b k));
+      fbody = λ a b k. fbody_else b k (other 1 Flushed a (content_at b k) (content_kind b k));
+      root = λ a b. root_else b (other 2 Current a (Root b) refl);
+      froot = λ a b. froot_else b (other 2 Flushed a (Root b) refl);
+      short = λ a b. short_else b (other 4 Current a (Short b) refl);
+      count = λ a. count_else (other 5 Current a Count refl);
+      key = λ a b k. key_else b k (other 3 Current a (Key b k) refl);
+      fkey = λ a b k. fkey_else b k (other 3 Flushed a (Key b k) refl);
+    }
+
+-- the decoded words after one write
 module _ (p : Pool) (ws : List ℕ) (n : ℕ) where
   pub write_next : (b0 : ℕ) → inside p b0 ≡ true → address_of p (NextOf (buffer_at b0)) Current < length ws → mem_of p (slice_set ws (address_of p (NextOf (buffer_at b0)) Current) n) ≡ record (mem_of p ws) { next = upd (mem_of p ws).next b0 (next_of n) }
-  write_next b0 hb hl = mem_path _ _ record {
-    fnext = fnext_kept p ws (NextOf (buffer_at b0)) Current n (buffer_in p b0 hb) tt (inr flushed_side);
-    body = body_kept p ws (NextOf (buffer_at b0)) Current n (buffer_in p b0 hb) tt (inl (λ (e : kind_of (NextOf (buffer_at b0)) ≡ 1). omega arith));
-    fbody = fbody_kept p ws (NextOf (buffer_at b0)) Current n (buffer_in p b0 hb) tt (inl (λ (e : kind_of (NextOf (buffer_at b0)) ≡ 1). omega arith));
-    root = root_kept p ws (NextOf (buffer_at b0)) Current n (buffer_in p b0 hb) tt (inl (λ (e : kind_of (NextOf (buffer_at b0)) ≡ 2). omega arith));
-    froot = froot_kept p ws (NextOf (buffer_at b0)) Current n (buffer_in p b0 hb) tt (inl (λ (e : kind_of (NextOf (buffer_at b0)) ≡ 2). omega arith));
-    short = short_kept p ws (NextOf (buffer_at b0)) Current n (buffer_in p b0 hb) tt (inl (λ (e : kind_of (NextOf (buffer_at b0)) ≡ 4). omega arith));
-    count = count_kept p ws (NextOf (buffer_at b0)) Current n (buffer_in p b0 hb) tt (inl (λ (e : kind_of (NextOf (buffer_at b0)) ≡ 5). omega arith));
-    key = key_kept p ws (NextOf (buffer_at b0)) Current n (buffer_in p b0 hb) tt (inl (λ (e : kind_of (NextOf (buffer_at b0)) ≡ 3). omega arith));
-    fkey = fkey_kept p ws (NextOf (buffer_at b0)) Current n (buffer_in p b0 hb) tt (inl (λ (e : kind_of (NextOf (buffer_at b0)) ≡ 3). omega arith));
-    next = λ b. here b (ℕ_discrete b b0);
-  }
-    where
-      here : (b : ℕ) → Dec (b ≡ b0) → (mem_of p (slice_set ws (address_of p (NextOf (buffer_at b0)) Current) n)).next b ≡ upd (mem_of p ws).next b0 (next_of n) b
-      here b (yes e) = rw e (guard_true (inside p b0) _ _ (word 0 None) hb (ap next_of (copy_set p ws (NextOf (buffer_at b0)) Current n hl)) ∙ sym (upd_same (mem_of p ws).next b0 (next_of n)))
-      here b (no d) = guard (inside p b) _ _ (word 0 None) (λ h. ap next_of (copy_kept p ws (NextOf (buffer_at b0)) Current (NextOf (buffer_at b)) Current n (buffer_in p b0 hb) tt (buffer_in p b h) tt (λ e z. d (next_same b b0 e)))) ∙ sym (upd_else (mem_of p ws).next b0 b (next_of n) d)
+  write_next b0 hb hl =
+      let o = others p ws (NextOf (buffer_at b0)) Current n (buffer_in p b0 hb) tt 0 refl in
+      mem_path _ _ record { fnext = o.fnext refl; body = o.body refl; fbody = o.fbody refl; root = o.root refl; froot = o.froot refl; short = o.short refl; count = o.count refl; key = o.key refl; fkey = o.fkey refl; next = changed _ (mem_of p ws).next b0 (next_of n) (guard_true (inside p b0) _ _ (word 0 None) hb (ap next_of (copy_set p ws (NextOf (buffer_at b0)) Current n hl))) (λ b d. next_else p ws (NextOf (buffer_at b0)) Current n (buffer_in p b0 hb) tt b (λ e z. d (next_same b b0 e))) }
 
   pub write_fnext : (b0 : ℕ) → inside p b0 ≡ true → address_of p (NextOf (buffer_at b0)) Flushed < length ws → mem_of p (slice_set ws (address_of p (NextOf (buffer_at b0)) Flushed) n) ≡ record (mem_of p ws) { fnext = upd (mem_of p ws).fnext b0 (next_of n) }
-  write_fnext b0 hb hl = mem_path _ _ record {
-    next = next_kept p ws (NextOf (buffer_at b0)) Flushed n (buffer_in p b0 hb) tt (inr current_side);
-    body = body_kept p ws (NextOf (buffer_at b0)) Flushed n (buffer_in p b0 hb) tt (inl (λ (e : kind_of (NextOf (buffer_at b0)) ≡ 1). omega arith));
-    fbody = fbody_kept p ws (NextOf (buffer_at b0)) Flushed n (buffer_in p b0 hb) tt (inl (λ (e : kind_of (NextOf (buffer_at b0)) ≡ 1). omega arith));
-    root = root_kept p ws (NextOf (buffer_at b0)) Flushed n (buffer_in p b0 hb) tt (inl (λ (e : kind_of (NextOf (buffer_at b0)) ≡ 2). omega arith));
-    froot = froot_kept p ws (NextOf (buffer_at b0)) Flushed n (buffer_in p b0 hb) tt (inl (λ (e : kind_of (NextOf (buffer_at b0)) ≡ 2). omega arith));
-    short = short_kept p ws (NextOf (buffer_at b0)) Flushed n (buffer_in p b0 hb) tt (inl (λ (e : kind_of (NextOf (buffer_at b0)) ≡ 4). omega arith));
-    count = count_kept p ws (NextOf (buffer_at b0)) Flushed n (buffer_in p b0 hb) tt (inl (λ (e : kind_of (NextOf (buffer_at b0)) ≡ 5). omega arith));
-    key = key_kept p ws (NextOf (buffer_at b0)) Flushed n (buffer_in p b0 hb) tt (inl (λ (e : kind_of (NextOf (buffer_at b0)) ≡ 3). omega arith));
-    fkey = fkey_kept p ws (NextOf (buffer_at b0)) Flushed n (buffer_in p b0 hb) tt (inl (λ (e : kind_of (NextOf (buffer_at b0)) ≡ 3). omega arith));
-    fnext = λ b. here b (ℕ_discrete b b0);
-  }
-    where
-      here : (b : ℕ) → Dec (b ≡ b0) → (mem_of p (slice_set ws (address_of p (NextOf (buffer_at b0)) Flushed) n)).fnext b ≡ upd (mem_of p ws).fnext b0 (next_of n) b
-      here b (yes e) = rw e (guard_true (inside p b0) _ _ (word 0 None) hb (ap next_of (copy_set p ws (NextOf (buffer_at b0)) Flushed n hl)) ∙ sym (upd_same (mem_of p ws).fnext b0 (next_of n)))
-      here b (no d) = guard (inside p b) _ _ (word 0 None) (λ h. ap next_of (copy_kept p ws (NextOf (buffer_at b0)) Flushed (NextOf (buffer_at b)) Flushed n (buffer_in p b0 hb) tt (buffer_in p b h) tt (λ e z. d (next_same b b0 e)))) ∙ sym (upd_else (mem_of p ws).fnext b0 b (next_of n) d)
+  write_fnext b0 hb hl =
+      let o = others p ws (NextOf (buffer_at b0)) Flushed n (buffer_in p b0 hb) tt 0 refl in
+      mem_path _ _ record { next = o.next refl; body = o.body refl; fbody = o.fbody refl; root = o.root refl; froot = o.froot refl; short = o.short refl; count = o.count refl; key = o.key refl; fkey = o.fkey refl; fnext = changed _ (mem_of p ws).fnext b0 (next_of n) (guard_true (inside p b0) _ _ (word 0 None) hb (ap next_of (copy_set p ws (NextOf (buffer_at b0)) Flushed n hl))) (λ b d. fnext_else p ws (NextOf (buffer_at b0)) Flushed n (buffer_in p b0 hb) tt b (λ e z. d (next_same b b0 e))) }
 
   pub write_body : (b0 k0 : ℕ) → inside p b0 ≡ true → k0 < 1 + p.words → address_of p (content_at b0 k0) Current < length ws → mem_of p (slice_set ws (address_of p (content_at b0 k0) Current) n) ≡ record (mem_of p ws) { body = upd (mem_of p ws).body b0 (upd ((mem_of p ws).body b0) k0 n) }
-  write_body b0 k0 hb hk hl = mem_path _ _ record {
-    next = next_kept p ws (content_at b0 k0) Current n (content_in p b0 k0 hb hk) (content_side b0 k0 Current) (inl (λ (e : kind_of (content_at b0 k0) ≡ 0). let z = content_kind b0 k0 in omega arith));
-    fnext = fnext_kept p ws (content_at b0 k0) Current n (content_in p b0 k0 hb hk) (content_side b0 k0 Current) (inl (λ (e : kind_of (content_at b0 k0) ≡ 0). let z = content_kind b0 k0 in omega arith));
-    fbody = fbody_kept p ws (content_at b0 k0) Current n (content_in p b0 k0 hb hk) (content_side b0 k0 Current) (inr flushed_side);
-    root = root_kept p ws (content_at b0 k0) Current n (content_in p b0 k0 hb hk) (content_side b0 k0 Current) (inl (λ (e : kind_of (content_at b0 k0) ≡ 2). let z = content_kind b0 k0 in omega arith));
-    froot = froot_kept p ws (content_at b0 k0) Current n (content_in p b0 k0 hb hk) (content_side b0 k0 Current) (inl (λ (e : kind_of (content_at b0 k0) ≡ 2). let z = content_kind b0 k0 in omega arith));
-    short = short_kept p ws (content_at b0 k0) Current n (content_in p b0 k0 hb hk) (content_side b0 k0 Current) (inl (λ (e : kind_of (content_at b0 k0) ≡ 4). let z = content_kind b0 k0 in omega arith));
-    count = count_kept p ws (content_at b0 k0) Current n (content_in p b0 k0 hb hk) (content_side b0 k0 Current) (inl (λ (e : kind_of (content_at b0 k0) ≡ 5). let z = content_kind b0 k0 in omega arith));
-    key = key_kept p ws (content_at b0 k0) Current n (content_in p b0 k0 hb hk) (content_side b0 k0 Current) (inl (λ (e : kind_of (content_at b0 k0) ≡ 3). let z = content_kind b0 k0 in omega arith));
-    fkey = fkey_kept p ws (content_at b0 k0) Current n (content_in p b0 k0 hb hk) (content_side b0 k0 Current) (inl (λ (e : kind_of (content_at b0 k0) ≡ 3). let z = content_kind b0 k0 in omega arith));
-    body = λ b k. here b k (ℕ_discrete b b0) (ℕ_discrete k k0);
-  }
-    where
-      off : (b k : ℕ) → ((b ≡ b0) → (k ≡ k0) → ⊥) → (mem_of p (slice_set ws (address_of p (content_at b0 k0) Current) n)).body b k ≡ (mem_of p ws).body b k
-      off b k d = guard (inside p b && nat_lt k (1 + p.words)) _ _ 0 (λ h. copy_kept p ws (content_at b0 k0) Current (content_at b k) Current n (content_in p b0 k0 hb hk) (content_side b0 k0 Current) (let q = both (inside p b) (nat_lt k (1 + p.words)) h in content_in p b k q.0 (below k (1 + p.words) q.1)) (content_side b k Current) (λ e z. let q = content_same b k b0 k0 e in d q.0 q.1))
-
-      here : (b k : ℕ) → Dec (b ≡ b0) → Dec (k ≡ k0) → (mem_of p (slice_set ws (address_of p (content_at b0 k0) Current) n)).body b k ≡ upd (mem_of p ws).body b0 (upd ((mem_of p ws).body b0) k0 n) b k
-      here b k (yes e) (yes f) = rw (e, f) (guard_true (inside p b0 && nat_lt k0 (1 + p.words)) _ _ 0 (and_true (inside p b0) (nat_lt k0 (1 + p.words)) hb (test_below k0 (1 + p.words) hk)) (copy_set p ws (content_at b0 k0) Current n hl) ∙ sym (ap (λ (g : ℕ → ℕ). g k0) (upd_same (mem_of p ws).body b0 (upd ((mem_of p ws).body b0) k0 n)) ∙ upd_same ((mem_of p ws).body b0) k0 n))
-      here b k (yes e) (no f) = off b k (λ x y. f y) ∙ rw e (sym (ap (λ (g : ℕ → ℕ). g k) (upd_same (mem_of p ws).body b0 (upd ((mem_of p ws).body b0) k0 n)) ∙ upd_else ((mem_of p ws).body b0) k0 k n f))
-      here b k (no e) f = off b k (λ x y. e x) ∙ sym (ap (λ (g : ℕ → ℕ). g k) (upd_else (mem_of p ws).body b0 b (upd ((mem_of p ws).body b0) k0 n) e))
+  write_body b0 k0 hb hk hl =
+      let o = others p ws (content_at b0 k0) Current n (content_in p b0 k0 hb hk) (content_side b0 k0 Current) 1 (content_kind b0 k0) in
+      mem_path _ _ record { next = o.next refl; fnext = o.fnext refl; fbody = o.fbody refl; root = o.root refl; froot = o.froot refl; short = o.short refl; count = o.count refl; key = o.key refl; fkey = o.fkey refl; body = changed_in _ (mem_of p ws).body b0 k0 n (guard_true (inside p b0 && nat_lt k0 (1 + p.words)) _ _ 0 (and_true (inside p b0) (nat_lt k0 (1 + p.words)) hb (test_below k0 (1 + p.words) hk)) (copy_set p ws (content_at b0 k0) Current n hl)) (λ b k d. body_else p ws (content_at b0 k0) Current n (content_in p b0 k0 hb hk) (content_side b0 k0 Current) b k (λ e z. let q = content_same b k b0 k0 e in d q.0 q.1)) }
 
   pub write_fbody : (b0 k0 : ℕ) → inside p b0 ≡ true → k0 < 1 + p.words → address_of p (content_at b0 k0) Flushed < length ws → mem_of p (slice_set ws (address_of p (content_at b0 k0) Flushed) n) ≡ record (mem_of p ws) { fbody = upd (mem_of p ws).fbody b0 (upd ((mem_of p ws).fbody b0) k0 n) }
-  write_fbody b0 k0 hb hk hl = mem_path _ _ record {
-    next = next_kept p ws (content_at b0 k0) Flushed n (content_in p b0 k0 hb hk) (content_side b0 k0 Flushed) (inl (λ (e : kind_of (content_at b0 k0) ≡ 0). let z = content_kind b0 k0 in omega arith));
-    fnext = fnext_kept p ws (content_at b0 k0) Flushed n (content_in p b0 k0 hb hk) (content_side b0 k0 Flushed) (inl (λ (e : kind_of (content_at b0 k0) ≡ 0). let z = content_kind b0 k0 in omega arith));
-    body = body_kept p ws (content_at b0 k0) Flushed n (content_in p b0 k0 hb hk) (content_side b0 k0 Flushed) (inr current_side);
-    root = root_kept p ws (content_at b0 k0) Flushed n (content_in p b0 k0 hb hk) (content_side b0 k0 Flushed) (inl (λ (e : kind_of (content_at b0 k0) ≡ 2). let z = content_kind b0 k0 in omega arith));
-    froot = froot_kept p ws (content_at b0 k0) Flushed n (content_in p b0 k0 hb hk) (content_side b0 k0 Flushed) (inl (λ (e : kind_of (content_at b0 k0) ≡ 2). let z = content_kind b0 k0 in omega arith));
-    short = short_kept p ws (content_at b0 k0) Flushed n (content_in p b0 k0 hb hk) (content_side b0 k0 Flushed) (inl (λ (e : kind_of (content_at b0 k0) ≡ 4). let z = content_kind b0 k0 in omega arith));
-    count = count_kept p ws (content_at b0 k0) Flushed n (content_in p b0 k0 hb hk) (content_side b0 k0 Flushed) (inl (λ (e : kind_of (content_at b0 k0) ≡ 5). let z = content_kind b0 k0 in omega arith));
-    key = key_kept p ws (content_at b0 k0) Flushed n (content_in p b0 k0 hb hk) (content_side b0 k0 Flushed) (inl (λ (e : kind_of (content_at b0 k0) ≡ 3). let z = content_kind b0 k0 in omega arith));
-    fkey = fkey_kept p ws (content_at b0 k0) Flushed n (content_in p b0 k0 hb hk) (content_side b0 k0 Flushed) (inl (λ (e : kind_of (content_at b0 k0) ≡ 3). let z = content_kind b0 k0 in omega arith));
-    fbody = λ b k. here b k (ℕ_discrete b b0) (ℕ_discrete k k0);
-  }
-    where
-      off : (b k : ℕ) → ((b ≡ b0) → (k ≡ k0) → ⊥) → (mem_of p (slice_set ws (address_of p (content_at b0 k0) Flushed) n)).fbody b k ≡ (mem_of p ws).fbody b k
-      off b k d = guard (inside p b && nat_lt k (1 + p.words)) _ _ 0 (λ h. copy_kept p ws (content_at b0 k0) Flushed (content_at b k) Flushed n (content_in p b0 k0 hb hk) (content_side b0 k0 Flushed) (let q = both (inside p b) (nat_lt k (1 + p.words)) h in content_in p b k q.0 (below k (1 + p.words) q.1)) (content_side b k Flushed) (λ e z. let q = content_same b k b0 k0 e in d q.0 q.1))
-
-      here : (b k : ℕ) → Dec (b ≡ b0) → Dec (k ≡ k0) → (mem_of p (slice_set ws (address_of p (content_at b0 k0) Flushed) n)).fbody b k ≡ upd (mem_of p ws).fbody b0 (upd ((mem_of p ws).fbody b0) k0 n) b k
-      here b k (yes e) (yes f) = rw (e, f) (guard_true (inside p b0 && nat_lt k0 (1 + p.words)) _ _ 0 (and_true (inside p b0) (nat_lt k0 (1 + p.words)) hb (test_below k0 (1 + p.words) hk)) (copy_set p ws (content_at b0 k0) Flushed n hl) ∙ sym (ap (λ (g : ℕ → ℕ). g k0) (upd_same (mem_of p ws).fbody b0 (upd ((mem_of p ws).fbody b0) k0 n)) ∙ upd_same ((mem_of p ws).fbody b0) k0 n))
-      here b k (yes e) (no f) = off b k (λ x y. f y) ∙ rw e (sym (ap (λ (g : ℕ → ℕ). g k) (upd_same (mem_of p ws).fbody b0 (upd ((mem_of p ws).fbody b0) k0 n)) ∙ upd_else ((mem_of p ws).fbody b0) k0 k n f))
-      here b k (no e) f = off b k (λ x y. e x) ∙ sym (ap (λ (g : ℕ → ℕ). g k) (upd_else (mem_of p ws).fbody b0 b (upd ((mem_of p ws).fbody b0) k0 n) e))
+  write_fbody b0 k0 hb hk hl =
+      let o = others p ws (content_at b0 k0) Flushed n (content_in p b0 k0 hb hk) (content_side b0 k0 Flushed) 1 (content_kind b0 k0) in
+      mem_path _ _ record { next = o.next refl; fnext = o.fnext refl; body = o.body refl; root = o.root refl; froot = o.froot refl; short = o.short refl; count = o.count refl; key = o.key refl; fkey = o.fkey refl; fbody = changed_in _ (mem_of p ws).fbody b0 k0 n (guard_true (inside p b0 && nat_lt k0 (1 + p.words)) _ _ 0 (and_true (inside p b0) (nat_lt k0 (1 + p.words)) hb (test_below k0 (1 + p.words) hk)) (copy_set p ws (content_at b0 k0) Flushed n hl)) (λ b k d. fbody_else p ws (content_at b0 k0) Flushed n (content_in p b0 k0 hb hk) (content_side b0 k0 Flushed) b k (λ e z. let q = content_same b k b0 k0 e in d q.0 q.1)) }
 
   pub write_root : (s1 : ℕ) → s1 < p.slots → address_of p (Root s1) Current < length ws → mem_of p (slice_set ws (address_of p (Root s1) Current) n) ≡ record (mem_of p ws) { root = upd (mem_of p ws).root s1 (root_of n) }
-  write_root s1 hb hl = mem_path _ _ record {
-    next = next_kept p ws (Root s1) Current n hb tt (inl (λ (e : kind_of (Root s1) ≡ 0). omega arith));
-    fnext = fnext_kept p ws (Root s1) Current n hb tt (inl (λ (e : kind_of (Root s1) ≡ 0). omega arith));
-    body = body_kept p ws (Root s1) Current n hb tt (inl (λ (e : kind_of (Root s1) ≡ 1). omega arith));
-    fbody = fbody_kept p ws (Root s1) Current n hb tt (inl (λ (e : kind_of (Root s1) ≡ 1). omega arith));
-    froot = froot_kept p ws (Root s1) Current n hb tt (inr flushed_side);
-    short = short_kept p ws (Root s1) Current n hb tt (inl (λ (e : kind_of (Root s1) ≡ 4). omega arith));
-    count = count_kept p ws (Root s1) Current n hb tt (inl (λ (e : kind_of (Root s1) ≡ 5). omega arith));
-    key = key_kept p ws (Root s1) Current n hb tt (inl (λ (e : kind_of (Root s1) ≡ 3). omega arith));
-    fkey = fkey_kept p ws (Root s1) Current n hb tt (inl (λ (e : kind_of (Root s1) ≡ 3). omega arith));
-    root = λ s. here s (ℕ_discrete s s1);
-  }
-    where
-      here : (s : ℕ) → Dec (s ≡ s1) → (mem_of p (slice_set ws (address_of p (Root s1) Current) n)).root s ≡ upd (mem_of p ws).root s1 (root_of n) s
-      here s (yes e) = rw e (guard_true (nat_lt s1 p.slots) _ _ None (test_below s1 p.slots hb) (ap root_of (copy_set p ws (Root s1) Current n hl)) ∙ sym (upd_same (mem_of p ws).root s1 (root_of n)))
-      here s (no d) = guard (nat_lt s p.slots) _ _ None (λ h. ap root_of (copy_kept p ws (Root s1) Current (Root s) Current n hb tt (below s p.slots h) tt (λ e z. d (slot_same s s1 e)))) ∙ sym (upd_else (mem_of p ws).root s1 s (root_of n) d)
-        where
-          slot_same : (a c : ℕ) → Root a ≡ Root c → a ≡ c
-          slot_same a c e = cc
+  unfolding value_of
+  write_root s1 hb hl =
+      let o = others p ws (Root s1) Current n hb tt 2 refl in
+      mem_path _ _ record { next = o.next refl; fnext = o.fnext refl; body = o.body refl; fbody = o.fbody refl; froot = o.froot refl; short = o.short refl; count = o.count refl; key = o.key refl; fkey = o.fkey refl; root = changed _ (mem_of p ws).root s1 (root_of n) (guard_true (nat_lt s1 p.slots) _ _ None (test_below s1 p.slots hb) (ap root_of (copy_set p ws (Root s1) Current n hl))) (λ s d. root_else p ws (Root s1) Current n hb tt s (λ e z. d (ap value_of e))) }
 
   pub write_froot : (s1 : ℕ) → s1 < p.slots → address_of p (Root s1) Flushed < length ws → mem_of p (slice_set ws (address_of p (Root s1) Flushed) n) ≡ record (mem_of p ws) { froot = upd (mem_of p ws).froot s1 (root_of n) }
-  write_froot s1 hb hl = mem_path _ _ record {
-    next = next_kept p ws (Root s1) Flushed n hb tt (inl (λ (e : kind_of (Root s1) ≡ 0). omega arith));
-    fnext = fnext_kept p ws (Root s1) Flushed n hb tt (inl (λ (e : kind_of (Root s1) ≡ 0). omega arith));
-    body = body_kept p ws (Root s1) Flushed n hb tt (inl (λ (e : kind_of (Root s1) ≡ 1). omega arith));
-    fbody = fbody_kept p ws (Root s1) Flushed n hb tt (inl (λ (e : kind_of (Root s1) ≡ 1). omega arith));
-    root = root_kept p ws (Root s1) Flushed n hb tt (inr current_side);
-    short = short_kept p ws (Root s1) Flushed n hb tt (inl (λ (e : kind_of (Root s1) ≡ 4). omega arith));
-    count = count_kept p ws (Root s1) Flushed n hb tt (inl (λ (e : kind_of (Root s1) ≡ 5). omega arith));
-    key = key_kept p ws (Root s1) Flushed n hb tt (inl (λ (e : kind_of (Root s1) ≡ 3). omega arith));
-    fkey = fkey_kept p ws (Root s1) Flushed n hb tt (inl (λ (e : kind_of (Root s1) ≡ 3). omega arith));
-    froot = λ s. here s (ℕ_discrete s s1);
-  }
-    where
-      here : (s : ℕ) → Dec (s ≡ s1) → (mem_of p (slice_set ws (address_of p (Root s1) Flushed) n)).froot s ≡ upd (mem_of p ws).froot s1 (root_of n) s
-      here s (yes e) = rw e (guard_true (nat_lt s1 p.slots) _ _ None (test_below s1 p.slots hb) (ap root_of (copy_set p ws (Root s1) Flushed n hl)) ∙ sym (upd_same (mem_of p ws).froot s1 (root_of n)))
-      here s (no d) = guard (nat_lt s p.slots) _ _ None (λ h. ap root_of (copy_kept p ws (Root s1) Flushed (Root s) Flushed n hb tt (below s p.slots h) tt (λ e z. d (slot_same s s1 e)))) ∙ sym (upd_else (mem_of p ws).froot s1 s (root_of n) d)
-        where
-          slot_same : (a c : ℕ) → Root a ≡ Root c → a ≡ c
-          slot_same a c e = cc
+  unfolding value_of
+  write_froot s1 hb hl =
+      let o = others p ws (Root s1) Flushed n hb tt 2 refl in
+      mem_path _ _ record { next = o.next refl; fnext = o.fnext refl; body = o.body refl; fbody = o.fbody refl; root = o.root refl; short = o.short refl; count = o.count refl; key = o.key refl; fkey = o.fkey refl; froot = changed _ (mem_of p ws).froot s1 (root_of n) (guard_true (nat_lt s1 p.slots) _ _ None (test_below s1 p.slots hb) (ap root_of (copy_set p ws (Root s1) Flushed n hl))) (λ s d. froot_else p ws (Root s1) Flushed n hb tt s (λ e z. d (ap value_of e))) }
 
   pub write_short : (s1 : ℕ) → s1 < p.slots → address_of p (Short s1) Current < length ws → mem_of p (slice_set ws (address_of p (Short s1) Current) n) ≡ record (mem_of p ws) { short = upd (mem_of p ws).short s1 (root_of n) }
-  write_short s1 hb hl = mem_path _ _ record {
-    next = next_kept p ws (Short s1) Current n hb tt (inl (λ (e : kind_of (Short s1) ≡ 0). omega arith));
-    fnext = fnext_kept p ws (Short s1) Current n hb tt (inl (λ (e : kind_of (Short s1) ≡ 0). omega arith));
-    body = body_kept p ws (Short s1) Current n hb tt (inl (λ (e : kind_of (Short s1) ≡ 1). omega arith));
-    fbody = fbody_kept p ws (Short s1) Current n hb tt (inl (λ (e : kind_of (Short s1) ≡ 1). omega arith));
-    root = root_kept p ws (Short s1) Current n hb tt (inl (λ (e : kind_of (Short s1) ≡ 2). omega arith));
-    froot = froot_kept p ws (Short s1) Current n hb tt (inl (λ (e : kind_of (Short s1) ≡ 2). omega arith));
-    count = count_kept p ws (Short s1) Current n hb tt (inl (λ (e : kind_of (Short s1) ≡ 5). omega arith));
-    key = key_kept p ws (Short s1) Current n hb tt (inl (λ (e : kind_of (Short s1) ≡ 3). omega arith));
-    fkey = fkey_kept p ws (Short s1) Current n hb tt (inl (λ (e : kind_of (Short s1) ≡ 3). omega arith));
-    short = λ s. here s (ℕ_discrete s s1);
-  }
-    where
-      here : (s : ℕ) → Dec (s ≡ s1) → (mem_of p (slice_set ws (address_of p (Short s1) Current) n)).short s ≡ upd (mem_of p ws).short s1 (root_of n) s
-      here s (yes e) = rw e (guard_true (nat_lt s1 p.slots) _ _ None (test_below s1 p.slots hb) (ap root_of (copy_set p ws (Short s1) Current n hl)) ∙ sym (upd_same (mem_of p ws).short s1 (root_of n)))
-      here s (no d) = guard (nat_lt s p.slots) _ _ None (λ h. ap root_of (copy_kept p ws (Short s1) Current (Short s) Current n hb tt (below s p.slots h) tt (λ e z. d (slot_same s s1 e)))) ∙ sym (upd_else (mem_of p ws).short s1 s (root_of n) d)
-        where
-          slot_same : (a c : ℕ) → Short a ≡ Short c → a ≡ c
-          slot_same a c e = cc
+  unfolding value_of
+  write_short s1 hb hl =
+      let o = others p ws (Short s1) Current n hb tt 4 refl in
+      mem_path _ _ record { next = o.next refl; fnext = o.fnext refl; body = o.body refl; fbody = o.fbody refl; root = o.root refl; froot = o.froot refl; count = o.count refl; key = o.key refl; fkey = o.fkey refl; short = changed _ (mem_of p ws).short s1 (root_of n) (guard_true (nat_lt s1 p.slots) _ _ None (test_below s1 p.slots hb) (ap root_of (copy_set p ws (Short s1) Current n hl))) (λ s d. short_else p ws (Short s1) Current n hb tt s (λ e z. d (ap value_of e))) }
 
   pub write_count : address_of p Count Current < length ws → mem_of p (slice_set ws (address_of p Count Current) n) ≡ record (mem_of p ws) { count = n }
-  write_count hl = mem_path _ _ record {
-    next = next_kept p ws Count Current n tt tt (inl (λ (e : kind_of Count ≡ 0). omega arith));
-    fnext = fnext_kept p ws Count Current n tt tt (inl (λ (e : kind_of Count ≡ 0). omega arith));
-    body = body_kept p ws Count Current n tt tt (inl (λ (e : kind_of Count ≡ 1). omega arith));
-    fbody = fbody_kept p ws Count Current n tt tt (inl (λ (e : kind_of Count ≡ 1). omega arith));
-    root = root_kept p ws Count Current n tt tt (inl (λ (e : kind_of Count ≡ 2). omega arith));
-    froot = froot_kept p ws Count Current n tt tt (inl (λ (e : kind_of Count ≡ 2). omega arith));
-    short = short_kept p ws Count Current n tt tt (inl (λ (e : kind_of Count ≡ 4). omega arith));
-    key = key_kept p ws Count Current n tt tt (inl (λ (e : kind_of Count ≡ 3). omega arith));
-    fkey = fkey_kept p ws Count Current n tt tt (inl (λ (e : kind_of Count ≡ 3). omega arith));
-    count = copy_set p ws Count Current n hl;
-  }
+  write_count hl = let o = others p ws Count Current n tt tt 5 refl in mem_path _ _ record { next = o.next refl; fnext = o.fnext refl; body = o.body refl; fbody = o.fbody refl; root = o.root refl; froot = o.froot refl; short = o.short refl; key = o.key refl; fkey = o.fkey refl; count = copy_set p ws Count Current n hl }
 
   pub write_key : (b0 k0 : ℕ) → b0 < p.slots → k0 < 32 → address_of p (Key b0 k0) Current < length ws → mem_of p (slice_set ws (address_of p (Key b0 k0) Current) n) ≡ record (mem_of p ws) { key = upd (mem_of p ws).key b0 (upd ((mem_of p ws).key b0) k0 n) }
-  write_key b0 k0 hb hk hl = mem_path _ _ record {
-    next = next_kept p ws (Key b0 k0) Current n (hb, hk) tt (inl (λ (e : kind_of (Key b0 k0) ≡ 0). omega arith));
-    fnext = fnext_kept p ws (Key b0 k0) Current n (hb, hk) tt (inl (λ (e : kind_of (Key b0 k0) ≡ 0). omega arith));
-    body = body_kept p ws (Key b0 k0) Current n (hb, hk) tt (inl (λ (e : kind_of (Key b0 k0) ≡ 1). omega arith));
-    fbody = fbody_kept p ws (Key b0 k0) Current n (hb, hk) tt (inl (λ (e : kind_of (Key b0 k0) ≡ 1). omega arith));
-    root = root_kept p ws (Key b0 k0) Current n (hb, hk) tt (inl (λ (e : kind_of (Key b0 k0) ≡ 2). omega arith));
-    froot = froot_kept p ws (Key b0 k0) Current n (hb, hk) tt (inl (λ (e : kind_of (Key b0 k0) ≡ 2). omega arith));
-    short = short_kept p ws (Key b0 k0) Current n (hb, hk) tt (inl (λ (e : kind_of (Key b0 k0) ≡ 4). omega arith));
-    count = count_kept p ws (Key b0 k0) Current n (hb, hk) tt (inl (λ (e : kind_of (Key b0 k0) ≡ 5). omega arith));
-    fkey = fkey_kept p ws (Key b0 k0) Current n (hb, hk) tt (inr flushed_side);
-    key = λ b k. here b k (ℕ_discrete b b0) (ℕ_discrete k k0);
-  }
-    where
-      off : (b k : ℕ) → ((b ≡ b0) → (k ≡ k0) → ⊥) → (mem_of p (slice_set ws (address_of p (Key b0 k0) Current) n)).key b k ≡ (mem_of p ws).key b k
-      off b k d = guard (nat_lt b p.slots && nat_lt k 32) _ _ 0 (λ h. copy_kept p ws (Key b0 k0) Current (Key b k) Current n (hb, hk) tt (let q = both (nat_lt b p.slots) (nat_lt k 32) h in (below b p.slots q.0, below k 32 q.1)) tt (λ e z. let q = key_same b k b0 k0 e in d q.0 q.1))
-
-      here : (b k : ℕ) → Dec (b ≡ b0) → Dec (k ≡ k0) → (mem_of p (slice_set ws (address_of p (Key b0 k0) Current) n)).key b k ≡ upd (mem_of p ws).key b0 (upd ((mem_of p ws).key b0) k0 n) b k
-      here b k (yes e) (yes f) = rw (e, f) (guard_true (nat_lt b0 p.slots && nat_lt k0 32) _ _ 0 (and_true (nat_lt b0 p.slots) (nat_lt k0 32) (test_below b0 p.slots hb) (test_below k0 32 hk)) (copy_set p ws (Key b0 k0) Current n hl) ∙ sym (ap (λ (g : ℕ → ℕ). g k0) (upd_same (mem_of p ws).key b0 (upd ((mem_of p ws).key b0) k0 n)) ∙ upd_same ((mem_of p ws).key b0) k0 n))
-      here b k (yes e) (no f) = off b k (λ x y. f y) ∙ rw e (sym (ap (λ (g : ℕ → ℕ). g k) (upd_same (mem_of p ws).key b0 (upd ((mem_of p ws).key b0) k0 n)) ∙ upd_else ((mem_of p ws).key b0) k0 k n f))
-      here b k (no e) f = off b k (λ x y. e x) ∙ sym (ap (λ (g : ℕ → ℕ). g k) (upd_else (mem_of p ws).key b0 b (upd ((mem_of p ws).key b0) k0 n) e))
+  write_key b0 k0 hb hk hl =
+      let o = others p ws (Key b0 k0) Current n (hb, hk) tt 3 refl in
+      mem_path _ _ record { next = o.next refl; fnext = o.fnext refl; body = o.body refl; fbody = o.fbody refl; root = o.root refl; froot = o.froot refl; short = o.short refl; count = o.count refl; fkey = o.fkey refl; key = changed_in _ (mem_of p ws).key b0 k0 n (guard_true (nat_lt b0 p.slots && nat_lt k0 32) _ _ 0 (and_true (nat_lt b0 p.slots) (nat_lt k0 32) (test_below b0 p.slots hb) (test_below k0 32 hk)) (copy_set p ws (Key b0 k0) Current n hl)) (λ s k d. key_else p ws (Key b0 k0) Current n (hb, hk) tt s k (λ e z. let q = key_same s k b0 k0 e in d q.0 q.1)) }
 
   pub write_fkey : (b0 k0 : ℕ) → b0 < p.slots → k0 < 32 → address_of p (Key b0 k0) Flushed < length ws → mem_of p (slice_set ws (address_of p (Key b0 k0) Flushed) n) ≡ record (mem_of p ws) { fkey = upd (mem_of p ws).fkey b0 (upd ((mem_of p ws).fkey b0) k0 n) }
-  write_fkey b0 k0 hb hk hl = mem_path _ _ record {
-    next = next_kept p ws (Key b0 k0) Flushed n (hb, hk) tt (inl (λ (e : kind_of (Key b0 k0) ≡ 0). omega arith));
-    fnext = fnext_kept p ws (Key b0 k0) Flushed n (hb, hk) tt (inl (λ (e : kind_of (Key b0 k0) ≡ 0). omega arith));
-    body = body_kept p ws (Key b0 k0) Flushed n (hb, hk) tt (inl (λ (e : kind_of (Key b0 k0) ≡ 1). omega arith));
-    fbody = fbody_kept p ws (Key b0 k0) Flushed n (hb, hk) tt (inl (λ (e : kind_of (Key b0 k0) ≡ 1). omega arith));
-    root = root_kept p ws (Key b0 k0) Flushed n (hb, hk) tt (inl (λ (e : kind_of (Key b0 k0) ≡ 2). omega arith));
-    froot = froot_kept p ws (Key b0 k0) Flushed n (hb, hk) tt (inl (λ (e : kind_of (Key b0 k0) ≡ 2). omega arith));
-    short = short_kept p ws (Key b0 k0) Flushed n (hb, hk) tt (inl (λ (e : kind_of (Key b0 k0) ≡ 4). omega arith));
-    count = count_kept p ws (Key b0 k0) Flushed n (hb, hk) tt (inl (λ (e : kind_of (Key b0 k0) ≡ 5). omega arith));
-    key = key_kept p ws (Key b0 k0) Flushed n (hb, hk) tt (inr current_side);
-    fkey = λ b k. here b k (ℕ_discrete b b0) (ℕ_discrete k k0);
-  }
-    where
-      off : (b k : ℕ) → ((b ≡ b0) → (k ≡ k0) → ⊥) → (mem_of p (slice_set ws (address_of p (Key b0 k0) Flushed) n)).fkey b k ≡ (mem_of p ws).fkey b k
-      off b k d = guard (nat_lt b p.slots && nat_lt k 32) _ _ 0 (λ h. copy_kept p ws (Key b0 k0) Flushed (Key b k) Flushed n (hb, hk) tt (let q = both (nat_lt b p.slots) (nat_lt k 32) h in (below b p.slots q.0, below k 32 q.1)) tt (λ e z. let q = key_same b k b0 k0 e in d q.0 q.1))
-
-      here : (b k : ℕ) → Dec (b ≡ b0) → Dec (k ≡ k0) → (mem_of p (slice_set ws (address_of p (Key b0 k0) Flushed) n)).fkey b k ≡ upd (mem_of p ws).fkey b0 (upd ((mem_of p ws).fkey b0) k0 n) b k
-      here b k (yes e) (yes f) = rw (e, f) (guard_true (nat_lt b0 p.slots && nat_lt k0 32) _ _ 0 (and_true (nat_lt b0 p.slots) (nat_lt k0 32) (test_below b0 p.slots hb) (test_below k0 32 hk)) (copy_set p ws (Key b0 k0) Flushed n hl) ∙ sym (ap (λ (g : ℕ → ℕ). g k0) (upd_same (mem_of p ws).fkey b0 (upd ((mem_of p ws).fkey b0) k0 n)) ∙ upd_same ((mem_of p ws).fkey b0) k0 n))
-      here b k (yes e) (no f) = off b k (λ x y. f y) ∙ rw e (sym (ap (λ (g : ℕ → ℕ). g k) (upd_same (mem_of p ws).fkey b0 (upd ((mem_of p ws).fkey b0) k0 n)) ∙ upd_else ((mem_of p ws).fkey b0) k0 k n f))
-      here b k (no e) f = off b k (λ x y. e x) ∙ sym (ap (λ (g : ℕ → ℕ). g k) (upd_else (mem_of p ws).fkey b0 b (upd ((mem_of p ws).fkey b0) k0 n) e))
+  write_fkey b0 k0 hb hk hl =
+      let o = others p ws (Key b0 k0) Flushed n (hb, hk) tt 3 refl in
+      mem_path _ _ record { next = o.next refl; fnext = o.fnext refl; body = o.body refl; fbody = o.fbody refl; root = o.root refl; froot = o.froot refl; short = o.short refl; count = o.count refl; key = o.key refl; fkey = changed_in _ (mem_of p ws).fkey b0 k0 n (guard_true (nat_lt b0 p.slots && nat_lt k0 32) _ _ 0 (and_true (nat_lt b0 p.slots) (nat_lt k0 32) (test_below b0 p.slots hb) (test_below k0 32 hk)) (copy_set p ws (Key b0 k0) Flushed n hl)) (λ s k d. fkey_else p ws (Key b0 k0) Flushed n (hb, hk) tt s k (λ e z. let q = key_same s k b0 k0 e in d q.0 q.1)) }

@@ -34,8 +34,8 @@ use Rattle.clover_rule.specs.declared.view.Link.{Link}
 use Rattle.clover_rule.specs.declared.view.Shown.{Shown}
 use Rattle.clover_rule.specs.declared.view.NewBinding.{NewBinding}
 use Rattle.clover_rule.specs.declared.view.Recycling.{Recycling}
-use Rattle.clover_rule.specs.declared.view.Task.{Task}
-use Rattle.clover_rule.specs.declared.view.Task.TheVariants.{Idle, Storing, Rooted, Waiting, Loaded, Raised, Led, Both, Exchanged}
+use Rattle.clover_rule.specs.declared.view.ServerTask.{ServerTask}
+use Rattle.clover_rule.specs.declared.view.ServerTask.TheVariants.{Idle, Storing, Rooted, Waiting, Loaded, Raised, Led, Both, Exchanged}
 use Rattle.clover_rule.specs.declared.view.View.{View}
 use Rattle.clover_rule.proofs.Bindings.{few_bindings, nth_among}
 use Rattle.clover_rule.proofs.Standings.{exchanged_tag, tag_there, tag_within, tag_past, one_buffer, word_is}
@@ -158,7 +158,7 @@ module _ (p : Pool) (first : Tagged) (used : List ℕ) (ws : List ℕ) (vs : Lis
       go Worn f g = absurd (let z : Worn ≡ Chained s = g in cc)
       go Taken f g = absurd (let z : Taken ≡ Chained s = g in cc)
 
-  worn_place : (T : Task) (q : Place) (g b a : ℕ) → book_of T st q g b ≡ book a IsWorn → q ≡ Worn
+  worn_place : (T : ServerTask) (q : Place) (g b a : ℕ) → book_of T st q g b ≡ book a IsWorn → q ≡ Worn
   worn_place T (Chained s) g b a e = go (is_home (root_in T st s) b) e
     where
       go : (x : Bool) → book g (cond x IsBound IsOut) ≡ book a IsWorn → Chained s ≡ Worn
@@ -175,7 +175,7 @@ module _ (p : Pool) (first : Tagged) (used : List ℕ) (ws : List ℕ) (vs : Lis
       let e : st.place b ≡ Chained s = ap st.place (sym q) ∙ (c.standing s (st.gone s) y f (omega arith)).placed in
       ap (λ (z : Place). moved z b) e ∙ ap (λ (z : Bool). cond z Taken (Chained s)) (is_home_yes (recycled_of st s) y b (is_held m st c s (st.gone s) y f (omega arith) (omega arith)) q)
 
-  taken_here : (T : Task) → AtStage p m st T → (b : ℕ) → held_by T ≡ Some b → place_at b ≡ Taken
+  taken_here : (T : ServerTask) → AtStage p m st T → (b : ℕ) → held_by T ≡ Some b → place_at b ≡ Taken
   unfolding moved
   taken_here (Storing bind n) a b e = let q = same_Some (home bind.tag) b e in ap (λ (z : Place). moved z b) (ap st.place (sym q) ∙ a.place)
   taken_here (Led cycle) a b e = led_place cycle.slot cycle.root cycle.next b a.0.root a.2 (same_Some (home cycle.root) b e)
@@ -200,13 +200,13 @@ module _ (p : Pool) (first : Tagged) (used : List ℕ) (ws : List ℕ) (vs : Lis
   unmoved Worn b x e n k = e
   unmoved Taken b x e n k = e
 
-  free_now : (T : Task) (g b : ℕ) → book_of T st Free g b ≡ book g IsFree
+  free_now : (T : ServerTask) (g b : ℕ) → book_of T st Free g b ≡ book g IsFree
   free_now T g b = refl
 
-  worn_now : (T : Task) (g b : ℕ) → book_of T st Worn g b ≡ book g IsWorn
+  worn_now : (T : ServerTask) (g b : ℕ) → book_of T st Worn g b ≡ book g IsWorn
   worn_now T g b = refl
 
-  held_same : (T : Task) (b : ℕ) → holding T ≡ Some b → held_by T ≡ Some b
+  held_same : (T : ServerTask) (b : ℕ) → holding T ≡ Some b → held_by T ≡ Some b
   held_same (Storing bind n) b e = e
   held_same (Exchanged cycle) b e = e
   held_same Idle b e = absurd cc
@@ -232,7 +232,7 @@ module _ (p : Pool) (first : Tagged) (used : List ℕ) (ws : List ℕ) (vs : Lis
   not_moving : (s y : ℕ) → recycled_of st s ≡ Some y → moving st.task ≡ None → ⊥
   not_moving s y f q = not_settled s (recycled_at s y f).0 (λ z. let x : ◌≡◌ {A = Option ℕ} None (Some s) = sym q ∙ z in cc)
 
-  task_recycles : (T : Task) → st.task ≡ T → AtStage p m st T → (s y : ℕ) → recycled_of st s ≡ Some y → recycled_by T s ≡ Some y
+  task_recycles : (T : ServerTask) → st.task ≡ T → AtStage p m st T → (s y : ℕ) → recycled_of st s ≡ Some y → recycled_by T s ≡ Some y
   task_recycles (Led cycle) e a s y f = on_its_way cycle (ap moving e) a.0.root s y f
   task_recycles (Both cycle) e a s y f = on_its_way cycle (ap moving e) a.0.root s y f
   task_recycles Idle e a s y f = absurd (not_moving s y f (ap moving e))
@@ -247,7 +247,7 @@ module _ (p : Pool) (first : Tagged) (used : List ℕ) (ws : List ℕ) (vs : Lis
   leaves_by_task s y f = task_recycles st.task refl r.whole.help.stage.here s y f
 
   -- and the task holds its buffer
-  recycled_held : (T : Task) (s y : ℕ) → recycled_by T s ≡ Some y → held_by T ≡ Some (home y)
+  recycled_held : (T : ServerTask) (s y : ℕ) → recycled_by T s ≡ Some y → held_by T ≡ Some (home y)
   recycled_held (Led cycle) s y e = ap (λ (z : ℕ). Some (home z)) (cond_root cycle s y (eqb cycle.slot s) e)
   recycled_held (Both cycle) s y e = ap (λ (z : ℕ). Some (home z)) (cond_root cycle s y (eqb cycle.slot s) e)
   recycled_held (Exchanged cycle) s y e = ap (λ (z : ℕ). Some (home z)) (cond_root cycle s y (eqb cycle.slot s) e)
@@ -314,7 +314,7 @@ module _ (p : Pool) (first : Tagged) (used : List ℕ) (ws : List ℕ) (vs : Lis
           (λ n. absurd (unbound (λ s z. let f = r.whole.help.naming.found s (key_of e) z in n (let y : Some j ≡ Some (key_of e) = sym q ∙ ap st.keys f ∙ z in cc))))
 
   -- the task's version under recycling has its content in both copies
-  leaving_here : (T : Task) → AtStage p m st T → (s t : ℕ) → recycled_by T s ≡ Some t → Holds m (record { tag = t; value = value_by st t })
+  leaving_here : (T : ServerTask) → AtStage p m st T → (s t : ℕ) → recycled_by T s ≡ Some t → Holds m (record { tag = t; value = value_by st t })
   leaving_here (Led cycle) a s t e = subst (λ (y : ℕ). Holds m (record { tag = y; value = value_by st y })) (cond_root cycle s t (eqb cycle.slot s) e) (holds_at cycle.slot (st.gone cycle.slot) cycle.root a.0.root (omega arith))
   leaving_here (Both cycle) a s t e = subst (λ (y : ℕ). Holds m (record { tag = y; value = value_by st y })) (cond_root cycle s t (eqb cycle.slot s) e) (holds_at cycle.slot (st.gone cycle.slot) cycle.root a.0.root (omega arith))
   leaving_here (Exchanged cycle) a s t e = subst (λ (y : ℕ). Holds m (record { tag = y; value = value_by st y })) (exchanged_tag p m st cycle a ∙ cond_root cycle s t (eqb cycle.slot s) e)
@@ -384,7 +384,7 @@ module _ (p : Pool) (first : Tagged) (used : List ℕ) (ws : List ℕ) (vs : Lis
       bare : m.fnext b ≡ m.next b → link (m.next b) ≡ None → link (m.fnext b) ≡ None
       bare e f = ap link e ∙ f
 
-      held_here : (T : Task) → AtStage p m st T → holding T ≡ Some b → (link (m.fnext b) ≡ None) ⊎ ((l : Link) × IsLink st l × (home l.from ≡ b) × (age l.from ≡ gen (m.fnext b)) × (link (m.fnext b) ≡ Some l.to))
+      held_here : (T : ServerTask) → AtStage p m st T → holding T ≡ Some b → (link (m.fnext b) ≡ None) ⊎ ((l : Link) × IsLink st l × (home l.from ≡ b) × (age l.from ≡ gen (m.fnext b)) × (link (m.fnext b) ≡ Some l.to))
       held_here (Storing bind n) a e = let q = same_Some (home bind.tag) b e in inl (ap (λ (z : ℕ). link (m.fnext z)) (sym q) ∙ ap link a.safe)
       held_here (Exchanged cycle) a e = exchanged_link cycle a (same_Some (home cycle.root) b e)
         where
@@ -419,7 +419,7 @@ module _ (p : Pool) (first : Tagged) (used : List ℕ) (ws : List ℕ) (vs : Lis
   FlushedRoot s = RootFlushed m (chain_of st) st.task (value_by st) s
 
   -- the task that has stored this slot's root alone
-  rooted_by : (s : ℕ) → Waits m st s → (T : Task) → st.task ≡ T → AtStage p m st T → unnamed T ≡ Some s → FlushedRoot s
+  rooted_by : (s : ℕ) → Waits m st s → (T : ServerTask) → st.task ≡ T → AtStage p m st T → unnamed T ≡ Some s → FlushedRoot s
   rooted_by s w (Rooted bind) e a q =
       let same : bind.slot ≡ s = same_Some bind.slot s q in
       let x = tag_there st bind.slot 0 bind.tag a.0.tag in
@@ -447,7 +447,7 @@ module _ (p : Pool) (first : Tagged) (used : List ℕ) (ws : List ℕ) (vs : Lis
       rooted_by s w st.task refl r.whole.help.stage.here u
 
   -- the task that has stored this slot's new root, but not its flushed copy
-  led_by : (s : ℕ) → m.froot s ≡ tag_at st s (st.flead s) → st.flead s < st.lead s → (T : Task) → st.task ≡ T → AtStage p m st T → moving T ≡ Some s → FlushedRoot s
+  led_by : (s : ℕ) → m.froot s ≡ tag_at st s (st.flead s) → st.flead s < st.lead s → (T : ServerTask) → st.task ≡ T → AtStage p m st T → moving T ≡ Some s → FlushedRoot s
   led_by s f l (Led cycle) e a q =
       let same : cycle.slot ≡ s = same_Some cycle.slot s q in
       let lead : st.lead s ≡ suc (st.gone s) = ap st.lead (sym same) ∙ a.2 ∙ ap (λ (i : ℕ). suc (st.gone i)) same in
@@ -523,7 +523,7 @@ module _ (p : Pool) (first : Tagged) (used : List ℕ) (ws : List ℕ) (vs : Lis
         tt,
       )
 
-  waiting_here : (T : Task) → st.task ≡ T → AtStage p m st T → Each (λ (q : ℕ × List ℕ). (Within q st.bindings → ⊥) × ((u : ℕ) × (chain_of st q.0 ≡ u ∷ []) × (value_by st u ≡ None))) (waiting_name T)
+  waiting_here : (T : ServerTask) → st.task ≡ T → AtStage p m st T → Each (λ (q : ℕ × List ℕ). (Within q st.bindings → ⊥) × ((u : ℕ) × (chain_of st q.0 ≡ u ∷ []) × (value_by st u ≡ None))) (waiting_name T)
   waiting_here (Rooted bind) e a = binding_waits bind a.0 (λ q. absurd (let z : ◌≡◌ {A = Option ℕ} None (Some bind.slot) = ap moving (sym e) ∙ q in cc))
   waiting_here (Waiting bind) e a = binding_waits bind a.0 (λ q. absurd (let z : ◌≡◌ {A = Option ℕ} None (Some bind.slot) = ap moving (sym e) ∙ q in cc))
   waiting_here Idle e a = tt

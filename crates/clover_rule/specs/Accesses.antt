@@ -1,6 +1,6 @@
 -- Lists of accesses: what it means that they replay from given words, and that they decide an entry.
 use prog.Atomic.{either}
-use Rattle.std.specs.Prelude.{◌≡◌, ◌≢◌, ℕ, ◌<◌, ◌≤◌, ◌^◌, ◌⊎◌, ◌==◌, max, length, slice_set, List, [], ◌∷◌, ◌++◌, cond, Option, Some}
+use Rattle.std.specs.Prelude.{◌≡◌, ◌≢◌, ℕ, ◌<◌, ◌≤◌, ◌^◌, ◌⊎◌, ◌==◌, max, length, slice_set, List, [], ◌∷◌, ◌++◌, Option, Some, if◌then◌else◌}
 use Rattle.clover_words.specs.declared.pool.Pool.{Pool}
 use Rattle.clover_words.specs.declared.meta.Kind.TheVariants.{Value as IsValue}
 use Rattle.clover_words.specs.declared.word.Word.TheVariants.{Next as NextOf, Meta, Value as ValueOf, Count}
@@ -48,7 +48,7 @@ ActsReplay p ws (a ∷ as1) = CameBack p ws a × ActsReplay p (words_after_act p
 -- the acts of the accesses that were not refused
 abbrev pub done : List Access → List Act
 done [] = []
-done (x ∷ xs) = cond x.refused (done xs) (x.act ∷ done xs)
+done (x ∷ xs) = if x.refused then done xs else x.act ∷ done xs
 
 -- Each access that was not refused came back with what the words give; a refused one changed nothing.
 abbrev pub Replays : Pool → List ℕ → List Access → Type 0

@@ -17,8 +17,8 @@ use Rattle.clover_rule.specs.declared.view.BufferState.TheVariants.{Free}
 use Rattle.clover_rule.specs.declared.view.NewBinding.{NewBinding}
 use Rattle.clover_rule.specs.declared.view.RestartStore.{RestartStore}
 use Rattle.clover_rule.specs.declared.view.Role.TheVariants.{Serving, Restarting}
-use Rattle.clover_rule.specs.declared.view.Task.{Task}
-use Rattle.clover_rule.specs.declared.view.Task.TheVariants.{Idle, Storing, Rooted, Waiting, Loaded, Raised, Led, Both, Exchanged}
+use Rattle.clover_rule.specs.declared.view.ServerTask.{ServerTask}
+use Rattle.clover_rule.specs.declared.view.ServerTask.TheVariants.{Idle, Storing, Rooted, Waiting, Loaded, Raised, Led, Both, Exchanged}
 use Rattle.clover_rule.specs.declared.view.View.{View}
 
 -- what a client must have read to give this reply at the tail t of a slot
@@ -61,7 +61,7 @@ MayMiss (Put k x) = ⊥
 MayMiss _ = Unit {0}
 
 -- the server, which has got so far
-pub record IsAt (v : View) (task : Task) : Type 0 where
+pub record IsAt (v : View) (task : ServerTask) : Type 0 where
   pub server : v.pass.role ≡ Serving
   pub task_is : v.server.task ≡ task
 

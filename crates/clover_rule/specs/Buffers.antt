@@ -9,11 +9,11 @@ use Rattle.clover_rule.specs.Memory.{Mem, word}
 use Rattle.clover_rule.specs.Story.{Place, Chained, Stocked, Free, Worn, Taken}
 use Rattle.clover_rule.specs.Views.{Apart, book, book_at}
 use Rattle.clover_rule.specs.declared.view.BufferState.TheVariants.{Free as IsFree, Worn as IsWorn}
-use Rattle.clover_rule.specs.declared.view.Task.{Task}
+use Rattle.clover_rule.specs.declared.view.ServerTask.{ServerTask}
 use Rattle.clover_rule.specs.declared.view.View.{View}
 
 -- Part 1. Each buffer is in one place: on the chain of one slot, in one stock, free, worn, or held by the unfinished task.
-pub record BuffersInOnePlace (p : Pool) (vs : List View) (chain : ℕ → List ℕ) (task : Task) (place : ℕ → Place) : Type 0 where
+pub record BuffersInOnePlace (p : Pool) (vs : List View) (chain : ℕ → List ℕ) (task : ServerTask) (place : ℕ → Place) : Type 0 where
   pub chained : (s t : ℕ) → Within t (chain s) → place (home t) ≡ Chained s
   pub on_chain : (b s : ℕ) → place b ≡ Chained s → (t : ℕ) × Within t (chain s) × (home t ≡ b)
   pub stocked : (i : ℕ) (v : View) → nth vs i ≡ Some v → Each (λ (t : ℕ). place (home t) ≡ Stocked i) v.pass.stock × Apart v.pass.stock

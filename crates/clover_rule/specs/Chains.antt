@@ -12,8 +12,8 @@ use Rattle.clover_rule.specs.Views.{Holds}
 use Rattle.clover_rule.specs.declared.view.NewBinding.{NewBinding}
 use Rattle.clover_rule.specs.declared.view.Recycling.{Recycling}
 use Rattle.clover_rule.specs.declared.view.Shown.{Shown}
-use Rattle.clover_rule.specs.declared.view.Task.{Task}
-use Rattle.clover_rule.specs.declared.view.Task.TheVariants.{Rooted, Led}
+use Rattle.clover_rule.specs.declared.view.ServerTask.{ServerTask}
+use Rattle.clover_rule.specs.declared.view.ServerTask.TheVariants.{Rooted, Led}
 use Rattle.clover_rule.specs.declared.view.View.{View}
 
 -- the tags that one follows from a root or a link, in the current copies
@@ -27,7 +27,7 @@ pub record ChainsStand (m : Mem) (ch : ℕ → List ℕ) : Type 0 where
   pub apart : (s s' t t' : ℕ) → Within t (ch s) → Within t' (ch s') → home t' ≡ home t → (s' ≡ s) × (t' ≡ t)
 
 -- Part 2. Each slot with a root has a chain, and chains share no buffer; both copies of each content word on a chain, or of the version under recycling, are the committed content.
-pub record ChainsAndContents (m : Mem) (chain : ℕ → List ℕ) (task : Task) (value : ℕ → Option Value) (h : List Entry) : Type 0 where
+pub record ChainsAndContents (m : Mem) (chain : ℕ → List ℕ) (task : ServerTask) (value : ℕ → Option Value) (h : List Entry) : Type 0 where
   pub chains : ChainsStand m chain
   pub contents : (s t : ℕ) → Within t (chain s) → Holds m (record { tag = t; value = value t })
   pub leaving : (s t : ℕ) → recycled_by task s ≡ Some t → Holds m (record { tag = t; value = value t })
@@ -58,12 +58,12 @@ AllButLast m (t ∷ u ∷ []) = Unit {0}
 AllButLast m (t ∷ u ∷ v ∷ ts) = (m.fnext (home t) ≡ m.next (home t)) × AllButLast m (u ∷ v ∷ ts)
 
 -- the flushed copy of a slot's root: it is the current one; or it is 0 until the binding stores it, and the chain is the binding's tombstone alone; or it is the version under recycling, whose flushed link leads to the current root
-pub data RootFlushed (m : Mem) (chain : ℕ → List ℕ) (task : Task) (value : ℕ → Option Value) (s : ℕ) : Type 0 where
+pub data RootFlushed (m : Mem) (chain : ℕ → List ℕ) (task : ServerTask) (value : ℕ → Option Value) (s : ℕ) : Type 0 where
   same : m.froot s ≡ m.root s → RootFlushed m chain task value s
   rooted : (b : NewBinding) → task ≡ Rooted b → b.slot ≡ s → m.froot s ≡ None → chain s ≡ b.tag ∷ [] → value b.tag ≡ None → RootFlushed m chain task value s
   led : (c : Recycling) → task ≡ Led c → c.slot ≡ s → m.froot s ≡ Some c.root → m.root s ≡ Some c.next → m.fnext (home c.root) ≡ word (age c.root) (Some c.next) → RootFlushed m chain task value s
 
 -- Part 4. On a chain every link but the last is flushed, and each root's flushed copy is as just said.
-pub record LinksAndRootsFlushed (m : Mem) (chain : ℕ → List ℕ) (task : Task) (value : ℕ → Option Value) : Type 0 where
+pub record LinksAndRootsFlushed (m : Mem) (chain : ℕ → List ℕ) (task : ServerTask) (value : ℕ → Option Value) : Type 0 where
   pub links : (s : ℕ) → AllButLast m (chain s)
   pub roots : (s : ℕ) → RootFlushed m chain task value s

@@ -5,7 +5,7 @@ use Rattle.clover_rule.specs.Lists.{upd}
 use Rattle.clover_rule.specs.Memory.{word, Mem, greater}
 use Rattle.clover_rule.specs.Story.{Story, Chained, Taken}
 use Prim.Native.Nat.{suc}
-use Rattle.std.specs.Prelude.{ℕ, [], ◌∷◌, ◌++◌, length, cond, ltb, Some, None}
+use Rattle.std.specs.Prelude.{ℕ, max, [], ◌∷◌, ◌++◌, length, Some, None}
 
 -- a link of t behind u
 abbrev pub linked_mem : Mem → ℕ → ℕ → Mem
@@ -20,17 +20,13 @@ linked_story st s w = record st {
   place = upd st.place (home w.tag) (Chained s);
 }
 
--- the greater of two numbers
-abbrev pub greatest : ℕ → ℕ → ℕ
-greatest a b = cond (ltb a b) b a
-
 -- a raise to the link of the version u at place i of slot s
 abbrev pub raised_mem : Mem → ℕ → ℕ → Mem
 raised_mem m u t = record m { fnext = upd m.fnext (home u) (greater (m.fnext (home u)) (word (age u) (Some t))) }
 
 -- the link to the version behind place i is flushed
 abbrev pub raised_story : Story → ℕ → ℕ → Story
-raised_story st s i = record st { sure = upd st.sure s (greatest (st.sure s) (suc (suc i))) }
+raised_story st s i = record st { sure = upd st.sure s (max (st.sure s) (suc (suc i))) }
 
 -- the recycling exchange at the root version r of slot s
 abbrev pub recycled_mem : Mem → ℕ → Mem

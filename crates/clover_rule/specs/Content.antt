@@ -19,6 +19,7 @@ abbrev pub words_from : List ℕ → ℕ → ℕ → List ℕ
 words_from bytes k zero = []
 words_from bytes k (suc n) = packed bytes k ∷ words_from bytes (suc k) n
 
+-- all words of packed bytes
 abbrev pub all_words : List ℕ → List ℕ
 all_words bytes = words_from bytes 0 (words_of (length bytes))
 

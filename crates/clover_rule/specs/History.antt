@@ -1,5 +1,6 @@
 -- Calls, replies, and histories of a tagged map.
-use Rattle.std.specs.Prelude.{◌≡◌, ℕ, ◌≢◌, ◌&&◌, List, [], ◌∷◌, Bool, true, false, cond, eqb, Option, Some, None}
+use Rattle.std.specs.Prelude.{◌≡◌, ℕ, ◌≢◌, List, [], ◌∷◌, length, Bool, true, false, leb, Option, Some, None, if◌then◌else◌, ◌==◌}
+use Rattle.std.specs.Str.{bytes_eq}
 use Rattle.clover_map.specs.declared.bytes.Value.{Value}
 use Rattle.clover_map.specs.declared.bytes.Held.{Held}
 use Rattle.clover_map.specs.declared.call.Call.{Call}
@@ -11,13 +12,6 @@ use Rattle.clover_map.specs.Does.{held}
 use Rattle.clover_map.specs.Tagged.{Tagged}
 use Rattle.std.specs.FinMap.{get}
 use Rattle.clover_rule.specs.Lists.{Each}
-
--- two keys are the same
-abbrev pub same_key : List ℕ → List ℕ → Bool
-same_key [] [] = true
-same_key [] (y ∷ ys) = false
-same_key (x ∷ xs) [] = false
-same_key (x ∷ xs) (y ∷ ys) = eqb x y && same_key xs ys
 
 -- a version: its tag, and its value, or none for a tombstone
 pub record Version : Type 0 where
@@ -34,7 +28,7 @@ shows m = λ (k : List ℕ). get m k
 
 -- a function of keys with another value at one key
 abbrev pub at_key : {A : Type 0} → (List ℕ → A) → List ℕ → A → List ℕ → A
-at_key f k a = λ (j : List ℕ). cond (same_key k j) a (f j)
+at_key f k a = λ (j : List ℕ). if bytes_eq k j then a else f j
 
 -- the key that a call names
 abbrev pub named : Call → List ℕ
@@ -88,15 +82,17 @@ Does x used (Swap k e v) (Differs t) = (tag_in x ≡ Some t) × (t ≢ e)
 Does x used (Swap k e v) Absent = x ≡ None
 Does _ _ _ _ = ⊥
 
--- the map, the used tags and both after an entry
+-- the map after a commit at a key
 abbrev pub changed : Map → List ℕ → Option Version → Map
 changed m k None = m
 changed m k (Some w) = at_key m k (pair_of w)
 
+-- the used tags after a commit
 abbrev pub grown : List ℕ → Option Version → List ℕ
 grown used None = used
 grown used (Some w) = w.tag ∷ used
 
+-- the map after an entry
 abbrev pub after : Map → Entry → Map
 after m e = changed m (key_of e) (commit_of e)
 
@@ -105,11 +101,12 @@ abbrev pub Legal : Map → List ℕ → List Entry → Type 0
 Legal m used [] = Unit {0}
 Legal m used (e ∷ h) = Does (m (key_of e)) used e.call e.reply × Legal (after m e) (grown used (commit_of e)) h
 
--- the map to which a history leads, and the tags used by then
+-- the map to which a history leads
 abbrev pub leads : Map → List Entry → Map
 leads m [] = m
 leads m (e ∷ h) = leads (after m e) h
 
+-- the tags used by the end of a history
 abbrev pub used_by : List ℕ → List Entry → List ℕ
 used_by used [] = used
 used_by used (e ∷ h) = used_by (grown used (commit_of e)) h
@@ -117,7 +114,11 @@ used_by used (e ∷ h) = used_by (grown used (commit_of e)) h
 -- the entries of one client
 abbrev pub own : ℕ → List Entry → List Entry
 own c [] = []
-own c (e ∷ h) = cond (eqb e.client c) (e ∷ own c h) (own c h)
+own c (e ∷ h) = if e.client == c then e ∷ own c h else own c h
+
+-- the longer of two histories
+abbrev pub longer : List Entry → List Entry → List Entry
+longer a b = if leb (length a) (length b) then b else a
 
 -- a version at the front, if there is one
 abbrev pub joined : Option Version → List Version → List Version
@@ -127,7 +128,7 @@ joined (Some w) ws = w ∷ ws
 -- the versions that a history commits at a key, in order
 abbrev pub commits : List ℕ → List Entry → List Version
 commits k [] = []
-commits k (e ∷ h) = cond (same_key (key_of e) k) (joined (commit_of e) (commits k h)) (commits k h)
+commits k (e ∷ h) = if bytes_eq (key_of e) k then joined (commit_of e) (commits k h) else commits k h
 
 -- what a key has once these versions were committed behind what it had
 abbrev pub ends : Option Held → List Version → Option Held
@@ -142,7 +143,7 @@ lost_in lost (Some w) = lost w.tag
 -- the history without the commits of the lost tags
 abbrev pub kept : (ℕ → Bool) → List Entry → List Entry
 kept lost [] = []
-kept lost (e ∷ h) = cond (lost_in lost (commit_of e)) (kept lost h) (e ∷ kept lost h)
+kept lost (e ∷ h) = if lost_in lost (commit_of e) then kept lost h else e ∷ kept lost h
 
 -- no entry names the key
 abbrev pub Silent : List ℕ → List Entry → Type 0

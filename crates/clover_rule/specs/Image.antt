@@ -1,6 +1,6 @@
 -- Images of a power cut, and the chains that are read from them.
 use Prim.Native.Nat.{zero, suc}
-use Rattle.std.specs.Prelude.{◌≡◌, ℕ, ◌≢◌, ◌⊎◌, List, [], ◌∷◌, map, Bool, true, false, cond, ◌&&◌, Option, Some, None}
+use Rattle.std.specs.Prelude.{◌≡◌, ℕ, ◌≢◌, ◌⊎◌, List, [], ◌∷◌, map, Bool, true, false, ◌&&◌, Option, Some, None, if◌then◌else◌}
 use Rattle.clover_words.specs.Tag.{home, age}
 use Rattle.clover_map.specs.declared.bytes.Held.{Held}
 use Rattle.clover_rule.specs.History.{Version, Map, ends}
@@ -49,7 +49,7 @@ missing st im t = unsure st t && is_none (leads_to st im (st.slot_of t) (st.rank
 -- the versions that are not lost
 abbrev pub sift : (ℕ → Bool) → List Version → List Version
 sift lost [] = []
-sift lost (w ∷ ws) = cond (lost w.tag) (sift lost ws) (w ∷ sift lost ws)
+sift lost (w ∷ ws) = if lost w.tag then sift lost ws else w ∷ sift lost ws
 
 -- the tags of versions
 abbrev pub tags : List Version → List ℕ

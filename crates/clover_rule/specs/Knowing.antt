@@ -9,7 +9,7 @@ use Rattle.clover_rule.specs.declared.view.Content.{Content}
 use Rattle.clover_rule.specs.declared.view.Role.TheVariants.{Client}
 use Rattle.clover_rule.specs.declared.view.View.{View}
 use Prim.Native.Nat.{suc}
-use Rattle.std.specs.Prelude.{◌≡◌, ℕ, ◌^◌, ◌<◌, ◌≤◌, ◌&&◌, List, [], ◌∷◌, ◌++◌, length, cond, eqb, Option, Some}
+use Rattle.std.specs.Prelude.{◌≡◌, ℕ, ◌^◌, ◌<◌, ◌≤◌, ◌&&◌, List, [], ◌∷◌, ◌++◌, length, Option, Some, if◌then◌else◌, ◌==◌}
 use Rattle.clover_map.specs.declared.bytes.Value.{Value}
 use Rattle.clover_map.specs.declared.call.Call.{Call}
 use Rattle.clover_map.specs.declared.call.Reply.{Reply}
@@ -25,10 +25,11 @@ pub record MayLink (v : View) (n s : ℕ) (k : List ℕ) (u t : ℕ) (y : Option
   pub name : Within (s, k) v.pass.names
   pub stored : (j x : ℕ) → nth (content y) j ≡ Some x → Within (record { tag = t; place = j; word = x }) v.pass.written × Within (record { tag = t; place = j; word = x }) v.pass.flushed
 
--- the entry that a client adds, and its view after the exchange that commits
+-- the entry that a client adds
 abbrev pub link_entry : View → ℕ → Call → Reply → Entry
 link_entry v n call reply = record { client = n; number = suc (length v.pass.calls); call = call; reply = reply }
 
+-- the view after the exchange that commits: the entry is in, the tag has left the stock, its link is known
 abbrev pub link_view : View → List Entry → ℕ → ℕ → ℕ → ℕ → Call → Reply → List ℕ → View
 link_view v h n s u t call reply rest = record v {
   pass = record v.pass {
@@ -64,18 +65,20 @@ pub record CopiedValue (v : View) (s t : ℕ) (x : Value) : Type 0 where
 -- what a seat had stored at this place of its buffer is forgotten
 abbrev pub dropped : ℕ → ℕ → List Content → List Content
 dropped t j [] = []
-dropped t j (c ∷ cs) = cond (eqb c.tag t && eqb c.place j) (dropped t j cs) (c ∷ dropped t j cs)
+dropped t j (c ∷ cs) = if c.tag == t && c.place == j then dropped t j cs else c ∷ dropped t j cs
 
--- a content word that a client stored: its view and the decoded words
+-- the view after a store of a content word
 abbrev pub stored_view : View → ℕ → ℕ → ℕ → View
 stored_view v t j x = record v { pass = record v.pass { written = record { tag = t; place = j; word = x } ∷ dropped t j v.pass.written } }
 
+-- the decoded words after that store
 abbrev pub stored_mem : Mem → ℕ → ℕ → ℕ → Mem
 stored_mem m t j x = record m { body = upd m.body (home t) (upd (m.body (home t)) j x) }
 
--- a flushed copy that a client stored: its view and the decoded words
+-- the view after a store of the flushed copy of a content word
 abbrev pub flushed_view : View → ℕ → ℕ → ℕ → View
 flushed_view v t j x = record v { pass = record v.pass { flushed = record { tag = t; place = j; word = x } ∷ dropped t j v.pass.flushed } }
 
+-- the decoded words after that store
 abbrev pub flushed_mem : Mem → ℕ → ℕ → ℕ → Mem
 flushed_mem m t j x = record m { fbody = upd m.fbody (home t) (upd (m.fbody (home t)) j x) }

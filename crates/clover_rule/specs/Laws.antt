@@ -97,11 +97,12 @@ abbrev pub HandOverLaw : Type 0
 HandOverLaw = (p : Pool) (first : Tagged) (used ws : List ℕ) (vs : List View) (h : List Entry) (i j : ℕ) (sv cv : View) (batch : List ℕ) (names : List (ℕ × List ℕ)) → Rule p first used ws vs h → nth vs i ≡ Some sv → nth vs j ≡ Some cv → MayHand p sv cv batch names
     → Rule p first used ws (slice_set (slice_set vs i (giving batch sv)) j (given batch names cv)) h
 
--- A note is split off a client, and the server takes it in.
+-- A note is split off a client.
 abbrev pub NoteLaw : Type 0
 NoteLaw = (p : Pool) (first : Tagged) (used ws : List ℕ) (vs : List View) (h : List Entry) (id : ℕ) (v : View) (n : ℕ) → Rule p first used ws vs h → nth vs id ≡ Some v → v.pass.role ≡ Client n
     → Rule p first used ws (split vs id v (note_of v)) h
 
+-- The server takes a note in.
 abbrev pub JoinNoteLaw : Type 0
 JoinNoteLaw = (p : Pool) (first : Tagged) (used ws : List ℕ) (vs : List View) (h : List Entry) (id j : ℕ) (v n : View) → Rule p first used ws vs h → nth vs id ≡ Some v → nth vs j ≡ Some n → j ≢ id → MayNote v n
     → Rule p first used ws (joined vs id (noted v n) j (spent v)) h

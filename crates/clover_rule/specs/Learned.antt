@@ -1,6 +1,6 @@
 -- What a step leaves: what its actor knows afterwards, the history, and the words.
 use Prim.Native.Nat.{suc}
-use Rattle.std.specs.Prelude.{ℕ, ◌+◌, ◌==◌, length, slice_index, slice_set, List, [], ◌∷◌, ◌++◌, Bool, cond, eqb, Option, Some, None}
+use Rattle.std.specs.Prelude.{ℕ, ◌+◌, ◌==◌, length, slice_index, slice_set, List, [], ◌∷◌, ◌++◌, Bool, Option, Some, None, max, if◌then◌else◌}
 use Rattle.clover_words.specs.declared.pool.Pool.{Pool}
 use Rattle.clover_words.specs.Place.{address_of}
 use Rattle.clover_words.specs.Tag.{home, age}
@@ -10,7 +10,6 @@ use Rattle.clover_map.specs.declared.call.Reply.{Reply}
 use Rattle.clover_map.specs.declared.call.Reply.TheVariants.{Absent}
 use Rattle.clover_map.specs.declared.call.Entry.{Entry}
 use Rattle.clover_rule.specs.Asks.{key_words}
-use Rattle.clover_rule.specs.Changes.{greatest}
 use Rattle.clover_rule.specs.Knowing.{link_entry, link_view, stored_view, flushed_view}
 use Rattle.clover_rule.specs.Memory.{Next, word}
 use Rattle.clover_rule.specs.Steps.{Step, LoadNext, DecideNext, RaiseNext, LinkNext, StoreContent, FlushContent, LoadContent, ReadRoot, ReadShort, StoreShort, ReadCount, AbsentCount, ReadVersion, FlushLink, StoreRoot, FlushRoot, PassRoot, FreeRoot, StoreTombstone, FlushTombstone, StoreKey, FlushKey, BindRoot, FlushBoundRoot, StoreCount, Restart, word_of, side_of, becomes, act_of, client, reply_of}
@@ -20,25 +19,26 @@ use Rattle.clover_rule.specs.declared.access.Act.{Act}
 use Rattle.clover_rule.specs.declared.view.BufferState.TheVariants.{Bound, Out}
 use Rattle.clover_rule.specs.declared.view.NewBinding.{NewBinding}
 use Rattle.clover_rule.specs.declared.view.Recycling.{Recycling}
-use Rattle.clover_rule.specs.declared.view.Task.{Task}
-use Rattle.clover_rule.specs.declared.view.Task.TheVariants.{Idle, Storing, Rooted, Waiting, Loaded, Raised, Led, Both, Exchanged}
+use Rattle.clover_rule.specs.declared.view.ServerTask.{ServerTask}
+use Rattle.clover_rule.specs.declared.view.ServerTask.TheVariants.{Idle, Storing, Rooted, Waiting, Loaded, Raised, Led, Both, Exchanged}
 use Rattle.clover_rule.specs.declared.view.View.{View}
 
 -- a next word that a tag of a slot showed
 abbrev pub seen : ℕ → ℕ → View → Next → View
 seen s t v (word a None) = record v { pass = record v.pass { words = shown (home t) a None ∷ v.pass.words } }
-seen s t v (word a (Some u)) = record v { pass = record v.pass { words = shown (home t) a (Some u) ∷ v.pass.words; links = cond (eqb a (age t)) (record { slot = s; from = t; to = u } ∷ v.pass.links) v.pass.links } }
+seen s t v (word a (Some u)) = record v { pass = record v.pass { words = shown (home t) a (Some u) ∷ v.pass.words; links = (if a == age t then record { slot = s; from = t; to = u } ∷ v.pass.links else v.pass.links) } }
 
--- a call that the tail decided, and a count that was loaded
+-- a call that the tail decided
 abbrev pub decided : View → List Entry → ℕ → Call → Reply → View
 decided v h t c r = record v { pass = record v.pass { calls = v.pass.calls ++ link_entry v (client v) c r ∷ []; history = h ++ link_entry v (client v) c r ∷ []; words = shown (home t) (age t) None ∷ v.pass.words } }
 
+-- a count that was loaded
 abbrev pub counts : View → ℕ → View
-counts v x = record v { pass = record v.pass { most = greatest v.pass.most x } }
+counts v x = record v { pass = record v.pass { most = max v.pass.most x } }
 
 -- a call that the count decided
 abbrev pub missed : View → List Entry → Call → ℕ → View
-missed v h c x = record v { pass = record v.pass { calls = v.pass.calls ++ link_entry v (client v) c Absent ∷ []; history = h ++ link_entry v (client v) c Absent ∷ []; most = greatest v.pass.most x } }
+missed v h c x = record v { pass = record v.pass { calls = v.pass.calls ++ link_entry v (client v) c Absent ∷ []; history = h ++ link_entry v (client v) c Absent ∷ []; most = max v.pass.most x } }
 
 -- a root or a shortcut that was loaded
 abbrev pub started : ℕ → View → Option ℕ → View
@@ -51,7 +51,7 @@ rest_of [] = []
 rest_of (x ∷ xs) = xs
 
 -- the server's task has got so far
-abbrev pub at_task : View → Task → View
+abbrev pub at_task : View → ServerTask → View
 at_task v task = record v { server = record v.server { task = task } }
 
 -- what a slot's root version showed: no version behind it, or the link with which a recycling begins
@@ -92,9 +92,9 @@ entered v b = record v { server = record v.server { task = Idle; roots = (b.slot
 -- what the actor knows after the step, its counts aside
 abbrev pub learned : Step → List Entry → View → ℕ → View
 learned (LoadNext s t) h v x = seen s t v (next_of x)
-learned (DecideNext s t c r) h v x = cond (x == unlinked t) (decided v h t c r) (seen s t v (next_of x))
+learned (DecideNext s t c r) h v x = if x == unlinked t then decided v h t c r else seen s t v (next_of x)
 learned (RaiseNext l) h v x = raise_view v l
-learned (LinkNext s u t c) h v x = cond (x == unlinked u) (link_view v h (client v) s u t c (reply_of t c) (rest_of v.pass.stock)) (seen s u v (next_of x))
+learned (LinkNext s u t c) h v x = if x == unlinked u then link_view v h (client v) s u t c (reply_of t c) (rest_of v.pass.stock) else seen s u v (next_of x)
 learned (StoreContent t j y) h v x = stored_view v t j y
 learned (FlushContent t j y) h v x = flushed_view v t j y
 learned (LoadContent s t j) h v x = record v { pass = record v.pass { copied = (s, record { tag = t; place = j; word = x }) ∷ v.pass.copied } }
@@ -102,7 +102,7 @@ learned (ReadRoot s) h v x = started s v (root_of x)
 learned (ReadShort s) h v x = started s v (root_of x)
 learned (StoreShort s t) h v x = v
 learned ReadCount h v x = counts v x
-learned (AbsentCount c) h v x = cond (x == length v.pass.names) (missed v h c x) (counts v x)
+learned (AbsentCount c) h v x = if x == length v.pass.names then missed v h c x else counts v x
 learned (ReadVersion s r) h v x = looked s r v (next_of x)
 learned (FlushLink c) h v x = link_flushed v c
 learned (StoreRoot c) h v x = at_task v (Led c)
@@ -120,14 +120,14 @@ learned (Restart y) h v x = record v { plan = rest_of v.plan }
 
 -- the history after the step
 abbrev pub next_history : Step → List Entry → View → ℕ → List Entry
-next_history (DecideNext s t c r) h v x = cond (x == unlinked t) (h ++ link_entry v (client v) c r ∷ []) h
-next_history (LinkNext s u t c) h v x = cond (x == unlinked u) (h ++ link_entry v (client v) c (reply_of t c) ∷ []) h
-next_history (AbsentCount c) h v x = cond (x == length v.pass.names) (h ++ link_entry v (client v) c Absent ∷ []) h
+next_history (DecideNext s t c r) h v x = if x == unlinked t then h ++ link_entry v (client v) c r ∷ [] else h
+next_history (LinkNext s u t c) h v x = if x == unlinked u then h ++ link_entry v (client v) c (reply_of t c) ∷ [] else h
+next_history (AbsentCount c) h v x = if x == length v.pass.names then h ++ link_entry v (client v) c Absent ∷ [] else h
 next_history _ h v x = h
 
 -- a turn: the next word of the tag that was followed is linked, or of another generation
 abbrev pub turn_at : ℕ → ℕ → ℕ
-turn_at t x = cond (x == unlinked t) 0 1
+turn_at t x = if x == unlinked t then 0 else 1
 
 -- the turns of a step
 abbrev pub turn_of : Step → ℕ → ℕ
@@ -140,8 +140,8 @@ turn_of _ x = 0
 abbrev pub counted : Bool → Act → ℕ → View → View
 counted first act n v = record v {
   pass = record v.pass {
-    since = cond first [] v.pass.since ++ act ∷ [];
-    turns = cond first 0 v.pass.turns + n;
+    since = (if first then [] else v.pass.since) ++ act ∷ [];
+    turns = (if first then 0 else v.pass.turns) + n;
     all_turns = v.pass.all_turns + n;
     made = suc v.pass.made;
   };
@@ -151,9 +151,10 @@ counted first act n v = record v {
 abbrev pub next_view : Bool → Step → List Entry → View → ℕ → View
 next_view first a h v x = counted first (act_of a x) (turn_of a x) (learned a h v x)
 
--- the number that the step finds, and the words after it
+-- the number that the step finds
 abbrev pub found : Pool → Step → List ℕ → ℕ
 found p a ws = slice_index ws (address_of p (word_of a) (side_of a))
 
+-- the words after the step
 abbrev pub words_after_step : Pool → Step → List ℕ → List ℕ
 words_after_step p a ws = slice_set ws (address_of p (word_of a) (side_of a)) (becomes a (found p a ws))

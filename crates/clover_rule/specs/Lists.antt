@@ -1,6 +1,6 @@
 -- Lists read by place, and functions with another value at one place.
 use Prim.Native.Nat.{zero, suc}
-use Rattle.std.specs.Prelude.{◌≡◌, ℕ, ◌⊎◌, List, [], ◌∷◌, ◌++◌, length, cond, eqb, Option, Some, None}
+use Rattle.std.specs.Prelude.{◌≡◌, ℕ, ◌⊎◌, List, [], ◌∷◌, ◌++◌, length, Option, Some, None, if◌then◌else◌, ◌==◌}
 
 -- P holds of each element
 abbrev pub Each : {A : Type 0} → (A → Type 0) → List A → Type 0
@@ -15,7 +15,7 @@ nth (x ∷ xs) (suc i) = nth xs i
 
 -- a function with another value at one place
 abbrev pub upd : {A : Type 0} → (ℕ → A) → ℕ → A → ℕ → A
-upd f i a = λ (j : ℕ). cond (eqb i j) a (f j)
+upd f i a = λ (j : ℕ). if i == j then a else f j
 
 -- the element stands in the list
 abbrev pub Within : {A : Type 0} → A → List A → Type 0

@@ -1,15 +1,16 @@
 -- The words of a pool as decoded values: by buffer, by buffer and place, by slot.
 use Prim.Native.Nat.{suc}
-use Rattle.std.specs.Prelude.{ℕ, ◌+◌, cond, ltb, Option, Some, None}
+use Rattle.std.specs.Prelude.{ℕ, ◌+◌, ltb, Option, Some, None, if◌then◌else◌}
 
 -- a next word: its own generation and its link. A `data` type, since the tactics take a constructor apart and a record literal not
 pub data Next : Type 0 where
   word : ℕ → Option ℕ → Next
 
--- the generation and the link of a next word
+-- the generation of a next word
 abbrev pub gen : Next → ℕ
 gen (word a l) = a
 
+-- the link of a next word
 abbrev pub link : Next → Option ℕ
 link (word a l) = l
 
@@ -33,4 +34,4 @@ order (word a (Some t)) = suc (a + a)
 
 -- the one of two next words that a raise leaves
 abbrev pub greater : Next → Next → Next
-greater o n = cond (ltb (order o) (order n)) n o
+greater o n = if ltb (order o) (order n) then n else o

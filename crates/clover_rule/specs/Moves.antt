@@ -1,11 +1,11 @@
 -- What the moves of seats make of the views, and what a move asks of the views that it changes.
-use Rattle.std.specs.Prelude.{◌≡◌, ℕ, List, [], ◌∷◌, ◌++◌, length, slice_set, leb, cond, true}
+use Rattle.std.specs.Prelude.{◌≡◌, ℕ, List, [], ◌∷◌, ◌++◌, length, slice_set, true}
+use Rattle.clover_rule.specs.History.{longer}
 use Rattle.std.specs.FinMap as finite
 use Rattle.std.proofs.Common.{refl, ◌*◌}
 use Rattle.std.proofs.lemmas.Bool.{leb-true}
 use Rattle.clover_words.specs.declared.pool.Pool.{Pool}
 use Rattle.clover_words.specs.Tag.{home, age}
-use Rattle.clover_map.specs.declared.call.Entry.{Entry}
 use Rattle.clover_rule.specs.Content.{inside}
 use Rattle.clover_rule.specs.Lists.{Each, IsPart, Within}
 use Rattle.clover_rule.specs.Server.{waiting_name}
@@ -23,10 +23,11 @@ split vs i left right = slice_set vs i left ++ right ∷ []
 abbrev pub joined : List View → ℕ → View → ℕ → View → List View
 joined vs i both j spent = slice_set (slice_set vs i both) j spent
 
--- the server has made a client, and the client's view
+-- the server has made a client
 abbrev pub making : ℕ → View → View
 making n v = record v { server = record v.server { clients = n ∷ v.server.clients; unlinked = [] } }
 
+-- the view of a client that was just made
 abbrev pub client_of : ℕ → View → View
 client_of n v = alone (empty_pass v.pass (Client n))
 
@@ -35,10 +36,11 @@ abbrev pub lines_out : List BookLine → List ℕ → List BookLine
 lines_out xs [] = xs
 lines_out xs (t ∷ ts) = lines_out (line (home t) (age t) Out ∷ xs) ts
 
--- the server has handed a batch out, and the grant that has it, with names from a position on
+-- the server has handed a batch out
 abbrev pub giving : List ℕ → View → View
 giving batch v = record v { server = record v.server { books = lines_out v.server.books batch; unlinked = [] } }
 
+-- the grant that has the batch, with names from a position on
 abbrev pub grant : List ℕ → ℕ → List (ℕ × List ℕ) → View → View
 grant batch position names v = alone (record (empty_pass v.pass Granting) { stock = batch; from = position; added = names })
 
@@ -54,13 +56,11 @@ spent v = alone (empty_pass v.pass Joined)
 abbrev pub given : List ℕ → List (ℕ × List ℕ) → View → View
 given batch names v = record v { pass = record v.pass { stock = v.pass.stock ++ batch; names = v.pass.names ++ names } }
 
--- a note of a client's names, count and history, and the server's view with the longer history
+-- a note of a client's names, count and history
 abbrev pub note_of : View → View
 note_of v = alone (record (empty_pass v.pass Noting) { names = v.pass.names; most = v.pass.most; history = v.pass.history })
 
-abbrev pub longer : List Entry → List Entry → List Entry
-longer a b = cond (leb (length a) (length b)) b a
-
+-- the server's view with the longer of its own and a note's history
 abbrev pub noted : View → View → View
 noted v n = record v { pass = record v.pass { history = longer v.pass.history n.pass.history } }
 
@@ -103,9 +103,10 @@ pub record MayNote (v n : View) : Type 0 where
   pub noting : n.pass.role ≡ Noting
   pub stock : n.pass.stock ≡ []
 
--- a pool, and a view of no run, for a name that nothing was picked for
+-- the least pool, for a name that nothing was picked for
 abbrev pub least_pool : Pool
 least_pool = record { nodes = 1; buffers = 1; slots = 1; words = 1; wear = 1; some_node = leb-true 1 1 refl; nodes_fit = leb-true 1 16 refl; some_buffer = leb-true 1 1 refl; total_fits = leb-true (1 * 1) 65536 refl; some_slot = leb-true 1 1 refl; slots_fit = leb-true 1 16384 refl; some_word = leb-true 1 1 refl; words_fit = leb-true 1 128 refl; some_wear = leb-true 1 1 refl; wear_fits = leb-true 1 1048575 refl }
 
+-- a view of no run
 abbrev pub nobody : View
 nobody = alone (start_pass least_pool finite.empty [] Joined)

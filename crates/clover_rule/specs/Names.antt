@@ -7,7 +7,7 @@ use Rattle.clover_rule.specs.Lists.{Each, Within, IsPrefix, IsPart, nth}
 use Rattle.clover_rule.specs.Memory.{Mem}
 use Rattle.clover_rule.specs.Server.{waiting_name}
 use Rattle.clover_rule.specs.Views.{SlotsOnce}
-use Rattle.clover_rule.specs.declared.view.Task.{Task}
+use Rattle.clover_rule.specs.declared.view.ServerTask.{ServerTask}
 use Rattle.clover_rule.specs.declared.view.View.{View}
 
 -- no key stands twice among the bindings
@@ -15,7 +15,7 @@ abbrev pub KeysOnce : List (ℕ × List ℕ) → Type 0
 KeysOnce bs = (i j s s1 : ℕ) (k : List ℕ) → nth bs i ≡ Some (s, k) → nth bs j ≡ Some (s1, k) → i ≡ j
 
 -- Part 10. The names of a view are the first bindings, those of a grant are the bindings from its position up to some place, and the count is the number of bindings; no slot and no key stands twice among them, and they are at most as many as the slots. While a binding waits for its last store, no view has its name, and its slot's chain is its tombstone alone. No view loaded a greater count.
-pub record NamesAndCount (p : Pool) (m : Mem) (vs : List View) (chain : ℕ → List ℕ) (task : Task) (value : ℕ → Option Value) (bindings : List (ℕ × List ℕ)) : Type 0 where
+pub record NamesAndCount (p : Pool) (m : Mem) (vs : List View) (chain : ℕ → List ℕ) (task : ServerTask) (value : ℕ → Option Value) (bindings : List (ℕ × List ℕ)) : Type 0 where
   pub count : m.count ≡ length bindings
   pub slots_once : SlotsOnce bindings
   pub keys_once : KeysOnce bindings

@@ -14,9 +14,9 @@ use Rattle.clover_rule.specs.Words.{mem_of}
 use Rattle.clover_rule.specs.declared.view.BufferState.TheVariants.{Free, Bound, Out}
 use Rattle.clover_rule.specs.declared.view.Role.TheVariants.{Client, Serving}
 use Rattle.clover_rule.specs.declared.view.Server.{Server}
-use Rattle.clover_rule.specs.declared.view.Task.TheVariants.{Idle}
+use Rattle.clover_rule.specs.declared.view.ServerTask.TheVariants.{Idle}
 use Rattle.clover_rule.specs.declared.view.View.{View}
-use Rattle.std.specs.Prelude.{◌≡◌, ℕ, ◌<◌, ◌≤◌, ◌≢◌, ◌⊎◌, List, [], length, cond, eqb, true, Option, Some, None}
+use Rattle.std.specs.Prelude.{◌≡◌, ℕ, ◌<◌, ◌≤◌, ◌≢◌, ◌⊎◌, List, [], length, true, Option, Some, None, if◌then◌else◌, ◌==◌}
 use Rattle.clover_words.specs.declared.pool.Pool.{Pool}
 
 -- what restart leaves: both copies are the image's, and what its books and directory say of it
@@ -99,7 +99,7 @@ pub record Begins (p : Pool) (first : Tagged) (used ws : List ℕ) (o : Opening 
 
 -- what the books say of a buffer as a run begins, by where it stands: bound as a root, out behind one, and off the chains free, or worn at the wear
 abbrev pub opened_book : Pool → Image → Option (ℕ × ℕ) → ℕ → Book
-opened_book p im (Some q) b = book (gen (im.next b)) (cond (eqb q.1 0) Bound Out)
+opened_book p im (Some q) b = book (gen (im.next b)) (if q.1 == 0 then Bound else Out)
 opened_book p im None b = book (gen (im.next b)) (free_or_worn p.wear (gen (im.next b)))
 
 -- the server's part as a run begins: no task, the bindings, the roots, and books that say where each buffer is

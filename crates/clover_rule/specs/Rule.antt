@@ -1,5 +1,6 @@
 -- The rule: what the words, the views of all actors and one history have to do with each other between any two steps. Its twelve parts, and the helping facts.
-use Rattle.std.specs.Prelude.{◌≡◌, cond, leb, ℕ, List, [], ◌∷◌, length, Option}
+use Rattle.std.specs.Prelude.{◌≡◌, ℕ, List, [], ◌∷◌, Option}
+use Rattle.clover_rule.specs.History.{longer}
 use Rattle.clover_words.specs.declared.pool.Pool.{Pool}
 use Rattle.clover_map.specs.declared.bytes.Value.{Value}
 use Rattle.clover_map.specs.declared.call.Entry.{Entry}
@@ -14,7 +15,7 @@ use Rattle.clover_rule.specs.Meets.{Meets, OfRun}
 use Rattle.clover_rule.specs.Names.{NamesAndCount}
 use Rattle.clover_rule.specs.Story.{Place, Story}
 use Rattle.clover_rule.specs.Words.{mem_of}
-use Rattle.clover_rule.specs.declared.view.Task.{Task}
+use Rattle.clover_rule.specs.declared.view.ServerTask.{ServerTask}
 use Rattle.clover_rule.specs.declared.view.View.{View}
 
 -- what holds of the words, the views and the history of a run that began with this map and these used tags
@@ -25,7 +26,7 @@ pub record Rule (p : Pool) (first : Tagged) (used : List ℕ) (ws : List ℕ) (v
   pub place : ℕ → Place
   pub bindings : List (ℕ × List ℕ)
   pub keys : ℕ → Option (List ℕ)
-  pub task : Task
+  pub task : ServerTask
   -- the task is the server's, and all views are of one run
   pub task_is : (v : View) → IsServer vs v → v.server.task ≡ task
   pub one_run : (v : View) → Within v vs → OfRun p first used v
@@ -47,9 +48,6 @@ pub record Rule (p : Pool) (first : Tagged) (used : List ℕ) (ws : List ℕ) (v
   pub helped : Meets p first used ws vs story h
 
 -- the longest history that a view holds
-abbrev pub longer_of : List Entry → List Entry → List Entry
-longer_of a b = cond (leb (length a) (length b)) b a
-
 abbrev pub longest : List View → List Entry
 longest [] = []
-longest (v ∷ vs) = longer_of v.pass.history (longest vs)
+longest (v ∷ vs) = longer v.pass.history (longest vs)

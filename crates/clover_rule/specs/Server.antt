@@ -1,6 +1,6 @@
 -- The helping facts beside the core: ranges, keys, stages, names, and what the view of the server says.
 use Prim.Native.Nat.{suc}
-use Rattle.std.specs.Prelude.{◌≡◌, ℕ, ◌+◌, ◌<◌, ◌≤◌, ◌≢◌, ◌⊎◌, List, [], ◌∷◌, ◌++◌, length, Bool, true, false, cond, eqb, Option, Some, None}
+use Rattle.std.specs.Prelude.{◌≡◌, ℕ, ◌+◌, ◌<◌, ◌≤◌, ◌≢◌, ◌⊎◌, List, [], ◌∷◌, ◌++◌, length, Bool, true, false, Option, Some, None, if◌then◌else◌, ◌==◌}
 use Rattle.clover_words.specs.Meta.{tombstone}
 use Rattle.clover_words.specs.Tag.{home, age}
 use Rattle.clover_map.specs.declared.call.Entry.{Entry}
@@ -15,8 +15,8 @@ use Rattle.clover_rule.specs.declared.view.NewBinding.{NewBinding}
 use Rattle.clover_rule.specs.declared.view.Recycling.{Recycling}
 use Rattle.clover_rule.specs.declared.view.Role.TheVariants.{Client, Serving}
 use Rattle.clover_rule.specs.declared.view.Server.{Server}
-use Rattle.clover_rule.specs.declared.view.Task.{Task}
-use Rattle.clover_rule.specs.declared.view.Task.TheVariants.{Idle, Storing, Rooted, Waiting, Loaded, Raised, Led, Both, Exchanged}
+use Rattle.clover_rule.specs.declared.view.ServerTask.{ServerTask}
+use Rattle.clover_rule.specs.declared.view.ServerTask.TheVariants.{Idle, Storing, Rooted, Waiting, Loaded, Raised, Led, Both, Exchanged}
 use Rattle.clover_rule.specs.declared.view.View.{View}
 use Rattle.clover_words.specs.declared.pool.Pool.{Pool}
 
@@ -49,18 +49,20 @@ pub record Keyed (l : Pool) (m : Mem) (st : Story) : Type 0 where
 abbrev pub Settled : Story → ℕ → Type 0
 Settled st s = (st.lead s ≡ st.gone s) × (st.flead s ≡ st.gone s)
 
--- the slot whose two root copies are on their way, the slot that waits for its count, and the buffer that the task holds
-abbrev pub moving : Task → Option ℕ
+-- the slot whose two root copies are on their way
+abbrev pub moving : ServerTask → Option ℕ
 moving (Led c) = Some c.slot
 moving (Both c) = Some c.slot
 moving _ = None
 
-abbrev pub unnamed : Task → Option ℕ
+-- the slot that waits for its count
+abbrev pub unnamed : ServerTask → Option ℕ
 unnamed (Rooted b) = Some b.slot
 unnamed (Waiting b) = Some b.slot
 unnamed _ = None
 
-abbrev pub holding : Task → Option ℕ
+-- the buffer that the task holds
+abbrev pub holding : ServerTask → Option ℕ
 holding (Storing b n) = Some (home b.tag)
 holding (Exchanged c) = Some (home c.root)
 holding _ = None
@@ -107,7 +109,7 @@ pub record IsExchanged (l : Pool) (m : Mem) (st : Story) (c : Recycling) : Type 
   pub young : age c.root < l.wear
 
 -- what words and story say of an unfinished task
-abbrev pub AtStage : Pool → Mem → Story → Task → Type 0
+abbrev pub AtStage : Pool → Mem → Story → ServerTask → Type 0
 AtStage l m st Idle = Unit {0}
 AtStage l m st (Storing b n) = IsStoring l m st b n
 AtStage l m st (Rooted b) = IsWaiting m st b × (m.froot b.slot ≡ None)
@@ -119,7 +121,7 @@ AtStage l m st (Both c) = IsRecycling st c × (suc (st.gone c.slot) < st.sure c.
 AtStage l m st (Exchanged c) = IsExchanged l m st c
 
 -- no other slot's root is on its way, no other buffer is held, and no other slot waits for its name
-pub record Stage (l : Pool) (m : Mem) (st : Story) (task : Task) : Type 0 where
+pub record Stage (l : Pool) (m : Mem) (st : Story) (task : ServerTask) : Type 0 where
   pub settled : (s : ℕ) → moving task ≢ Some s → Settled st s
   pub holds : (b : ℕ) → st.place b ≡ Taken → holding task ≡ Some b
   pub names : (s : ℕ) (k : List ℕ) → st.keys s ≡ Some k → (st.named s ≡ true) ⊎ (unnamed task ≡ Some s)
@@ -134,10 +136,10 @@ pub record Help (l : Pool) (m : Mem) (st : Story) : Type 0 where
   pub short : (s t : ℕ) → m.short s ≡ Some t → Durable st s t
 
 -- where the server's directory lags behind the story, which root it has: none of a slot that is being bound, the old one of a recycling
-abbrev pub lagging : Task → ℕ → Option (Option ℕ)
-lagging (Rooted b) s = cond (eqb b.slot s) (Some None) None
-lagging (Waiting b) s = cond (eqb b.slot s) (Some None) None
-lagging (Exchanged c) s = cond (eqb c.slot s) (Some (Some c.root)) None
+abbrev pub lagging : ServerTask → ℕ → Option (Option ℕ)
+lagging (Rooted b) s = if b.slot == s then Some None else None
+lagging (Waiting b) s = if b.slot == s then Some None else None
+lagging (Exchanged c) s = if c.slot == s then Some (Some c.root) else None
 lagging _ s = None
 
 -- what is there, or else the other
@@ -146,35 +148,35 @@ or_else None x = x
 or_else (Some y) x = y
 
 -- the root of a slot in the server's directory
-abbrev pub root_in : Task → Story → ℕ → Option ℕ
+abbrev pub root_in : ServerTask → Story → ℕ → Option ℕ
 root_in task st s = or_else (lagging task s) (tag_at st s (st.gone s))
 
 -- the tag is one of the buffer
 abbrev pub is_home : Option ℕ → ℕ → Bool
 is_home None b = false
-is_home (Some t) b = eqb (home t) b
+is_home (Some t) b = home t == b
 
 -- what the books say of the buffer that the task holds
-abbrev pub held_book : Task → ℕ → Book
+abbrev pub held_book : ServerTask → ℕ → Book
 held_book (Exchanged c) g = book (age c.root) IsBound
 held_book _ g = book g IsOut
 
 -- what the books say of a buffer at a place
-abbrev pub book_of : Task → Story → Place → ℕ → ℕ → Book
-book_of task st (Chained s) g b = book g (cond (is_home (root_in task st s) b) IsBound IsOut)
+abbrev pub book_of : ServerTask → Story → Place → ℕ → ℕ → Book
+book_of task st (Chained s) g b = book g (if is_home (root_in task st s) b then IsBound else IsOut)
 book_of task st (Stocked i) g b = book g IsOut
 book_of task st Free g b = book g IsFree
 book_of task st Worn g b = book g IsWorn
 book_of task st Taken g b = held_book task g
 
 -- the binding that the directory has and the names have not
-abbrev pub waiting_name : Task → List (ℕ × List ℕ)
+abbrev pub waiting_name : ServerTask → List (ℕ × List ℕ)
 waiting_name (Rooted b) = (b.slot, b.key) ∷ []
 waiting_name (Waiting b) = (b.slot, b.key) ∷ []
 waiting_name _ = []
 
 -- the server's view is what the story says
-pub record Serves (l : Pool) (m : Mem) (st : Story) (task : Task) (sv : Server) : Type 0 where
+pub record Serves (l : Pool) (m : Mem) (st : Story) (task : ServerTask) (sv : Server) : Type 0 where
   pub task_is : sv.task ≡ task
   pub directory : sv.directory ≡ st.bindings ++ waiting_name task
   pub roots : (s : ℕ) → root_at sv s ≡ root_in task st s

@@ -75,14 +75,15 @@ pub data Operation : Type 0 where
   exchanges : (expected new : ℕ) → Operation
   raises : (value : ℕ) → Operation
 
--- a tag's next word, and its number once the tag's buffer went on to the next generation
+-- a tag's next word
 abbrev pub next_word_of : ℕ → Word
 next_word_of t = NextOf (buffer_at (home t))
 
+-- the number of a tag's next word once its buffer went on to the next generation
 abbrev pub moved_on : ℕ → ℕ
 moved_on t = next_code (word (suc (age t)) None)
 
--- the word of a restart's store, and what it does there
+-- the word of a restart's store
 abbrev pub restart_word : RestartStore → Word
 restart_word (ClearRoot s) = Root s
 restart_word (ClearFlushedRoot s) = Root s
@@ -90,6 +91,7 @@ restart_word (Lift b g) = NextOf (buffer_at b)
 restart_word (LiftFlushed b g) = NextOf (buffer_at b)
 restart_word (SetCount n) = Count
 
+-- what a restart's store does at its word
 abbrev pub restart_operation : RestartStore → Operation
 restart_operation (ClearRoot s) = stores Current (root_code None)
 restart_operation (ClearFlushedRoot s) = stores Flushed (root_code None)
@@ -155,13 +157,14 @@ operation_of (FlushBoundRoot b) = stores Flushed (root_code (Some b.tag))
 operation_of (StoreCount b n) = stores Current n
 operation_of (Restart x) = restart_operation x
 
--- the copy that an operation is on, and what the number there becomes
+-- the copy that an operation is on
 abbrev pub side_in : Operation → Side
 side_in loads = Current
 side_in (stores s y) = s
 side_in (exchanges e n) = Current
 side_in (raises y) = Flushed
 
+-- what the number at the word of an operation becomes
 abbrev pub result : Operation → ℕ → ℕ
 result loads x = x
 result (stores s y) x = y
@@ -175,27 +178,30 @@ act_on (stores s y) w x = Store w s y
 act_on (exchanges e n) w x = Exchange w e n x
 act_on (raises y) w x = Raise w y x
 
--- the copy that a step is on, what the number there becomes, and the access that the step is where it found this number
+-- the copy that a step is on
 abbrev pub side_of : Step → Side
 side_of a = side_in (operation_of a)
 
+-- what the number at the word of a step becomes
 abbrev pub becomes : Step → ℕ → ℕ
 becomes a x = result (operation_of a) x
 
+-- the access that a step is where it found this number
 abbrev pub act_of : Step → ℕ → Act
 act_of a x = act_on (operation_of a) (word_of a) x
 
--- what a call commits, and the reply with the own tag
+-- the value that a call commits, nothing for a delete
 abbrev pub value_of : Call → Option Value
 value_of (Put k x) = Some x
 value_of (Swap k e x) = Some x
 value_of _ = None
 
+-- the reply to a call that committed this tag
 abbrev pub reply_of : ℕ → Call → Reply
 reply_of t (Delete k) = Deleted t
 reply_of t _ = Stored t
 
--- the number in a client's role, and that a view is a client's
+-- the number in a client's role
 abbrev pub number_of : Role → ℕ
 number_of (Client n) = n
 number_of _ = 0
@@ -204,5 +210,6 @@ number_of _ = 0
 abbrev pub client : View → ℕ
 client v = number_of v.pass.role
 
+-- the view is a client's
 abbrev pub IsClient : View → Type 0
 IsClient v = v.pass.role ≡ Client (client v)

@@ -3,7 +3,7 @@ use Rattle.clover_words.specs.Tag.{home, age}
 use Rattle.clover_rule.specs.History.{Version, Map, Legal, commits, ends, Unread}
 use Rattle.clover_rule.specs.Lists.{nth}
 use Rattle.clover_rule.specs.Memory.{Next, word, gen, link, Mem}
-use Rattle.clover_rule.specs.declared.view.Task.{Task}
+use Rattle.clover_rule.specs.declared.view.ServerTask.{ServerTask}
 use Prim.Native.Nat.{suc}
 use Rattle.std.specs.Prelude.{◌≡◌, ℕ, ◌<◌, ◌≤◌, ◌≢◌, ◌⊎◌, List, [], ◌++◌, length, Bool, true, false, ltb, leb, Option, Some, None}
 use Rattle.clover_map.specs.declared.call.Entry.{Entry}
@@ -22,6 +22,7 @@ Loose (Chained s) = ⊥
 Loose Taken = ⊥
 Loose _ = Unit {0}
 
+-- the story: what happened to each slot, tag and buffer
 pub record Story : Type 0 where
   -- the versions that a slot had since the run began, and how many of them were recycled
   pub log : ℕ → List Version
@@ -43,15 +44,16 @@ pub record Story : Type 0 where
   pub first : ℕ → List Version
   -- the bindings, without one that waits for its last store, and the server's unfinished task
   pub bindings : List (ℕ × List ℕ)
-  pub task : Task
+  pub task : ServerTask
   -- the slot that has a key
   pub slot_named : List ℕ → ℕ
 
--- the tag of a version, and the tag at a place of a slot
+-- the tag of a version
 abbrev pub tag_in_version : Option Version → Option ℕ
 tag_in_version None = None
 tag_in_version (Some w) = Some w.tag
 
+-- the tag at a place of a slot
 abbrev pub tag_at : Story → ℕ → ℕ → Option ℕ
 tag_at st s i = tag_in_version (nth (st.log s) i)
 
@@ -60,10 +62,11 @@ abbrev pub only : Bool → Option ℕ → Option ℕ
 only true x = x
 only false x = None
 
--- what a version at place i of slot s has as its next word, and as the flushed copy of it
+-- what a version at place i of slot s has as its next word
 abbrev pub now_at : Story → ℕ → ℕ → ℕ → Next
 now_at st s i t = word (age t) (tag_at st s (suc i))
 
+-- what it has as the flushed copy of its next word: the link where the next version is sure
 abbrev pub safe_at : Story → ℕ → ℕ → ℕ → Next
 safe_at st s i t = word (age t) (only (ltb (suc i) (st.sure s)) (tag_at st s (suc i)))
 

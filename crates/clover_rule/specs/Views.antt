@@ -1,6 +1,6 @@
 -- What each seat's view holds, and the rule over words, views and one history.
 use Prim.Native.Nat.{suc}
-use Rattle.std.specs.Prelude.{◌≡◌, ℕ, ◌<◌, ◌≤◌, ◌≢◌, ◌⊎◌, List, [], ◌∷◌, length, set, true, false, cond, eqb, Option, Some, None}
+use Rattle.std.specs.Prelude.{◌≡◌, ℕ, ◌<◌, ◌≤◌, ◌≢◌, ◌⊎◌, List, [], ◌∷◌, length, set, true, false, Option, Some, None, if◌then◌else◌, ◌==◌}
 use Rattle.clover_words.specs.Tag.{home, age}
 use Rattle.clover_map.specs.declared.call.Entry.{Entry}
 use Rattle.clover_rule.specs.Content.{content}
@@ -18,7 +18,7 @@ use Rattle.clover_rule.specs.declared.view.Role.{Role}
 use Rattle.clover_rule.specs.declared.view.Role.TheVariants.{Client}
 use Rattle.clover_rule.specs.declared.view.Server.{Server}
 use Rattle.clover_rule.specs.declared.view.Shown.{Shown}
-use Rattle.clover_rule.specs.declared.view.Task.TheVariants.{Idle}
+use Rattle.clover_rule.specs.declared.view.ServerTask.TheVariants.{Idle}
 use Rattle.clover_rule.specs.declared.view.View.{View}
 use Rattle.clover_words.specs.declared.pool.Pool.{Pool}
 use Rattle.clover_map.specs.Tagged.{Tagged}
@@ -29,12 +29,12 @@ pub data Book : Type 0 where
 
 -- a buffer at this generation may serve again, or has served all
 abbrev pub free_or_worn : ℕ → ℕ → BufferState
-free_or_worn wear g = cond (eqb g wear) IsWorn IsFree
+free_or_worn wear g = if g == wear then IsWorn else IsFree
 
 -- what the books say of a buffer: one that no line names is free at generation 0
 abbrev pub find_book : List BookLine → ℕ → Book
 find_book [] b = book 0 IsFree
-find_book (x ∷ xs) b = cond (eqb x.buffer b) (book x.generation x.state) (find_book xs b)
+find_book (x ∷ xs) b = if x.buffer == b then book x.generation x.state else find_book xs b
 
 -- a line of the books
 abbrev pub line : ℕ → ℕ → BufferState → BookLine
@@ -43,12 +43,13 @@ line b g s = record { buffer = b; generation = g; state = s }
 -- the root version of a slot
 abbrev pub find_root : List (ℕ × ℕ) → ℕ → Option ℕ
 find_root [] s = None
-find_root (x ∷ xs) s = cond (eqb x.0 s) (Some x.1) (find_root xs s)
+find_root (x ∷ xs) s = if x.0 == s then Some x.1 else find_root xs s
 
--- the books and the roots of a server
+-- the books of a server
 abbrev pub book_at : Server → ℕ → Book
 book_at sv = find_book sv.books
 
+-- the roots of a server
 abbrev pub root_at : Server → ℕ → Option ℕ
 root_at sv = find_root sv.roots
 
@@ -133,7 +134,7 @@ renewed vs i v = set vs i v
 -- the content words of other tags
 abbrev pub without : ℕ → List Content → List Content
 without t [] = []
-without t (c ∷ cs) = cond (eqb c.tag t) (without t cs) (c ∷ without t cs)
+without t (c ∷ cs) = if c.tag == t then without t cs else c ∷ without t cs
 
 -- a raise over a link: its target is durable
 abbrev pub raise_view : View → Link → View

@@ -1,5 +1,5 @@
 -- The words of a pool as numbers, and what they decode to: by buffer, by buffer and place, by slot.
-use Rattle.std.specs.Prelude.{ℕ, ◌+◌, ◌-◌, ◌*◌, ◌/◌, ◌%◌, ◌^◌, ◌&&◌, nat_lt, List, Bool, true, false, cond, Option, Some, None}
+use Rattle.std.specs.Prelude.{ℕ, ◌+◌, ◌-◌, ◌*◌, ◌/◌, ◌%◌, ◌^◌, ◌&&◌, nat_lt, List, Bool, true, false, Option, Some, None, if◌then◌else◌}
 use Rattle.clover_words.specs.declared.pool.Pool.{Pool}
 use Rattle.clover_words.specs.declared.word.Word.TheVariants.{Next as NextOf, Root, Key, Short, Count}
 use Rattle.clover_words.specs.declared.word.Side.TheVariants.{Current, Flushed}
@@ -13,10 +13,11 @@ use Rattle.clover_rule.specs.Memory.{Next, word, Mem}
 abbrev pub next_code : Next → ℕ
 next_code (word a x) = a * 2 ^ 43 + root_code x
 
--- what a number says as a root, and as a next word
+-- what a number says as a root
 abbrev pub root_of : ℕ → Option ℕ
-root_of n = cond (nat_lt n 4398046511104) None (Some (n - 4398046511104))
+root_of n = if nat_lt n 4398046511104 then None else Some (n - 4398046511104)
 
+-- what a number says as a next word
 abbrev pub next_of : ℕ → Next
 next_of n = word (n / 8796093022208) (root_of (n % 8796093022208))
 

@@ -15,6 +15,6 @@ pub use laws::{
 };
 pub use step::StepName;
 pub use view::{
-    BookLine, BufferState, Content, Link, NewBinding, Pass, Recycling, Refusal, RestartStore, Role,
-    Server, Shown, Task, View,
+    BookLine, BufferState, Content, GrantRefusal, Link, NewBinding, Pass, Recycling, RestartStore,
+    Role, Server, ServerTask, Shown, View,
 };

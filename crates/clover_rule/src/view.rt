@@ -63,7 +63,7 @@ pub struct BookLine {
 }
 
 /// The server's answer to a client that it can give nothing.
-pub enum Refusal {
+pub enum GrantRefusal {
     /// No buffer is free: how many are bound, worn and out.
     Full { bound: u64, worn: u64, out: u64 },
     /// Every slot is bound.
@@ -85,7 +85,7 @@ pub struct Recycling {
 }
 
 /// What the server has begun and not ended.
-pub enum Task {
+pub enum ServerTask {
     /// Nothing.
     Idle,
     /// A binding of which so many stores were made, none of them the root's.
@@ -156,7 +156,7 @@ pub struct Pass {
     /// The number of its accesses.
     pub made: u64,
     /// The refusals that it got from the server.
-    pub refusals: LinkedList<Refusal>,
+    pub refusals: LinkedList<GrantRefusal>,
     /// The names on their way to a client, and the position at which they begin.
     pub from: u64,
     pub added: LinkedList<(u64, Key)>,
@@ -170,7 +170,7 @@ pub struct Server {
     pub directory: LinkedList<(u64, Key)>,
     /// The root version of each slot; the first pair of a slot holds.
     pub roots: LinkedList<(u64, u64)>,
-    pub task: Task,
+    pub task: ServerTask,
     /// The slots whose root version was read unlinked since the last split or hand-over.
     pub unlinked: LinkedList<u64>,
     /// The numbers of the clients that were made.

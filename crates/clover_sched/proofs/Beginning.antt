@@ -43,11 +43,15 @@ use Rattle.clover_sched.specs.declared.client.Underway.{Underway}
 use Rattle.clover_sched.specs.declared.client.Underway.TheVariants.{Nothing, Get, Write, Raise}
 use Rattle.clover_sched.specs.declared.event.Note.TheVariants.{Quiet, Missing, Refused}
 use Rattle.clover_sched.specs.declared.event.CallRefusal.TheVariants.{TooLong}
-use Rattle.clover_sched.specs.Beginning.{IsBegun, begun_put, no_value}
-use Rattle.clover_sched.specs.Client.{Stands, Matches, Starts, Begins, IsTask, IsCursor, AreCursors, size_of, UnderMatches, IsUnder, spent_by, stock_at, taken_by}
+use Rattle.clover_node.specs.Beginning.{no_value}
+use Rattle.clover_node.proofs.Begins.{made_pool, made_slot, made_first, made_on_way, walk_cursor}
+use Rattle.clover_sched.specs.Beginning.{IsBegun, begun_put}
+use Rattle.clover_node.specs.Node.{IsCursor, AreCursors}
+use Rattle.clover_node.specs.Beginning.{size_of}
+use Rattle.clover_sched.specs.Client.{Stands, Matches, Starts, Begins, IsTask, UnderMatches, IsUnder, spent_by, stock_at, taken_by}
 use Rattle.clover_sched.specs.Folds.{Doing}
 use Rattle.clover_sched.specs.Run.{Opening, begin_note, room}
-use Rattle.clover_sched.proofs.Cursoring.{cursors_asked, cursor_held}
+use Rattle.clover_node.proofs.Knowing.{cursors_asked, cursor_held}
 
 -- the tag of a dealt buffer is of the pool
 pub dealt_range : (s : Setup) (k n : ℕ) (b : Buffer) → HasDealt s k n → b ≡ buffer_of s.pool (dealt_number s k n) → InRange s.pool (tag_number (record { node = b.node; index = b.index; generation = 0 }))
@@ -70,28 +74,6 @@ stock_first s c n h =
     go zero p = absurd (omega arith)
     go (suc m) p = (dealt_from s c (suc n) m, ap (λ (b : Bool). cond b (tag_at s.pool (dealt_number s c n) ∷ dealt_from s c (suc n) m) []) (test_below (dealt_number s c n + s.pool.slots) (buffers_total s.pool) h.number))
 
--- a walk that was just made, whatever it begins at
-pub made_pool : (p : Pool) (s : ℕ) (k : Option ℕ) → (made_walk p s k).pool ≡ p
-made_pool p s None = refl
-made_pool p s (Some t) = refl
-
-made_slot : (p : Pool) (s : ℕ) (k : Option ℕ) → (made_walk p s k).slot ≡ s
-made_slot p s None = refl
-made_slot p s (Some t) = refl
-
-made_first : (p : Pool) (s : ℕ) (k : Option ℕ) → (made_walk p s k).first ≡ true
-made_first p s None = refl
-made_first p s (Some t) = refl
-
-made_on_way : (p : Pool) (s : ℕ) (k : Option ℕ) → IsOnWay (made_walk p s k).stand
-made_on_way p s None = tt
-made_on_way p s (Some t) = tt
-
--- a walk may begin at a cursor that the client knows durable
-cursor_known : (p : Pool) (v : View) (slot : ℕ) (c : Option TagParts) → IfSome c (λ t. IsCursor p v (slot, t)) → IsWalkCursor slot (number_of c) v
-cursor_known p v slot None h = tt
-cursor_known p v slot (Some t) h = h.1
-
 module _ (o : Opening) (p : Plain) (i slot : ℕ) (x : ClientState) (idle : x.under ≡ Nothing) (st : Stands o p i x) where
   abbrev v : View
   v = view_at p i
@@ -111,7 +93,7 @@ module _ (o : Opening) (p : Plain) (i slot : ℕ) (x : ClientState) (idle : x.un
 
   module _ (call : Call) (named : Within (slot, key_of call) o.names) (key : key_at o.names slot ≡ key_of call) where
     held : Holds walk v
-    held = walk_holds o.setup.pool slot (key_of call) known v st.pool (st.role ∙ ap ClientRole (sym (ap role_number st.role))) (subst (Within (slot, key_of call)) (sym st.names) named) (cursor_known o.setup.pool v slot (cursor_at slot x.cursors) (cursor_held o.setup.pool v slot x.cursors st.cursors))
+    held = walk_holds o.setup.pool slot (key_of call) known v st.pool (st.role ∙ ap ClientRole (sym (ap role_number st.role))) (subst (Within (slot, key_of call)) (sym st.names) named) (walk_cursor o.setup.pool v slot (cursor_at slot x.cursors) (cursor_held o.setup.pool v slot x.cursors st.cursors))
 
     key_is : key_at v.pass.names walk.slot ≡ key_of call
     key_is = ap (key_at v.pass.names) (made_slot o.setup.pool slot known) ∙ ap (λ (l : List (ℕ × List ℕ)). key_at l slot) st.names ∙ key

@@ -34,9 +34,11 @@ use Rattle.clover_put.specs.declared.job.Job.{Job}
 use Rattle.clover_put.specs.declared.job.Job.TheVariants.{Put, Delete, Swap}
 use Rattle.clover_put.proofs.Known.{bounded}
 use Rattle.clover_sched.specs.Beginning.{IsBegun}
-use Rattle.clover_sched.specs.Calling.{Calling, Deed, Reads, Links, Ends, Leaves, own_words, begun_call, deed, done, due, after, walks, LeadsTo}
-use Rattle.clover_sched.specs.Calls.{reads, GetStands, PutStands, Writes, UnderStands}
-use Rattle.clover_sched.specs.Client.{IsUnder, MakesDue, Starts, since_of, size_of}
+use Rattle.clover_node.specs.Calling.{Calling, Deed, Reads, Links, Ends, Leaves, own_words, begun_call, deed, done, due, after, walks, LeadsTo}
+use Rattle.clover_node.specs.Mirroring.{reads, GetMirrors, PutMirrors, Writes}
+use Rattle.clover_sched.specs.Calls.{UnderStands}
+use Rattle.clover_node.specs.Beginning.{size_of}
+use Rattle.clover_sched.specs.Client.{IsUnder, MakesDue, Starts, since_of}
 use Rattle.clover_sched.specs.Ends.{ended_by, MayBegin}
 use Rattle.clover_sched.specs.Folds.{Doing, ends}
 use Rattle.clover_sched.specs.Machine.{GoesSoFar}
@@ -45,7 +47,7 @@ use Rattle.clover_sched.specs.declared.client.Underway.{Underway}
 use Rattle.clover_sched.specs.declared.client.Underway.TheVariants.{Nothing, Get, Write, Raise}
 use Rattle.clover_sched.specs.declared.event.Note.{Note}
 use Rattle.clover_sched.specs.declared.event.Note.TheVariants.{Quiet, Answered, Refused, Busy, Missing}
-use Rattle.clover_sched.proofs.Calling.{leads_more}
+use Rattle.clover_node.proofs.Calling.{leads_more}
 use Rattle.clover_sched.proofs.Lefts.{copied_few}
 use Rattle.clover_sched.proofs.Starting.{value_fits}
 
@@ -59,7 +61,7 @@ turns_of (Raise c) = c.walk.turns
 same_turns : (w : Walking) (xs : List ℕ) (c : Calling) → c ≡ reads w xs → c.walk.turns ≡ w.turns
 same_turns w xs c e = ap (λ (z : Calling). z.walk.turns) e
 
-get_turns : (s : GetStage) (w : Walking) (into : ValueBuf) (c : Calling) → GetStands s w into c → c.walk.turns ≡ w.turns
+get_turns : (s : GetStage) (w : Walking) (into : ValueBuf) (c : Calling) → GetMirrors s w into c → c.walk.turns ≡ w.turns
 get_turns GetSeeking w into c h = same_turns w [] c h
 get_turns (GetMeta t) w into c h = same_turns w [] c h
 get_turns (AtValue t f j) w into c h = same_turns w (h.0 ∷ h.1) c h.2
@@ -68,7 +70,7 @@ get_turns (GetDead t) w into c h = same_turns w h.0 c h.1
 get_turns (GetBad t) w into c h = same_turns w h.0 c h.1
 get_turns GetOver w into c h = same_turns w [] c h.0
 
-put_turns : (s : Stage) (w : Putting) (call : Call) (c : Calling) → PutStands s w call c → c.walk.turns ≡ w.walk.turns
+put_turns : (s : Stage) (w : Putting) (call : Call) (c : Calling) → PutMirrors s w call c → c.walk.turns ≡ w.walk.turns
 put_turns (Storing j) w call c h = ap (λ (z : Calling). z.walk.turns) h
 put_turns (Flushing j) w call c h = ap (λ (z : Calling). z.walk.turns) h
 put_turns Seeking w call c h = ap (λ (z : Calling). z.walk.turns) h

@@ -47,7 +47,9 @@ use Rattle.clover_sched.specs.declared.client.ClientState.{ClientState}
 use Rattle.clover_sched.specs.declared.client.Underway.{Underway}
 use Rattle.clover_sched.specs.Alone.{EndsIn, Finds, HasChain, cost_of}
 use Rattle.clover_sched.specs.Beginning.{IsBegun}
-use Rattle.clover_sched.specs.Client.{Stands, IsCursor, size_of}
+use Rattle.clover_node.specs.Node.{IsCursor}
+use Rattle.clover_node.specs.Beginning.{size_of}
+use Rattle.clover_sched.specs.Client.{Stands}
 use Rattle.clover_sched.specs.Ends.{ended, MayBegin}
 use Rattle.clover_sched.specs.Folds.{words_after}
 use Rattle.clover_sched.specs.Record.{Record}

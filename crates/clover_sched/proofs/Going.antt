@@ -15,7 +15,8 @@ use Rattle.clover_sched.proofs.Stepping.{task_there, own_more}
 use Rattle.clover_sched.specs.declared.client.ClientState.{ClientState}
 use Rattle.clover_sched.specs.declared.event.Note.{Note}
 use Rattle.clover_sched.specs.declared.event.Note.TheVariants.{Refused}
-use Rattle.clover_sched.specs.Client.{access, Stands, Moved, IsUnder, AreCursors, stock_at, step_record}
+use Rattle.clover_node.specs.Node.{AreCursors}
+use Rattle.clover_sched.specs.Client.{access, Stands, Moved, IsUnder, stock_at, step_record}
 use Rattle.clover_sched.specs.Folds.{Doing}
 use Rattle.clover_sched.specs.Run.{Opening, IsStep, IsBlank, lost}
 

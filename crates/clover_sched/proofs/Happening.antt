@@ -43,7 +43,7 @@ use Rattle.clover_sched.specs.declared.event.Event.TheVariants.{Begin, Step, Ref
 use Rattle.clover_sched.specs.declared.event.Note.{Note}
 use Rattle.clover_sched.specs.declared.event.Note.TheVariants.{Quiet, Busy, Missing}
 use Rattle.clover_sched.proofs.Stepping.{stands_kept}
-use Rattle.clover_sched.proofs.Cursoring.{cursor_held}
+use Rattle.clover_node.proofs.Knowing.{cursor_held}
 use Rattle.clover_sched.proofs.Busies.{busy_within, busy_here}
 use Rattle.clover_sched.proofs.Lefts.{since_few, left_less}
 use Rattle.clover_sched.proofs.Onward.{with_client, with_pool, refusing, begun_missing, begun_busy, begun_client, idled_far, idled_client, refused_client, refused_far, stepped_client}

@@ -21,7 +21,8 @@ use Rattle.clover_plain.proofs.Stepping.{nth_default}
 use Rattle.clover_sched.specs.Alone.{AllFound, HasChain}
 use Rattle.clover_sched.specs.Folds.{words_after}
 use Rattle.clover_sched.specs.Record.{Record}
-use Rattle.clover_sched.specs.Client.{Stands, IsCursor, idle_client}
+use Rattle.clover_node.specs.Node.{IsCursor}
+use Rattle.clover_sched.specs.Client.{Stands, idle_client}
 use Rattle.clover_sched.specs.Machine.{Parts, IsAt, IsClientAt, IsOpening}
 use Rattle.clover_sched.specs.Run.{Opening}
 use Rattle.clover_sched.specs.declared.client.ClientState.{ClientState}

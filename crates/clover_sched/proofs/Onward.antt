@@ -26,7 +26,8 @@ use Rattle.clover_script.specs.Form.{call_in}
 use Rattle.clover_script.specs.declared.line.Task.{Task}
 use Rattle.clover_script.specs.declared.line.Task.TheVariants.{Client as ClientTask}
 use Rattle.clover_sched.specs.Alone.{OpensCall, IsOwnStep, Finds, RunsAlone, cost_of, EndsIn, NotesWith, AloneSoFar, AllFound, HasChain}
-use Rattle.clover_sched.specs.Client.{Stands, AreCursors, Matches, UnderMatches, Moved, Went, Starts, Begins, IsUnder, spent, since_of, slot_of, taken_by, step_record}
+use Rattle.clover_node.specs.Node.{AreCursors}
+use Rattle.clover_sched.specs.Client.{Stands, Matches, UnderMatches, Moved, Went, Starts, Begins, IsUnder, spent, since_of, slot_of, taken_by, step_record}
 use Rattle.clover_sched.specs.Ends.{ended, MayBegin}
 use Rattle.clover_sched.specs.Folds.{listed, accesses_in, entries_in, words_by, words_after, made_by, made_in, Doing, actor_of, rested, takes_by, replied, begun, stepped, ends, does, doing}
 use Rattle.clover_sched.specs.Machine.{Parts, Remembers, GoesSoFar, IsAt, IsPoolAt, IsClientAt, asked}
@@ -43,7 +44,7 @@ use Rattle.clover_sched.proofs.Pasts.{accesses_more, entries_more, words_more, m
 use Rattle.clover_sched.proofs.Finding.{begins_alone, chain_here}
 use Rattle.clover_sched.proofs.Alone.{all_found_more, alone_more}
 use Rattle.clover_sched.proofs.Bound.{AreBindings, bindings_are}
-use Rattle.clover_sched.proofs.Cursoring.{cursor_held}
+use Rattle.clover_node.proofs.Knowing.{cursor_held}
 use Rattle.clover_sched.proofs.Dues.{goes_as, goes_first, leads_on, is_due, ended_not}
 use Rattle.clover_sched.proofs.Remembering.{IsOn, AnswersOnly, ended_still, ended_other, answers_own, under_on, remembers_asked, remembers_step, may_begin}
 

@@ -31,10 +31,11 @@ use Rattle.clover_put.specs.declared.job.Job.TheVariants.{Put, Delete, Swap}
 use Rattle.clover_put.proofs.Alone.{put_law}
 use Rattle.clover_sched.specs.declared.client.Underway.{Underway}
 use Rattle.clover_sched.specs.Alone.{GetEnds, PutEnds, EndsIn, cost}
-use Rattle.clover_sched.specs.Beginning.{IsBegun, no_value}
-use Rattle.clover_sched.specs.Client.{size_of}
+use Rattle.clover_node.specs.Beginning.{no_value}
+use Rattle.clover_sched.specs.Beginning.{IsBegun}
+use Rattle.clover_node.specs.Beginning.{size_of}
 use Rattle.clover_sched.specs.Run.{room}
-use Rattle.clover_sched.proofs.Beginning.{made_pool}
+use Rattle.clover_node.proofs.Begins.{made_pool}
 use Rattle.clover_sched.proofs.Chains.{few_links}
 
 -- a load that shows the tail unlinked makes no turn

@@ -24,7 +24,8 @@ use Rattle.clover_rule.proofs.Acting.{role_kept}
 use Rattle.clover_sched.specs.declared.client.ClientState.{ClientState}
 use Rattle.clover_sched.specs.declared.event.Note.{Note}
 use Rattle.clover_sched.specs.Alone.{EndsIn}
-use Rattle.clover_sched.specs.Client.{access, stock_at, Stands, Moved, Went, Matches, IsUnder, AreCursors, since_of, step_record}
+use Rattle.clover_node.specs.Node.{AreCursors}
+use Rattle.clover_sched.specs.Client.{access, stock_at, Stands, Moved, Went, Matches, IsUnder, since_of, step_record}
 use Rattle.clover_sched.specs.Folds.{Doing, listed, words_by, made_by, takes_by}
 use Rattle.clover_sched.specs.Run.{Opening, IsStep, IsEntry, IsCause, IsCommit, Wrote, most_made}
 use Rattle.clover_sched.proofs.Moving.{MadeSo, RefusedSo, IsNoLink, names_kept, stock_kept}

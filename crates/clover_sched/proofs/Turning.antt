@@ -27,7 +27,7 @@ use Rattle.clover_sched.specs.Writing.{IsWriting, IsCommitted, IsDecided, PutAcc
 use Rattle.clover_sched.proofs.Stepping.{room_left}
 use Rattle.clover_sched.proofs.Cursoring.{seen_dead}
 use Rattle.clover_sched.proofs.Lefts.{made_few}
-use Rattle.clover_sched.proofs.PutOnward.{dead_hit}
+use Rattle.clover_node.proofs.PutGoes.{last_hit}
 use Rattle.clover_sched.proofs.WriteAccess.{same_asked}
 use Rattle.clover_sched.proofs.Writing.{with_under, answered, linked_to, shortened, exact_made, exact_refused, went_more, went_behind, went_unreached, last_enters, went_answered, commit_enters, went_decided, went_raised, went_stored, went_deleted, went_linked}
 
@@ -184,7 +184,7 @@ module _ (x y : ClientState) (k : ℕ) (p q : Plain) (r : PutTurn) (tells : Tell
           let f = subst (PutAccess i x.refusing put.0 told.0 p q) e told.2 in
           let h = (subst (IsUnder o.setup.pool (view_at p i)) put.2 st.under).2 in
           let at = at_stage put.0 (Deciding (tag_number t) Absent) (view_at p i) f.step.answer.0 h in
-          let hit = dead_hit put.0 (tag_number t) f.step.made.0 f.step.answer.0 at.2.0.0 (sym f.step.answer.1 ∙ f.step.made.2) in
+          let hit = last_hit put.0 (tag_number t) f.step.made.0 Absent f.step.answer.0 at.2.0.0 (sym f.step.answer.1 ∙ f.step.made.2) in
           let shows : end_tag Absent (act_of (put_step put.0 (view_at p i)) f.step.made.0) ≡ seen_tag (shows_tail (tag_number t)) = (λ j. end_tag Absent (act_of (at_step put.0 (Deciding (tag_number t) Absent) (view_at p i) f.step.answer.0 j) (hit j))) in
           subst (λ (s : ClientState). Went o i x s p z (Answered k reply)) (sym is2)
           (subst (λ (s : Reply). Went o i x (answered x state2.0) p z (Answered k s)) (sym er)

@@ -51,20 +51,23 @@ use Rattle.clover_sched.specs.declared.event.CallRefusal.TheVariants as why
 use Rattle.clover_sched.specs.declared.event.Note.{Note}
 use Rattle.clover_sched.specs.declared.event.Note.TheVariants.{Quiet, Answered, Refused}
 use Rattle.clover_sched.specs.Alone.{PutEnds, EndsIn, Advances}
-use Rattle.clover_sched.specs.Client.{access, Stands, Moved, MakesDue, Matches, UnderMatches, Went, IsUnder, HasLinked, IsCursor, AreCursors, SetsCursor, stock_at, step_record, since_of, slot_of, spent_by, taken_by}
+use Rattle.clover_node.specs.Node.{IsCursor, AreCursors}
+use Rattle.clover_sched.specs.Client.{access, Stands, Moved, MakesDue, Matches, UnderMatches, Went, IsUnder, HasLinked, SetsCursor, stock_at, step_record, since_of, slot_of, spent_by, taken_by}
 use Rattle.clover_sched.specs.Folds.{Doing}
 use Rattle.clover_sched.specs.Ends.{end_tag}
 use Rattle.clover_sched.specs.Run.{Opening, IsStep, IsCause, IsAnswer, IsCommit, Flushes, Shortens, EndsCommit, lost, most_made}
 use Rattle.clover_sched.specs.Writing.{PutAccess, next_entry}
 use Rattle.clover_sched.proofs.Advancing.{put_goes_on, put_commits, put_answers, put_stays_ahead}
-use Rattle.clover_sched.proofs.Cursoring.{KnowsMore, knows_more, cursors_kept, cursors_set}
+use Rattle.clover_node.proofs.Knowing.{KnowsMore, cursors_kept, cursors_set}
+use Rattle.clover_sched.proofs.Cursoring.{knows_more}
 use Rattle.clover_sched.proofs.Stepping.{no_more, none_taken, plain_taken, one_taken, made_step, stands_refused}
 use Rattle.clover_sched.proofs.Going.{step_refused, seat_below, stands_moved, number_same, number_more}
 use Rattle.clover_sched.proofs.Lefts.{made_few, fewer_before}
 use Rattle.clover_sched.proofs.Moving.{MadeSo, made_so, RefusedSo, refused_so, names_kept, stock_kept, moved_quiet, moved_entered, moved_refused}
 use Rattle.clover_sched.proofs.Places.{same_snoc}
 use Rattle.clover_sched.proofs.PutCalls.{put_goes, put_raises, put_closes, put_falls, put_ends, put_links}
-use Rattle.clover_sched.proofs.PutOnward.{SameCall, same_call, later_call, Misses, quiet_history, quiet_stock, quiet_writes, before_shortens, before_misses, onward_before, behind_misses, linked_hit}
+use Rattle.clover_node.proofs.PutGoes.{SameCall, same_call, Misses, before_misses, onward_before, behind_misses, linked_hit}
+use Rattle.clover_sched.proofs.PutOnward.{later_call, quiet_history, quiet_stock, quiet_writes, before_shortens}
 use Rattle.clover_sched.proofs.Remembering.{key_of_call}
 
 -- the client with this under way, and as it was but for the refusal to come

@@ -13,12 +13,9 @@ use Rattle.clover_get.specs.Getting.{getting, Seeking}
 use Rattle.clover_put.specs.Putting.{made_put}
 use Rattle.clover_put.specs.declared.job.Job.{Job}
 use Rattle.clover_put.specs.declared.job.Job.TheVariants.{Put, Delete, Swap}
+use Rattle.clover_node.specs.Beginning.{no_value}
 use Rattle.clover_sched.specs.declared.client.Underway.{Underway}
 use Rattle.clover_sched.specs.declared.client.Underway.TheVariants.{Get, Write}
-
--- no flags and no bytes, for a delete
-abbrev pub no_value : Value
-no_value = record { flags = 0; bytes = [] }
 
 -- a call that writes as the client begins it, with the tag of the buffer that is dealt for its next put
 abbrev pub begun_put : Setup → ℕ → Option ℕ → ℕ → ℕ → Job → Value → Call → Underway

@@ -1,73 +1,14 @@
 -- Where what a client has under way stands, by the definition of what a call does.
-use Rattle.std.specs.Prelude.{◌≡◌, ℕ, ◌*◌, ◌%◌, ◌^◌, ◌≤◌, List, [], ◌∷◌, ◌++◌, length, drop, true, false, Some}
-use Rattle.clover_words.specs.declared.bytes.ValueBuf.{ValueBuf}
-use Rattle.clover_words.specs.declared.meta.Kind.TheVariants.{Value as IsValue}
-use Rattle.clover_words.specs.declared.pool.Pool.{Pool}
+use Rattle.std.specs.Prelude.{◌≡◌, ℕ}
 use Rattle.clover_map.specs.declared.call.Call.{Call}
-use Rattle.clover_rule.specs.Steps.{Step, StoreContent, FlushContent, RaiseNext, StoreShort}
-use Rattle.clover_walk.specs.Walking.{Walking, Ended, begun}
-use Rattle.clover_get.specs.Getting.{Stage as GetStage, Seeking as GetSeeking, AtMeta as GetMeta, AtValue, AtFound, AtDead as GetDead, AtBad as GetBad, Over as GetOver}
-use Rattle.clover_put.specs.Putting.{Putting, Stage, Storing, Flushing, Seeking, AtMeta, AtLink, Deciding, AtBad, AtRaise, AtShort, Over, body, call_of, kind_of}
+use Rattle.clover_node.specs.Calling.{Calling}
+use Rattle.clover_node.specs.Mirroring.{GetMirrors, PutMirrors, Writes}
 use Rattle.clover_sched.specs.declared.client.Underway.{Underway}
 use Rattle.clover_sched.specs.declared.client.Underway.TheVariants.{Nothing, Get, Write, Raise}
-use Rattle.clover_sched.specs.Calling.{Calling, Deed, Links, Ends, Leaves, word_steps, looks, copies, deed}
-
--- a call that walks, or is at its tail and has loaded these words there
-abbrev pub reads : Walking → List ℕ → Calling
-reads w xs = record { steps = []; walk = begun w; seen = xs; over = false }
-
--- the meta word is that of a value of so many bytes, for which a buffer has room
-pub record IsValueWord (p : Pool) (m size : ℕ) : Type 0 where
-  pub kind : kind_of m ≡ Some IsValue
-  pub size_is : m % 2 ^ 16 ≡ size
-  pub room : size ≤ 8 * p.words
-
--- a get does this at its tail next, behind the words that it has loaded there
-abbrev pub GetDoes : Walking → Deed → Calling → Type 0
-GetDoes w what c = (xs : List ℕ) × (c ≡ reads w xs) × (looks (copies w.pool xs) xs ≡ what)
-
--- where a get stands
-abbrev pub GetStands : GetStage → Walking → ValueBuf → Calling → Type 0
-GetStands GetSeeking w into c = c ≡ reads w []
-GetStands (GetMeta t) w into c = c ≡ reads w []
-GetStands (AtValue t f j) w into c = (m : ℕ) × (xs : List ℕ) × (c ≡ reads w (m ∷ xs)) × (length xs ≡ j) × IsValueWord w.pool m into.length
-GetStands (AtFound t f) w into c = GetDoes w Ends c
-GetStands (GetDead t) w into c = GetDoes w Ends c
-GetStands (GetBad t) w into c = GetDoes w Leaves c
-GetStands GetOver w into c = (c ≡ reads w []) × (w.stand ≡ Ended)
-
--- a call that writes stores and flushes so much of its version yet
-abbrev pub fills : Walking → List Step → Calling
-fills w steps = record { steps = steps; walk = begun w; seen = []; over = false }
-
--- a call that writes has committed, and makes these steps yet
-abbrev pub Closes : Walking → List Step → Calling → Type 0
-Closes w steps c = (xs : List ℕ) × (c ≡ record { steps = steps; walk = begun w; seen = xs; over = true })
-
--- a call that writes does this at its tail u next
-abbrev pub PutDoes : Putting → Call → ℕ → Deed → Calling → Type 0
-PutDoes w call u what c = (xs : List ℕ) × (c ≡ reads w.walk xs) × (deed w.walk.pool call u xs ≡ what)
-
--- where a call that writes stands
-abbrev pub PutStands : Stage → Putting → Call → Calling → Type 0
-PutStands (Storing j) w call c = c ≡ fills w.walk (word_steps (StoreContent w.own) j (drop j (body w)) ++ word_steps (FlushContent w.own) 0 (body w))
-PutStands (Flushing j) w call c = c ≡ fills w.walk (word_steps (FlushContent w.own) j (drop j (body w)))
-PutStands Seeking w call c = c ≡ reads w.walk []
-PutStands (AtMeta u) w call c = c ≡ reads w.walk []
-PutStands (AtLink u) w call c = PutDoes w call u Links c
-PutStands (Deciding u y) w call c = PutDoes w call u Ends c
-PutStands (AtBad u) w call c = PutDoes w call u Leaves c
-PutStands (AtRaise u) w call c = Closes w.walk (RaiseNext (record { slot = w.walk.slot; from = u; to = w.own }) ∷ StoreShort w.walk.slot w.own ∷ []) c
-PutStands AtShort w call c = Closes w.walk (StoreShort w.walk.slot w.own ∷ []) c
-PutStands Over w call c = (c ≡ reads w.walk []) × (w.walk.stand ≡ Ended)
-
--- the call that writes is this one, on some key
-abbrev pub Writes : Putting → Call → Type 0
-Writes w call = (key : List ℕ) × (call ≡ call_of w.job key w.value)
 
 -- where what is under way stands, as this call with this own tag
 abbrev pub UnderStands : Underway → Call → ℕ → Calling → Type 0
 UnderStands Nothing call own c = Unit {0}
-UnderStands (Get g into asked) call own c = (asked ≡ call) × GetStands g.stage g.walk into c
-UnderStands (Write w asked) call own c = Writes w call × (w.own ≡ own) × PutStands w.stage w call c
-UnderStands (Raise w) call own c = Writes w call × (w.own ≡ own) × PutStands w.stage w call c
+UnderStands (Get g into asked) call own c = (asked ≡ call) × GetMirrors g.stage g.walk into c
+UnderStands (Write w asked) call own c = Writes w call × (w.own ≡ own) × PutMirrors w.stage w call c
+UnderStands (Raise w) call own c = Writes w call × (w.own ≡ own) × PutMirrors w.stage w call c

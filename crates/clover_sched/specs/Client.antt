@@ -38,9 +38,11 @@ use Rattle.clover_sched.specs.declared.client.Underway.TheVariants.{Nothing, Get
 use Rattle.clover_sched.specs.declared.event.Event.TheVariants.{Step}
 use Rattle.clover_sched.specs.declared.event.Note.{Note}
 use Rattle.clover_sched.specs.declared.event.Note.TheVariants.{Quiet, Answered}
+use Rattle.clover_node.specs.Beginning.{size_of, ExpectsTag}
+use Rattle.clover_node.specs.Node.{AreCursors}
 use Rattle.clover_sched.specs.Alone.{EndsIn, Advances}
 use Rattle.clover_sched.specs.Beginning.{IsBegun}
-use Rattle.clover_sched.specs.Calling.{Calling, due, after}
+use Rattle.clover_node.specs.Calling.{Calling, due, after}
 use Rattle.clover_sched.specs.Calls.{UnderStands}
 use Rattle.clover_sched.specs.Ends.{end_tag}
 use Rattle.clover_sched.specs.Folds.{Doing, listed, words_by, made_by, begun, stepped}
@@ -74,14 +76,6 @@ IsUnder p v Nothing = Unit {0}
 IsUnder p v (Get g into call) = IsOpen g.stage × (g.walk.pool ≡ p) × GetHolds g v into × (call ≡ GetCall (key_at v.pass.names g.walk.slot))
 IsUnder p v (Write c call) = IsBefore c.stage × (c.walk.pool ≡ p) × PutHolds c v × (call ≡ call_at c v)
 IsUnder p v (Raise c) = (c.walk.pool ≡ p) × PutHolds c v × HasLinked c.stage c.own v.pass.since
-
--- a cursor of the slot is a tag of the pool that the client knows to be durable there
-abbrev pub IsCursor : Pool → View → ℕ × TagParts → Type 0
-IsCursor p v q = InRange p (tag_number q.1) × Within (q.0, tag_number q.1) v.pass.durable
-
-pub record AreCursors (p : Pool) (v : View) (k : Known) : Type 0 where
-  pub last : IfSome k.last (IsCursor p v)
-  pub list : All (IsCursor p v) k.list
 
 -- The client of seat i stands in the pool: it knows the bindings and what is left of its stock, what its call needs, and its cursors; each entry was entered.
 pub record Stands (o : Opening) (p : Plain) (i : ℕ) (x : ClientState) : Type 0 where
@@ -185,13 +179,6 @@ pub record Went (o : Opening) (i : ℕ) (x y : ClientState) (p q : Plain) (note 
   -- where its call is to end in so many accesses made alone, this one was one of them
   pub alone : (n : ℕ) → access.refused ≡ false → EndsIn o.setup.pool p.words n x.under → Advances (suc i) o.setup.pool n q.words y.under note
 
--- how many bytes the value of a call has
-abbrev pub size_of : Call → ℕ
-size_of (GetCall k) = 0
-size_of (PutCall k v) = length v.bytes
-size_of (DeleteCall k) = 0
-size_of (SwapCall k t v) = length v.bytes
-
 -- a client that has committed so often begins this call: on a slot of its key, at its cursor of that slot where it has one, with a value that a buffer has room for, and where it writes with the next buffer that it was dealt
 pub record Starts (o : Opening) (c n : ℕ) (known : Known) (call : Call) (u : Underway) : Type 0 where
   pub slot : ℕ
@@ -210,11 +197,6 @@ pub record Begins (o : Opening) (p : Plain) (i : ℕ) (x y : ClientState) (t : T
   -- it looked up the cursor of its key's slot, and where it began nothing none
   pub asks : note ≡ Quiet → (s : ℕ) × Within (s, key_of (call_in t)) o.names × (y.cursors ≡ asked s x.cursors)
   pub away : (note ≡ Quiet → ⊥) → y.cursors ≡ x.cursors
-
--- the number of an expected tag is one
-abbrev pub ExpectsTag : Call → Type 0
-ExpectsTag (SwapCall k t v) = t < 2 ^ 42
-ExpectsTag call = Unit {0}
 
 -- the call keeps the first bytes of the value as it was written, at most 1,024
 abbrev pub IsTask : Task → Type 0

@@ -1,7 +1,6 @@
 pub mod Record
 pub mod Folds
 pub mod Ends
-pub mod Calling
 pub mod Run
 pub mod Lines
 pub mod Text
@@ -12,3 +11,4 @@ pub mod Writing
 pub mod Beginning
 pub mod Machine
 pub mod Kept
+pub mod Running

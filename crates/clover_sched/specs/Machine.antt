@@ -28,7 +28,7 @@ use Rattle.clover_sched.specs.declared.event.Event.{Event}
 use Rattle.clover_sched.specs.declared.event.Event.TheVariants.{Begin, Step, Refuse}
 use Rattle.clover_sched.specs.declared.event.Note.{Note}
 use Rattle.clover_sched.specs.Alone.{AllFound, AloneSoFar}
-use Rattle.clover_sched.specs.Calling.{Calling, own_words}
+use Rattle.clover_node.specs.Calling.{Calling, own_words}
 use Rattle.clover_sched.specs.Calls.{UnderStands}
 use Rattle.clover_sched.specs.Client.{Stands, Matches, IsLast, IsTask, spent, since_of}
 use Rattle.clover_sched.specs.Ends.{ended, IsLatest}

@@ -5,6 +5,7 @@
 mod client;
 mod event;
 mod machine;
+mod runner;
 #[cfg(test)]
 mod tests;
 mod text;
@@ -12,4 +13,5 @@ mod text;
 pub use client::{ClientState, Underway};
 pub use event::{CallRefusal, Event, Note};
 pub use machine::Machine;
+pub use runner::{Advance, Work, begin_line, work_on};
 pub use text::{push_access, push_ending, push_note};

@@ -1,6 +1,6 @@
 -- What a call does that runs alone: nobody else changes a word between its accesses, and none of them is refused.
 use Prim.Native.Nat.{zero, suc}
-use Rattle.std.specs.Prelude.{◌≡◌, ℕ, ◌+◌, ◌*◌, ◌<◌, List, [], ◌∷◌, ◌++◌, length, Bool, false, cond, eqb, Option, Some, None, IfSome}
+use Rattle.std.specs.Prelude.{◌≡◌, ℕ, ◌+◌, ◌*◌, ◌<◌, List, [], ◌∷◌, ◌++◌, length, Bool, false, Option, Some, None, IfSome, if◌then◌else◌, ◌==◌}
 use Rattle.clover_words.specs.declared.pool.Pool.{Pool}
 use Rattle.clover_words.specs.declared.word.Word.{Word}
 use Rattle.clover_words.specs.declared.word.Word.TheVariants.{Next as NextOf}
@@ -47,7 +47,7 @@ raised p s (t ∷ ts) ws = raised_from p s t ts ws
 
 -- whether a tag is live: its next word is at its generation
 abbrev pub is_live : Mem → ℕ → Bool
-is_live m t = eqb (gen (m.next (home t))) (age t)
+is_live m t = gen (m.next (home t)) == age t
 
 -- how a walk comes from where it begins to a live tag, in words that nobody else changes: by so many loads, of which so many showed a stale start; from there it goes on, having begun last so
 pub record Way : Type 0 where
@@ -62,12 +62,12 @@ way_from_short m s = through (m.short s)
   where
     through : Option ℕ → Way
     through None = record { loads = 2; stale = 0; start = FromRoot; from = m.root s }
-    through (Some t) = cond (is_live m t) (record { loads = 1; stale = 0; start = FromShort; from = Some t }) (record { loads = 3; stale = 1; start = FromRoot; from = m.root s })
+    through (Some t) = if is_live m t then record { loads = 1; stale = 0; start = FromShort; from = Some t } else record { loads = 3; stale = 1; start = FromRoot; from = m.root s }
 
 -- the way from a cursor, or without one; a stale cursor costs a load and a turn more
 abbrev pub way_from : Mem → ℕ → Option ℕ → Way
 way_from m s None = way_from_short m s
-way_from m s (Some t) = cond (is_live m t) (record { loads = 0; stale = 0; start = FromCursor; from = Some t }) (let y : Way = way_from_short m s in record { loads = suc y.loads; stale = suc y.stale; start = y.start; from = y.from })
+way_from m s (Some t) = if is_live m t then record { loads = 0; stale = 0; start = FromCursor; from = Some t } else let y : Way = way_from_short m s in record { loads = suc y.loads; stale = suc y.stale; start = y.start; from = y.from }
 
 -- a walk that is made alone is at the tail u after exactly so many accesses, with as many turns more and having begun last so, and has raised the flushed copies of the links between the tags of ts and the tail
 pub record ReachesAfter (n : ℕ) (ws : List ℕ) (w : Walking) (turns : ℕ) (f : Start) (ts : List ℕ) (u : ℕ) : Type 0 where

@@ -22,6 +22,7 @@ MayFindAt (AtLink t u) p s x = Unit {0}
 MayFindAt (OnTail t) p s x = IsShown p (NextOf (buffer_at (home t))) x
 MayFindAt Ended p s x = ⊥
 
+-- a number that the next access of the walk may find
 abbrev pub MayFind : Walking → ℕ → Type 0
 MayFind w x = MayFindAt w.stand w.pool w.slot x
 

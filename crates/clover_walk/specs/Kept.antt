@@ -4,6 +4,7 @@ use Rattle.clover_walk.specs.Walking.{Walking, AreTags, budget}
 use Rattle.clover_walk.specs.Standing.{standing}
 use Rattle.clover_walk.specs.declared.walk.Walk.TheInside.{Inside}
 
+-- the value of a walk with these fields
 abbrev pub meaning : Inside → Walking
 meaning w = record { pool = w.pool; slot = w.slot; turns = w.turns; first = w.first; start = w.start; stand = standing w.stand }
 

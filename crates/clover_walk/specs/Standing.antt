@@ -14,6 +14,7 @@ standing (AtLink t u) = ToLink (tag_number t) (tag_number u)
 standing (OnTail t) = ToTail (tag_number t)
 standing Ended = ToEnd
 
+-- a tag's number
 abbrev pub number_of : Option TagParts → Option ℕ
 number_of None = None
 number_of (Some t) = Some (tag_number t)

@@ -13,29 +13,33 @@ Answers w (AtTail t) = w.stand ≡ OnTail (tag_number t)
 Answers w (Behind n) = (w.stand ≡ Ended) × (n ≡ w.turns)
 Answers w Unreached = ⊥
 
--- where the access was made, and where it was refused
+-- where the access was made
 abbrev pub OnReached : Turn → Type 0 → Type 0
 OnReached Unreached A = Unit {0}
 OnReached r A = A
 
+-- where the access was refused
 abbrev pub OnUnreached : Turn → Type 0 → Type 0
 OnUnreached Unreached A = A
 OnUnreached r A = Unit {0}
 
--- where the turns of the call are below the budget after an access, and where the walk has not ended
+-- where the turns of the call are below the budget after an access
 abbrev pub OnAhead : Turn → Type 0 → Type 0
 OnAhead More A = A
 OnAhead (AtTail t) A = A
 OnAhead r A = Unit {0}
 
+-- where the walk has not ended
 abbrev pub OnGoing : Turn → Type 0 → Type 0
 OnGoing (Behind n) A = Unit {0}
 OnGoing r A = A
 
+-- where the walk came to a tail
 abbrev pub IfAtTail : Turn → (TagParts → Type 0) → Type 0
 IfAtTail (AtTail t) P = P t
 IfAtTail r P = Unit {0}
 
+-- where the call fell behind
 abbrev pub IfBehind : Turn → (ℕ → Type 0) → Type 0
 IfBehind (Behind n) P = P n
 IfBehind r P = Unit {0}

@@ -1,6 +1,6 @@
 -- A walk along a slot's chain, from a start to the tail: where it stands, which step its next access is, and how it goes on by what that access found.
 use Prim.Native.Nat.{suc}
-use Rattle.std.specs.Prelude.{◌≡◌, ℕ, ◌+◌, ◌*◌, ◌<◌, List, [], ◌∷◌, Bool, false, cond, eqb, ltb, Option, Some, None}
+use Rattle.std.specs.Prelude.{◌≡◌, ℕ, ◌+◌, ◌*◌, ◌<◌, List, [], ◌∷◌, Bool, false, ltb, Option, Some, None, if◌then◌else◌, ◌==◌}
 use Rattle.clover_words.specs.declared.pool.Pool.{Pool}
 use Rattle.clover_words.specs.declared.word.Word.TheVariants.{Next as NextOf}
 use Rattle.clover_words.specs.Tag.{home, age}
@@ -48,6 +48,7 @@ begins FromCursor = AtShort
 begins FromShort = AtShort
 begins FromRoot = AtRoot
 
+-- where a walk begins after this start was stale
 abbrev pub next_start : Start → Start
 next_start FromCursor = FromShort
 next_start FromShort = FromRoot
@@ -80,6 +81,7 @@ step_at s (AtLink t u) = RaiseNext (record { slot = s; from = t; to = u })
 step_at s (OnTail t) = LoadNext s t
 step_at s Ended = ReadRoot s
 
+-- the step that the next access of the walk is
 abbrev pub walk_step : Walking → Step
 walk_step w = step_at w.slot w.stand
 
@@ -89,7 +91,7 @@ placed w at = record w { first = false; stand = at }
 
 -- the walk makes a turn and stands there, or has ended where its turns reach the budget
 abbrev pub turned : Walking → Start → Stand → Walking
-turned w f at = record w { turns = suc w.turns; first = false; start = f; stand = cond (ltb (suc w.turns) (budget w.pool)) at Ended }
+turned w f at = record w { turns = suc w.turns; first = false; start = f; stand = (if ltb (suc w.turns) (budget w.pool) then at else Ended) }
 
 -- how the tag's next word leads on at its own generation: to the tail, or over the link
 abbrev pub hops : Walking → ℕ → Option ℕ → Walking
@@ -98,7 +100,7 @@ hops w t (Some u) = turned w w.start (AtLink t u)
 
 -- how the tag's next word leads on: another generation makes the start stale
 abbrev pub followed : Walking → ℕ → Next → Walking
-followed w t (word a l) = cond (eqb a (age t)) (hops w t l) (turned w (next_start w.start) (begins (next_start w.start)))
+followed w t (word a l) = if a == age t then hops w t l else turned w (next_start w.start) (begins (next_start w.start))
 
 -- how a shortcut leads on: to its tag, or where it is empty to the root
 abbrev pub shortened : Walking → Option ℕ → Walking
@@ -128,13 +130,14 @@ goes_from (AtLink t u) w x = placed w (AtTag u)
 goes_from (OnTail t) w x = followed w t (next_of x)
 goes_from Ended w x = w
 
+-- how the walk goes on where its access found this number
 abbrev pub goes_on : Walking → ℕ → Walking
 goes_on w x = goes_from w.stand w x
 
 -- the key of a slot in a list of names: the first one there
 abbrev pub key_at : List (ℕ × List ℕ) → ℕ → List ℕ
 key_at [] s = []
-key_at (q ∷ qs) s = cond (eqb q.0 s) q.1 (key_at qs s)
+key_at (q ∷ qs) s = if q.0 == s then q.1 else key_at qs s
 
 -- what the view must hold where the walk stands
 abbrev pub StandsOn : ℕ → Stand → View → Type 0
@@ -151,7 +154,7 @@ pub record Holds (w : Walking) (v : View) : Type 0 where
   pub client : IsClient v
   pub named : Within (w.slot, key_at v.pass.names w.slot) v.pass.names
   pub stand : StandsOn w.slot w.stand v
-  pub turns : cond w.first 0 v.pass.turns ≡ w.turns
+  pub turns : (if w.first then 0 else v.pass.turns) ≡ w.turns
   pub below : w.turns < budget w.pool
 
 -- the view after an access of the caller at the tail t that found the number x there: it may stand there, its link is held, and its turn is counted
@@ -170,6 +173,7 @@ abbrev pub ShowsFrom : Stand → Walking → View → ℕ → Type 0
 ShowsFrom (OnTail t) w v x = Shows w t v x
 ShowsFrom at w v x = ⊥
 
+-- the next word that the access shows at the tail
 abbrev pub ShowsNext : Walking → View → ℕ → Type 0
 ShowsNext w v x = ShowsFrom w.stand w v x
 

@@ -21,7 +21,7 @@ eight_are_bytes bytes k h (suc (suc (suc (suc (suc (suc (suc zero))))))) = h (8 
 eight_are_bytes bytes k h (suc (suc (suc (suc (suc (suc (suc (suc i)))))))) = omega arith
 
 -- each of them is a byte of the list
-eight_byte : (bytes : List ℕ) (k i : ℕ) → i < 8 → slice_index (eight_at bytes k) i ≡ slice_index bytes (8 * k + i)
+pub eight_byte : (bytes : List ℕ) (k i : ℕ) → i < 8 → slice_index (eight_at bytes k) i ≡ slice_index bytes (8 * k + i)
 eight_byte bytes k zero lt = ap (slice_index bytes) (omega arith)
 eight_byte bytes k (suc zero) lt = refl
 eight_byte bytes k (suc (suc zero)) lt = refl

@@ -16,9 +16,10 @@ abbrev pub content_at : ℕ → ℕ → Word
 content_at b zero = Meta (buffer_at b)
 content_at b (suc k) = Value (buffer_at b) k
 
--- a tag's next word where no tag is linked behind it, and where another one is
+-- a tag's next word where no tag is linked behind it
 abbrev pub unlinked : ℕ → ℕ
 unlinked t = age t * 2 ^ 43 + root_code None
 
+-- a tag's next word where another one is linked behind it
 abbrev pub linked : ℕ → ℕ → ℕ
 linked t u = age t * 2 ^ 43 + root_code (Some u)

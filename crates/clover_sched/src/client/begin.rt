@@ -9,7 +9,7 @@ ghost use Rattle.clover_plain.specs.Preset.{tag_at};
 ghost use Rattle.clover_walk.specs.Standing.{number_of};
 ghost use Rattle.clover_put.specs.Putting.{made_put};
 ghost use Rattle.clover_sched.specs.Beginning.{IsBegun};
-ghost use Rattle.clover_sched.specs.Client.{ExpectsTag, size_of};
+ghost use Rattle.clover_node.specs.Beginning.{ExpectsTag, size_of};
 
 use crate::client::Underway;
 use clover_get::GetCall;
