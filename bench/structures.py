@@ -168,8 +168,14 @@ fn main(rt: HostRuntime) -> io::Result<()> {
 }
 '''
 
-# what the checker cannot find alone of it: filling keeps the room
+# what the checker cannot find alone of it: a key that was not found is new, and filling keeps the room
 NAMES_PROOFS = {
+    "add/Answers.antt": '''use Rattle.std.proofs.Common.{refl}
+use Rattle.measure.proofs.add.Goals as goal
+
+pub push-requires-clause-new : goal.push-requires-clause-new
+push-requires-clause-new c = c.in-None.ensures.none.0 refl
+''',
     "fill/Invariants.antt": '''use Rattle.std.proofs.Common.{◌≡◌}
 use Rattle.measure.proofs.fill.Given as goal
 
