@@ -85,13 +85,113 @@ fn main(rt: HostRuntime) -> io::Result<()> {
 }
 '''
 
-# the crates that a measure stands on, and its program
+NAMES = '''//! Looks keys up in a list of names.
+#![tactic(auto)]
+
+ghost use Rattle.std.specs.Prelude.{◌≡◌};
+
+use clover_dir::Names;
+use clover_map::Key;
+use std::io;
+use std::time::Instant;
+
+const MOST: usize = 16_384;
+const LOOK_UPS: u32 = 1_000_000;
+
+// A key of twelve bytes, which says this number behind one that jumps about.
+fn key_of(number: u32) -> Option<Key> {
+    let mut bytes = [0u8; 12];
+    bytes[..4].copy_from_slice(&number.wrapping_mul(2_654_435_761).to_be_bytes());
+    bytes[8..].copy_from_slice(&number.to_be_bytes());
+    Key::of(&bytes).ok()
+}
+
+// Puts the key of the number behind the others, where it is new and there is room.
+fn add(names: &mut Names, number: u32)
+    requires { names.old.most ≡ MOST }
+    ensures { names.new.most ≡ MOST }
+{
+    if let Some(key) = key_of(number) {
+        if names.len() < MOST {
+            match names.find(&key) {
+                Some(_) => {}
+                None => names.push(number, key),
+            }
+        }
+    }
+}
+
+fn fill(names: &mut Names, count: u32)
+    requires { names.old.most ≡ MOST }
+{
+    for number in 0..count {
+        add(names, number);
+    }
+}
+
+// How many of the look-ups, of one key after the other, find their key.
+fn look_up(names: &Names, count: u32) -> u32 {
+    let mut number = 0u32;
+    let mut found = 0u32;
+    for _ in 0..LOOK_UPS {
+        let slot = key_of(number).and_then(|key| names.find(&key));
+        if slot == Some(number) {
+            found = found.saturating_add(1);
+        }
+        number = if number < count { number.saturating_add(1) } else { 0 };
+    }
+    found
+}
+
+// The time to put so many keys into a list, and that of the look-ups among them.
+fn measure(rt: HostRuntime, count: u32) -> io::Result<()> {
+    match Names::make(rt.alloc(), MOST as u32) {
+        Ok(names) => {
+            let mut names = names;
+            let start = Instant::now(&rt)?;
+            fill(&mut names, count);
+            let filled = start.elapsed(&rt)?.as_millis();
+            let start = Instant::now(&rt)?;
+            let found = look_up(&names, count);
+            let time = start.elapsed(&rt)?.as_millis();
+            println!(rt; "{count:>6} keys: {filled:>4} ms to put them, {time:>4} ms for {LOOK_UPS} look-ups, {found} found")
+        }
+        Err(_) => println!(rt; "no memory"),
+    }
+}
+
+fn main(rt: HostRuntime) -> io::Result<()> {
+    for count in [64, 256, 1024, 4096, 16_384] {
+        measure(rt, count)?;
+    }
+    Ok(())
+}
+'''
+
+# what the checker cannot find alone of it: a key that was not found is new, and filling keeps the room
+NAMES_PROOFS = {
+    "add/Answers.antt": '''use Rattle.std.proofs.Common.{refl}
+use Rattle.measure.proofs.add.Goals as goal
+
+pub push-requires-clause-new : goal.push-requires-clause-new
+push-requires-clause-new c = c.in-None.ensures.none.0 refl
+''',
+    "fill/Invariants.antt": '''use Rattle.std.proofs.Common.{◌≡◌}
+use Rattle.measure.proofs.fill.Given as goal
+
+abbrev pub invariant-loop-number : goal.invariant-loop-number
+invariant-loop-number l = l.names.most ≡ 16384
+''',
+}
+
+# the crates that a measure stands on, its program, and what the checker needs besides
 MEASURES = {
-    "books": ("clover_list clover_words clover_alloc", BOOKS),
+    "books": ("clover_list clover_words clover_alloc", BOOKS, {}),
+    "names": ("clover_list clover_words clover_map clover_rule clover_port clover_dir atomic_table", NAMES, NAMES_PROOFS),
 }
 
 
-def show(name: str, crates: str, program: str) -> None:
+def show(name: str, crates: str, program: str, proofs: dict[str, str]) -> None:
     """Proves, builds and runs the program over the crates, and prints what it says."""
     with tempfile.TemporaryDirectory() as folder:
         lines = []
@@ -103,6 +203,10 @@ def show(name: str, crates: str, program: str) -> None:
         os.makedirs(f"{folder}/crates/measure/src")
         with open(f"{folder}/crates/measure/src/main.rt", "w", encoding="utf-8") as file:
             file.write(program)
+        for path, text in proofs.items():
+            os.makedirs(os.path.dirname(f"{folder}/crates/measure/proofs/{path}"), exist_ok=True)
+            with open(f"{folder}/crates/measure/proofs/{path}", "w", encoding="utf-8") as file:
+                file.write(text)
         with open(f"{folder}/crates.txt", "w", encoding="utf-8") as file:
             file.writelines(lines + [f"measure: {crates}\n"])
         run = subprocess.run(["rt", "run"], cwd=f"{folder}/crates/measure", capture_output=True, text=True)
