@@ -1,11 +1,10 @@
 -- A client that was asked for a task: the tag of its next put, and that it stands where the records lead.
 use Prim.Native.Nat.{zero, suc}
-use Rattle.std.proofs.Common.{◌≡◌, ℕ, ltb, ◌+◌, ◌-◌, ◌*◌, ◌<◌, ◌≤◌, List, [], ◌∷◌, Bool, true, false, cond, if◌then◌else◌, refl, sym, ap, ◌∙◌, subst, arith, inr}
-use Rattle.std.specs.Prelude.{Option, Some, None, IfSome}
+use Rattle.std.proofs.Common.{◌≡◌, ℕ, ltb, ◌+◌, ◌-◌, ◌*◌, ◌<◌, ◌≤◌, List, [], ◌∷◌, Bool, false, cond, if◌then◌else◌, refl, sym, ap, ◌∙◌, subst, arith}
+use Rattle.std.specs.Prelude.{Option, Some, None}
 use Rattle.std.proofs.Math.Nat.{min-le_left, mul-le-mul_left}
 use Rattle.std.proofs.lemmas.Bool.Decides.{nat_tests}
 use Rattle.clover_words.specs.declared.bytes.ValueBuf.{ValueBuf}
-use Rattle.clover_words.specs.declared.pool.Pool.{Pool}
 use Rattle.clover_words.specs.declared.setup.Setup.{Setup}
 use Rattle.clover_words.specs.declared.word.Buffer.{Buffer}
 use Rattle.clover_words.specs.Place.{buffer_of}
@@ -30,8 +29,8 @@ use Rattle.clover_plain.specs.Preset.{tag_at, dealt_from}
 use Rattle.clover_plain.proofs.Dealing.{tag_young, tag_inside}
 use Rattle.clover_cache.specs.Node.{Known, cursor_at, asked}
 use Rattle.clover_walk.specs.Standing.{number_of}
-use Rattle.clover_walk.specs.Walking.{Walking, Holds, IsOnWay, made_walk, key_at}
-use Rattle.clover_walk.proofs.Calling.{made_holds as walk_holds, IsCursor as IsWalkCursor}
+use Rattle.clover_walk.specs.Walking.{Walking, Holds, made_walk, key_at}
+use Rattle.clover_walk.proofs.Calling.{made_holds as walk_holds}
 use Rattle.clover_get.specs.Getting.{Getting, getting, Seeking}
 use Rattle.clover_get.proofs.Begins.{get_begins}
 use Rattle.clover_put.specs.Putting.{call_of, call_at}
@@ -46,7 +45,7 @@ use Rattle.clover_sched.specs.declared.event.CallRefusal.TheVariants.{TooLong}
 use Rattle.clover_node.specs.Beginning.{no_value}
 use Rattle.clover_node.proofs.Begins.{made_pool, made_slot, made_first, made_on_way, walk_cursor}
 use Rattle.clover_sched.specs.Beginning.{IsBegun, begun_put}
-use Rattle.clover_node.specs.Node.{IsCursor, AreCursors}
+use Rattle.clover_node.specs.Node.{AreCursors}
 use Rattle.clover_node.specs.Beginning.{size_of}
 use Rattle.clover_sched.specs.Client.{Stands, Matches, Starts, Begins, IsTask, UnderMatches, IsUnder, spent_by, stock_at, taken_by}
 use Rattle.clover_sched.specs.Folds.{Doing}

@@ -1,25 +1,15 @@
 -- A client's cursors behind an access: what it knew to be durable it knows still, and the load of a tombstone shows its tag.
-use Rattle.std.proofs.Common.{◌≡◌, ◌≢◌, ℕ, ◌/◌, ◌%◌, ◌==◌, List, length, Bool, true, false, cond, refl, sym, ap, ◌∙◌, subst, inr, arith}
-use Rattle.std.specs.Prelude.{Option, Some, None, IfSome}
-use Rattle.std.proofs.lemmas.List.Elements.{All-weaker}
-use Rattle.clover_words.specs.declared.pool.Pool.{Pool}
+use Rattle.std.proofs.Common.{◌≡◌, ℕ, ◌/◌, ◌%◌, Bool, sym, ap, ◌∙◌, subst, arith}
+use Rattle.std.specs.Prelude.{None}
 use Rattle.clover_words.specs.declared.word.Word.TheVariants.{Next as NextOf}
-use Rattle.clover_words.specs.Tag.{TagParts, tag_number, home, age}
+use Rattle.clover_words.specs.Tag.{tag_number, home, age}
 use Rattle.clover_words.specs.Version.{unlinked, buffer_at}
-use Rattle.clover_map.specs.declared.call.Entry.{Entry}
-use Rattle.clover_rule.specs.Knowing.{link_view}
-use Rattle.clover_rule.specs.Lists.{Within}
 use Rattle.clover_rule.specs.Memory.{Next, word, gen}
-use Rattle.clover_rule.specs.Learned.{learned, looked, seen, started, decided, missed, counts, rest_of}
-use Rattle.clover_rule.specs.Steps.{Step, LoadNext, DecideNext, RaiseNext, LinkNext, ReadRoot, ReadShort, AbsentCount, ReadVersion, FlushLink, client, reply_of}
-use Rattle.clover_rule.specs.Words.{next_of, root_of}
+use Rattle.clover_rule.specs.Steps.{Step}
+use Rattle.clover_rule.specs.Words.{next_of}
 use Rattle.clover_rule.specs.declared.access.Act.TheVariants.{Load}
-use Rattle.clover_rule.specs.declared.view.View.{View}
 use Rattle.clover_rule.proofs.Ties.{next_again}
 use Rattle.clover_plain.specs.Plain.{Plain, history, view_at}
-use Rattle.clover_cache.specs.Node.{Known, cursor_at, asked, IsSet}
-use Rattle.clover_cache.proofs.Known.{held_at, last-asked, All-asked, All-set_cursor}
-use Rattle.clover_node.specs.Node.{IsCursor, AreCursors}
 use Rattle.clover_node.proofs.Knowing.{KnowsMore, durable_learned}
 use Rattle.clover_sched.specs.Ends.{seen_tag}
 use Rattle.clover_sched.proofs.Moving.{MadeSo}

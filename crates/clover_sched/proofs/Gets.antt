@@ -1,5 +1,5 @@
 -- What a step of a get is in a run: its access decides nothing, or it decides the call, or the call ends without an answer.
-use Rattle.std.proofs.Common.{◌≡◌, ◌≢◌, ℕ, suc, ◌+◌, ◌-◌, ◌^◌, ◌<◌, ◌≤◌, ◌==◌, List, [], ◌∷◌, ◌++◌, length, get_or, Bool, true, false, cond, refl, sym, ap, ◌∙◌, subst, arith, eq-eqb}
+use Rattle.std.proofs.Common.{◌≡◌, ◌≢◌, ℕ, suc, ◌+◌, ◌-◌, ◌^◌, ◌<◌, ◌≤◌, List, [], ◌∷◌, ◌++◌, length, get_or, Bool, true, false, cond, refl, sym, ap, ◌∙◌, subst, arith, eq-eqb}
 use Rattle.std.specs.Prelude.{Option, Some, None}
 use Rattle.clover_words.specs.declared.bytes.ValueBuf.{ValueBuf}
 use Rattle.clover_words.specs.declared.pool.Pool.{Pool}
@@ -27,12 +27,12 @@ use Rattle.clover_rule.specs.Moves.{nobody}
 use Rattle.clover_plain.specs.Plain.{Plain, Accessed, KeptButEntries, view_at, history, open_of}
 use Rattle.clover_cache.specs.Node.{Known, IsSet}
 use Rattle.clover_walk.specs.Ending.{Ended}
-use Rattle.clover_walk.specs.Walking.{Walking, Stand, AtShort, AtRoot, AtTag, AtLink, OnTail, Ended as StandEnded, IsOnWay, goes_from, goes_on, key_at, budget}
+use Rattle.clover_walk.specs.Walking.{Walking, key_at, budget}
 use Rattle.clover_walk.proofs.Endings.{stepped as stepped_so}
 use Rattle.clover_get.specs.Alone.{Moment, GoesAlone}
-use Rattle.clover_get.specs.Getting.{Getting, Stage, Seeking, AtMeta, AtValue, AtFound, AtDead, AtBad, Over, IsOpen, getting, sought, step_from, get_step, GoesFrom, GoesOn, FillsFrom, value_in}
+use Rattle.clover_get.specs.Getting.{Getting, Stage, Seeking, AtMeta, AtValue, AtFound, AtDead, AtBad, Over, step_from, get_step, GoesOn, FillsFrom, value_in}
 use Rattle.clover_get.specs.Going.{key_of}
-use Rattle.clover_get.specs.Holding.{GetHolds, StandsOn}
+use Rattle.clover_get.specs.Holding.{GetHolds}
 use Rattle.clover_node.proofs.GetGoes.{goes, going_misses, turning_misses, holding_open}
 use Rattle.clover_sched.specs.declared.client.ClientState.{ClientState}
 use Rattle.clover_sched.specs.declared.client.Underway.{Underway}
@@ -55,7 +55,6 @@ use Rattle.clover_sched.proofs.Moving.{MadeSo, IsNoLink, IsSeated, made_so, refu
 use Rattle.clover_sched.proofs.Places.{same_snoc}
 use Rattle.clover_sched.proofs.Going.{seat_below, step_refused}
 use Rattle.clover_sched.proofs.Stepping.{no_more, none_taken, plain_taken, made_step, stands_made, stands_entered, stands_refused}
-use Rattle.clover_node.proofs.Walks.{on_walk}
 use Rattle.clover_sched.proofs.Walks.{Reads, walk_reads, walk_links, walk_quiet}
 
 -- no access of a get is an exchange or a store

@@ -1,5 +1,5 @@
 -- The machine stands behind one record more: in general, and for each kind of event.
-use Rattle.std.proofs.Common.{◌≡◌, ◌≢◌, ℕ, ◌+◌, ◌≤◌, ◌<◌, suc, length, set, List, [], ◌∷◌, ◌++◌, Bool, true, false, refl, sym, ap, ◌∙◌, subst, arith, append-nil, ltb, ne_eqb, inl, inr, ◌⊎◌, ⊎_elim}
+use Rattle.std.proofs.Common.{◌≡◌, ◌≢◌, ℕ, ◌+◌, ◌≤◌, ◌<◌, suc, length, set, List, [], ◌∷◌, ◌++◌, Bool, true, false, refl, sym, ap, ◌∙◌, subst, arith, append-nil, ltb, ne_eqb, ⊎_elim}
 use Rattle.std.specs.Prelude.{Option, Some, None, ◌==◌, if◌then◌else◌, IfSome}
 use Rattle.std.specs.FinMap as finite
 use Rattle.std.proofs.lemmas.Bool.{lt-ltb, le-ltb}
@@ -21,7 +21,7 @@ use Rattle.clover_rule.proofs.Steps.{nth_set}
 use Rattle.clover_plain.specs.Plain.{Plain, Running, view_at}
 use Rattle.clover_plain.specs.Preset.{AreDistinct}
 use Rattle.clover_walk.specs.Standing.{number_of}
-use Rattle.clover_cache.specs.Node.{Known, cursor_at, asked as asked_for}
+use Rattle.clover_cache.specs.Node.{Known, cursor_at}
 use Rattle.clover_script.specs.Form.{call_in}
 use Rattle.clover_script.specs.declared.line.Task.{Task}
 use Rattle.clover_script.specs.declared.line.Task.TheVariants.{Client as ClientTask}

@@ -1,22 +1,19 @@
 -- How a call that writes goes on: what stays of it, and which accesses neither commit nor end it.
 use Prim.Native.Nat.{zero, suc}
-use Rattle.std.proofs.Common.{◌≡◌, ℕ, ◌==◌, List, [], ◌∷◌, ◌++◌, Bool, true, false, cond, refl, sym, ap, ◌∙◌, subst, eqb-true, eq-eqb}
+use Rattle.std.proofs.Common.{◌≡◌, ℕ, ◌==◌, List, [], ◌∷◌, ◌++◌, Bool, true, false, cond, refl, ap, eq-eqb}
 use Rattle.clover_words.specs.declared.word.Side.{Side}
 use Rattle.clover_words.specs.declared.word.Side.TheVariants.{Current, Flushed}
 use Rattle.clover_words.specs.Tag.{home}
 use Rattle.clover_words.specs.Version.{unlinked, content_at}
 use Rattle.clover_map.specs.declared.call.Entry.{Entry}
-use Rattle.clover_map.specs.declared.call.Reply.TheVariants.{Absent}
 use Rattle.clover_rule.specs.Learned.{next_view, next_history}
 use Rattle.clover_rule.specs.Steps.{LoadNext, DecideNext, act_of}
 use Rattle.clover_rule.specs.declared.access.Act.TheVariants.{Store}
 use Rattle.clover_rule.specs.declared.view.View.{View}
-use Rattle.clover_walk.specs.Walking.{Stand, AtShort as ToShort, AtRoot, AtTag, AtLink as OnLink, OnTail, Ended, goes_on, step_at}
-use Rattle.clover_put.specs.Answering.{IsBefore, Onward}
-use Rattle.clover_put.specs.Holding.{PutHolds, Fills, Looks}
-use Rattle.clover_put.specs.Putting.{Putting, Stage, Storing, Flushing, Seeking, AtMeta, AtLink, Deciding, AtBad, AtRaise, AtShort, Over, body_word, put_step, put_on, call_at, staged, walked, unless_left, reached, at_tail}
-use Rattle.clover_put.specs.declared.job.Job.{Job}
-use Rattle.clover_put.specs.declared.job.Job.TheVariants.{Put, Delete, Swap}
+use Rattle.clover_walk.specs.Walking.{goes_on, step_at}
+use Rattle.clover_put.specs.Answering.{IsBefore}
+use Rattle.clover_put.specs.Holding.{PutHolds, Fills}
+use Rattle.clover_put.specs.Putting.{Putting, Stage, Storing, Flushing, Seeking, AtMeta, AtLink, Deciding, AtBad, AtRaise, AtShort, Over, body_word, put_step, put_on, call_at, staged, walked, unless_left}
 use Rattle.clover_node.proofs.PutGoes.{Misses}
 use Rattle.clover_node.proofs.Walks.{on_walk}
 use Rattle.clover_sched.specs.Run.{Wrote, Shortens}

@@ -1,15 +1,11 @@
 -- What an access of a walk does, in a call of either kind: it writes nothing and decides nothing.
-use Rattle.std.proofs.Common.{◌≡◌, ℕ, List, Bool, true, false, cond, eqb, refl}
-use Rattle.std.specs.Prelude.{Option, Some, None}
-use Rattle.clover_words.specs.Tag.{age}
+use Rattle.std.proofs.Common.{◌≡◌, ℕ, List, refl}
 use Rattle.clover_map.specs.declared.call.Entry.{Entry}
-use Rattle.clover_rule.specs.Memory.{Next, word}
 use Rattle.clover_rule.specs.Learned.{next_history}
 use Rattle.clover_rule.specs.Steps.{act_of}
-use Rattle.clover_rule.specs.Words.{next_of, root_of}
 use Rattle.clover_rule.specs.declared.access.Act.{Act}
 use Rattle.clover_rule.specs.declared.view.View.{View}
-use Rattle.clover_walk.specs.Walking.{Walking, Stand, AtShort, AtRoot, AtTag, AtLink, OnTail, Ended, goes_from, followed, hops, turned, shortened, rooted, next_start, begins, step_at}
+use Rattle.clover_walk.specs.Walking.{Stand, AtShort, AtRoot, AtTag, AtLink, OnTail, Ended, step_at}
 use Rattle.clover_sched.specs.Run.{Wrote, Shortens}
 use Rattle.clover_sched.proofs.Moving.{IsNoLink}
 

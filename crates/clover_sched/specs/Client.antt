@@ -1,20 +1,19 @@
 -- A client of the machine: what it has under way and what it knows, that this is what the records say of it, and what one step of it does.
 use Prim.Native.Nat.{suc}
-use Rattle.std.specs.Prelude.{◌≡◌, ◌≢◌, ◌⊎◌, ℕ, ◌+◌, ◌-◌, ◌≤◌, ◌<◌, ◌^◌, min, List, [], ◌∷◌, ◌++◌, length, Bool, true, false, cond, if◌then◌else◌, All, Option, Some, None, IfSome}
+use Rattle.std.specs.Prelude.{◌≡◌, ◌≢◌, ℕ, ◌+◌, ◌-◌, ◌≤◌, min, List, [], ◌∷◌, ◌++◌, length, Bool, true, false, cond, if◌then◌else◌, Option, Some, None}
 use Rattle.clover_words.specs.declared.pool.Pool.{Pool}
 use Rattle.clover_words.specs.declared.setup.Setup.{Setup}
 use Rattle.clover_words.specs.Preset.{buffers_total, HasDealt}
 use Rattle.clover_words.specs.Tag.{TagParts, tag_number}
 use Rattle.clover_map.specs.History.{own, key_of}
 use Rattle.clover_map.specs.declared.call.Call.{Call}
-use Rattle.clover_map.specs.declared.call.Call.TheVariants.{Get as GetCall, Put as PutCall, Delete as DeleteCall, Swap as SwapCall}
+use Rattle.clover_map.specs.declared.call.Call.TheVariants.{Get as GetCall}
 use Rattle.clover_map.specs.declared.call.Entry.{Entry}
 use Rattle.clover_script.specs.Form.{call_in}
 use Rattle.clover_script.specs.Lines.{takes}
 use Rattle.clover_script.specs.declared.line.Task.{Task}
 use Rattle.clover_script.specs.declared.line.Task.TheVariants.{Client as ClientTask}
 use Rattle.clover_rule.specs.Accesses.{wrote_link}
-use Rattle.clover_rule.specs.Content.{InRange}
 use Rattle.clover_rule.specs.Lists.{Within}
 use Rattle.clover_rule.specs.Steps.{Step as Due, act_of, reply_of}
 use Rattle.clover_rule.specs.declared.access.Access.{Access}
