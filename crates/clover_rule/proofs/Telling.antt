@@ -1,5 +1,5 @@
 -- What the rule says of an actor, what a step tells it, and the law over a table.
-use Rattle.std.proofs.Common.{◌≡◌, ℕ, zero, suc, ◌<◌, ◌≤◌, List, [], ◌∷◌, Bool, refl, sym, ap, ◌∙◌, ⊎_elim, arith, subst, cond, eqb, eqb-true, true, false}
+use Rattle.std.proofs.Common.{◌≡◌, ℕ, zero, suc, ◌<◌, ◌≤◌, List, [], ◌∷◌, Bool, refl, sym, ap, ◌∙◌, ⊎_elim, arith, subst, cond, eqb, eqb-true, eq-eqb, ne_eqb, true, false, ◌≢◌}
 use Rattle.std.specs.Prelude.{nat_lt, slice_index, Option, Some, None, slice_set}
 use mathlib.Core.Option.{some, some-injective, some-ne-none}
 use lib.ListN.{get_elem?}
@@ -9,7 +9,7 @@ use Rattle.clover_words.specs.declared.word.Word.TheVariants.{Next as NextOf, Ro
 use Rattle.clover_words.specs.declared.word.Side.{Side}
 use Rattle.clover_words.specs.declared.word.Side.TheVariants.{Current, Flushed}
 use Rattle.clover_words.specs.Place.{address_of, IsWithin, copy_in}
-use Rattle.clover_words.specs.Tag.{home}
+use Rattle.clover_words.specs.Tag.{home, age}
 use Rattle.clover_words.specs.Version.{buffer_at, content_at}
 use Rattle.clover_map.specs.declared.call.Entry.{Entry}
 use Rattle.clover_map.specs.Tagged.{Tagged}
@@ -18,12 +18,15 @@ use Rattle.clover_rule.specs.History.{shows}
 use Rattle.clover_rule.specs.Lists.{Each, Within, nth}
 use Rattle.clover_rule.specs.Meets.{Meets, IsMet}
 use Rattle.clover_rule.specs.Memory.{Next, Mem, gen, link}
-use Rattle.clover_rule.specs.Server.{Ready, AtStage, or_else, root_in, waiting_name}
+use Rattle.clover_rule.specs.Server.{Ready, AtStage, IsRecycling, book_of, is_home, or_else, root_in, waiting_name}
 use Rattle.clover_rule.specs.Asks.{Asks}
 use Rattle.clover_rule.specs.Learned.{next_view, next_history, found, words_after_step}
 use Rattle.clover_rule.specs.Steps.{Step, LoadNext, DecideNext, RaiseNext, LinkNext, StoreContent, FlushContent, LoadContent, ReadRoot, ReadShort, StoreShort, ReadCount, AbsentCount, ReadVersion, FlushLink, StoreRoot, FlushRoot, PassRoot, FreeRoot, StoreTombstone, FlushTombstone, StoreKey, FlushKey, BindRoot, FlushBoundRoot, StoreCount, Restart, word_of, side_in, restart_word, restart_operation}
-use Rattle.clover_rule.specs.Story.{Story, Durable, tag_at}
-use Rattle.clover_rule.specs.Told.{Facts, IsShown, ToldAt, Told, TableLaw}
+use Rattle.clover_rule.specs.Story.{Place, Chained, Taken, Story, Durable, tag_at}
+use Rattle.clover_rule.specs.Views.{book}
+use Rattle.clover_rule.specs.declared.view.BufferState.TheVariants.{Bound as IsBound, Out as IsOut}
+use Rattle.clover_rule.specs.declared.view.Recycling.{Recycling}
+use Rattle.clover_rule.specs.Told.{behind_root, Facts, IsShown, ToldAt, Told, TableLaw}
 use Rattle.clover_rule.specs.Words.{mem_of}
 use Rattle.clover_rule.specs.declared.view.RestartStore.{RestartStore}
 use Rattle.clover_rule.specs.declared.view.RestartStore.TheVariants.{ClearRoot, ClearFlushedRoot, Lift, LiftFlushed, SetCount}
@@ -33,7 +36,7 @@ use Rattle.clover_rule.specs.declared.view.ServerTask.TheVariants.{Idle, Storing
 use Rattle.clover_rule.proofs.ServerTools.{free_place}
 use Rattle.clover_rule.proofs.Hands.{each_both}
 use Rattle.clover_rule.proofs.Steps.{each_map, each_of, within_prefix, set_here}
-use Rattle.clover_rule.proofs.Standings.{tag_within}
+use Rattle.clover_rule.proofs.Standings.{tag_within, one_buffer}
 use Rattle.clover_rule.proofs.TaggedMaps.{legal_history}
 use Rattle.clover_rule.proofs.Derived.{current_past}
 use Rattle.clover_rule.proofs.Keeping.{read_next, read_fnext, read_root, read_short, inside_of}
@@ -93,6 +96,80 @@ module _ (p : Pool) (first : Tagged) (used : List ℕ) (ws : List ℕ) (vs : Lis
           pick true q f = let z : cycle.root ≡ t = cc in let y : cycle.slot ≡ s = eqb-true cycle.slot s q in (subst (λ (x : ℕ). x < p.slots) y (slot_in cycle.slot a.old.0 cycle.root a.old.2), subst (InRange p) z (a.inside, a.young))
           pick false q f = here f
 
+  -- the books say of a version that stands that it is bound where it is the root of its slot, and out otherwise
+  standing_book : (T : ServerTask) (s i t : ℕ) → tag_at st s i ≡ Some t → st.gone s ≤ i → book_of T st (st.place (home t)) (gen (m.next (home t))) (home t) ≡ book (age t) (cond (is_home (root_in T st s) (home t)) IsBound IsOut)
+  standing_book T s i t e g = let c = r.whole.basis.core.standing s i t e g in (λ j. book_of T st (c.placed j) (gen (c.now j)) (home t))
+
+  -- a root of the directory is bound in the books, whatever the task
+  root_bound : (T : ServerTask) → AtStage p m st T → (s t : ℕ) → root_in T st s ≡ Some t → book_of T st (st.place (home t)) (gen (m.next (home t))) (home t) ≡ book (age t) IsBound
+  root_bound T a s t e = by T a e
+    where
+      here : (T : ServerTask) → root_in T st s ≡ Some t → tag_at st s (st.gone s) ≡ Some t → book_of T st (st.place (home t)) (gen (m.next (home t))) (home t) ≡ book (age t) IsBound
+      here T e f = standing_book T s (st.gone s) t f (let g : st.gone s ≤ st.gone s = omega arith in g)
+          ∙ (λ j. book (age t) (cond (is_home (e j) (home t)) IsBound IsOut)) ∙ ap (λ (x : Bool). book (age t) (cond x IsBound IsOut)) (eq-eqb (home t) (home t) refl)
+
+      none_or : (T : ServerTask) (b : Bool) → root_in T st s ≡ Some t → or_else (cond b (Some None) None) (tag_at st s (st.gone s)) ≡ Some t → book_of T st (st.place (home t)) (gen (m.next (home t))) (home t) ≡ book (age t) IsBound
+      none_or T true e f = absurd (let z : ◌≡◌ {A = Option ℕ} None (Some t) = f in cc)
+      none_or T false e f = here T e f
+
+      by : (T : ServerTask) → AtStage p m st T → root_in T st s ≡ Some t → book_of T st (st.place (home t)) (gen (m.next (home t))) (home t) ≡ book (age t) IsBound
+      by Idle a f = here Idle f f
+      by (Storing bind n1) a f = here (Storing bind n1) f f
+      by (Rooted bind) a f = none_or (Rooted bind) (eqb bind.slot s) f f
+      by (Waiting bind) a f = none_or (Waiting bind) (eqb bind.slot s) f f
+      by (Loaded cycle) a f = here (Loaded cycle) f f
+      by (Raised cycle) a f = here (Raised cycle) f f
+      by (Led cycle) a f = here (Led cycle) f f
+      by (Both cycle) a f = here (Both cycle) f f
+      by (Exchanged cycle) a f = pick (eqb cycle.slot s) f f
+        where
+          goal : Type 0
+          goal = book_of (Exchanged cycle) st (st.place (home t)) (gen (m.next (home t))) (home t) ≡ book (age t) IsBound
+
+          pick : (b : Bool) → root_in (Exchanged cycle) st s ≡ Some t → or_else (cond b (Some (Some cycle.root)) None) (tag_at st s (st.gone s)) ≡ Some t → goal
+          pick true e f = let z : cycle.root ≡ t = cc in subst (λ (x : ℕ). book_of (Exchanged cycle) st (st.place (home x)) (gen (m.next (home x))) (home x) ≡ book (age x) IsBound) z
+              (ap (λ (q : Place). book_of (Exchanged cycle) st q (gen (m.next (home cycle.root))) (home cycle.root)) a.place)
+          pick false e f = here (Exchanged cycle) e f
+
+  -- the version behind the root of a recycling is in range and out
+  next_out : (T : ServerTask) → AtStage p m st T → (t : ℕ) → behind_root T ≡ Some t → InRange p t × (book_of T st (st.place (home t)) (gen (m.next (home t))) (home t) ≡ book (age t) IsOut)
+  next_out T a t e = by T a e
+    where
+      Goal : ServerTask → Type 0
+      Goal T = InRange p t × (book_of T st (st.place (home t)) (gen (m.next (home t))) (home t) ≡ book (age t) IsOut)
+
+      -- a version that stands and is not the root of its slot in the directory
+      here : (T : ServerTask) (s i u : ℕ) → tag_at st s i ≡ Some t → st.gone s ≤ i → root_in T st s ≡ Some u → home u ≢ home t → Goal T
+      here T s i u f g e n = (r_in, standing_book T s i t f g ∙ (λ j. book (age t) (cond (is_home (e j) (home t)) IsBound IsOut)) ∙ ap (λ (x : Bool). book (age t) (cond x IsBound IsOut)) (ne_eqb (home u) (home t) n))
+        where
+          r_in : InRange p t
+          r_in = r.whole.help.ranged.tags s i t f
+
+      standing : (T : ServerTask) (c : Recycling) → IsRecycling st c → c.next ≡ t → root_in T st c.slot ≡ tag_at st c.slot (st.gone c.slot) → Goal T
+      standing T c q z d =
+          let f : tag_at st c.slot (suc (st.gone c.slot)) ≡ Some t = q.next ∙ ap Some z in
+          let g : st.gone c.slot ≤ suc (st.gone c.slot) = omega arith in
+          let g0 : st.gone c.slot ≤ st.gone c.slot = omega arith in
+          here T c.slot (suc (st.gone c.slot)) c.root f g (d ∙ q.root)
+          (λ x. let o = one_buffer m st r.whole.basis.core c.slot (suc (st.gone c.slot)) t c.slot (st.gone c.slot) c.root f g q.root g0 x in let y = o.1 in omega arith)
+
+      by : (T : ServerTask) → AtStage p m st T → behind_root T ≡ Some t → Goal T
+      by Idle a e = absurd cc
+      by (Storing bind n1) a e = absurd cc
+      by (Rooted bind) a e = absurd cc
+      by (Waiting bind) a e = absurd cc
+      by (Loaded cycle) a e = let z : cycle.next ≡ t = cc in standing (Loaded cycle) cycle a z (refl {a = tag_at st cycle.slot (st.gone cycle.slot)})
+      by (Raised cycle) a e = let z : cycle.next ≡ t = cc in standing (Raised cycle) cycle a.0 z (refl {a = tag_at st cycle.slot (st.gone cycle.slot)})
+      by (Led cycle) a e = let z : cycle.next ≡ t = cc in standing (Led cycle) cycle a.0 z (refl {a = tag_at st cycle.slot (st.gone cycle.slot)})
+      by (Both cycle) a e = let z : cycle.next ≡ t = cc in standing (Both cycle) cycle a.0 z (refl {a = tag_at st cycle.slot (st.gone cycle.slot)})
+      by (Exchanged cycle) a e =
+          let z : cycle.next ≡ t = cc in
+          let f : tag_at st cycle.slot (st.gone cycle.slot) ≡ Some t = a.root ∙ ap Some z in
+          let g0 : st.gone cycle.slot ≤ st.gone cycle.slot = omega arith in
+          here (Exchanged cycle) cycle.slot (st.gone cycle.slot) cycle.root f g0
+          (ap (λ (b : Bool). or_else (cond b (Some (Some cycle.root)) None) (tag_at st cycle.slot (st.gone cycle.slot))) (eq-eqb cycle.slot cycle.slot refl))
+          (λ x. let c = r.whole.basis.core.standing cycle.slot (st.gone cycle.slot) t f g0 in let y : Taken ≡ Chained cycle.slot = sym a.place ∙ ap st.place x ∙ c.placed in absurd cc)
+
   -- a bound slot is one of the pool, and its key is one
   bound_in : (s : ℕ) (k : List ℕ) → st.keys s ≡ Some k → (s < p.slots) × IsKey k
   bound_in s k e = (r.whole.help.keyed.slots s k e, r.whole.help.keyed.valid s k e)
@@ -126,6 +203,8 @@ module _ (p : Pool) (first : Tagged) (used : List ℕ) (ws : List ℕ) (vs : Lis
           server = λ ro. let sv = r.whole.serves id v at ro in record {
             directory = subst (Each (λ (q : ℕ × List ℕ). (q.0 < p.slots) × IsKey q.1)) (sym sv.directory) (each_both (λ (q : ℕ × List ℕ). (q.0 < p.slots) × IsKey q.1) st.bindings (waiting_name st.task) (each_of (λ (q : ℕ × List ℕ). (q.0 < p.slots) × IsKey q.1) st.bindings (λ q w. bound_in q.0 q.1 (r.whole.basis.bound q.0 q.1 w).0)) (waiting_in st.task r.whole.help.stage.here));
             roots = λ s t e. root_ranged st.task r.whole.help.stage.here s t (sym (sv.roots s) ∙ e);
+            bound = λ s t e. let q = sym (sv.roots s) ∙ e in let g = root_ranged st.task r.whole.help.stage.here s t q in sv.books (home t) g.1.0 ∙ root_bound st.task r.whole.help.stage.here s t q;
+            behind = λ t e. let n = next_out st.task r.whole.help.stage.here t (ap behind_root (sym sv.task_is) ∙ e) in (n.0, sv.books (home t) n.0.0 ∙ n.1);
             free = λ b g i e. let f = free_place st.task st (st.place b) (gen (m.next b)) b g (sym (sv.books b i) ∙ e) in let z = (r.whole.help.ranged.ready b (subst Ready (sym f.0) tt)).1 in let y = f.1 in omega arith;
           };
         }

@@ -26,18 +26,31 @@ use Rattle.clover_rule.specs.Memory.{Mem, gen, link, word}
 use Rattle.clover_rule.specs.Steps.{Step, LoadNext, ReadRoot, DecideNext, LinkNext, ReadCount, AbsentCount, ReadVersion, PassRoot, FreeRoot, StoreCount, word_of, side_of, becomes}
 use Rattle.clover_rule.specs.Views.{OwnCalls, Apart, root_at, book_at, book}
 use Rattle.clover_rule.specs.Words.{next_of, root_of, mem_of}
-use Rattle.clover_rule.specs.declared.view.BufferState.TheVariants.{Free as IsFree}
+use Rattle.clover_rule.specs.declared.view.BufferState.TheVariants.{Free as IsFree, Bound as IsBound, Out as IsOut}
 use Rattle.clover_rule.specs.declared.view.Link.{Link}
 use Rattle.clover_rule.specs.declared.view.NewBinding.{NewBinding}
 use Rattle.clover_rule.specs.declared.view.Role.TheVariants.{Serving}
 use Rattle.clover_rule.specs.declared.view.Server.{Server}
+use Rattle.clover_rule.specs.declared.view.ServerTask.{ServerTask}
+use Rattle.clover_rule.specs.declared.view.ServerTask.TheVariants.{Loaded, Raised, Led, Both, Exchanged}
 use Rattle.clover_rule.specs.declared.view.View.{View}
 
--- what the server holds is in the pool, and a free buffer has a generation to serve
+-- the version behind the root of the slot whose recycling is under way
+abbrev pub behind_root : ServerTask → Option ℕ
+behind_root (Loaded c) = Some c.next
+behind_root (Raised c) = Some c.next
+behind_root (Led c) = Some c.next
+behind_root (Both c) = Some c.next
+behind_root (Exchanged c) = Some c.next
+behind_root _ = None
+
+-- what the server holds is in the pool, a free buffer has a generation to serve, each root version is bound, and the version behind the root of a recycling is out
 pub record ServerFacts (p : Pool) (sv : Server) : Type 0 where
   pub directory : Each (λ (q : ℕ × List ℕ). (q.0 < p.slots) × IsKey q.1) sv.directory
   pub roots : (s t : ℕ) → root_at sv s ≡ Some t → (s < p.slots) × InRange p t
   pub free : (b g : ℕ) → inside p b ≡ true → book_at sv b ≡ book g IsFree → g < p.wear
+  pub bound : (s t : ℕ) → root_at sv s ≡ Some t → book_at sv (home t) ≡ book (age t) IsBound
+  pub behind : (t : ℕ) → behind_root sv.task ≡ Some t → InRange p t × (book_at sv (home t) ≡ book (age t) IsOut)
 
 -- what the rule says of one actor
 pub record Facts (p : Pool) (v : View) (h : List Entry) : Type 0 where
