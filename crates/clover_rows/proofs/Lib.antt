@@ -1,1 +1,4 @@
+pub mod RecyclingAccess
+pub mod RecyclingBegin
+pub mod RecyclingPut
 pub mod SmallPool

@@ -1,1 +1,2 @@
+pub mod Recycling
 pub mod Small
