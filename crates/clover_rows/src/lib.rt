@@ -3,8 +3,6 @@
 #![tactic(auto)]
 
 #[cfg(test)]
-mod bindings;
-#[cfg(test)]
 mod costs;
 #[cfg(test)]
 mod edge;
@@ -14,8 +12,6 @@ mod faults;
 mod long;
 #[cfg(test)]
 mod orders;
-#[cfg(test)]
-mod recycling;
 #[cfg(test)]
 mod refused;
 #[cfg(test)]
