@@ -1,0 +1,7 @@
+//! The bindings of keys to slots: a list of them that is looked up by key, the metadata server's directory, and the
+//! binding of a key as a task of single accesses over any port. Only what makes a list or a directory takes memory.
+#![tactic(auto)]
+
+mod binding;
+
+pub use binding::Binding;

@@ -1,0 +1,4 @@
+pub mod Recycling
+pub mod Holding
+pub mod Answering
+pub mod Sweeping
