@@ -7,7 +7,7 @@ use Rattle.clover_words.specs.Tag.{TagParts}
 use Rattle.clover_alloc.specs.declared.line.Place.TheVariants.{Free, Worn, Bound, Out}
 use Rattle.clover_alloc.specs.declared.line.Line.{Line}
 use Rattle.clover_alloc.specs.Lines.{line}
-use Rattle.clover_alloc.specs.Ledger.{Ledger, book, with_line, new_ledger, buffer_of_tag, MayHave}
+use Rattle.clover_alloc.specs.Ledger.{Ledger, Moves, new_ledger, buffer_of_tag, IsAt, MayHave}
 use Rattle.clover_alloc.specs.Taking.{Takes}
 
 -- the line of a buffer that comes back: at the next generation, free, or worn at the wear
@@ -25,13 +25,13 @@ pub data BookCall : Type 0 where
 abbrev pub Makes : BookCall → Ledger → Ledger → Type 0
 Makes (Taking count tags) before after = (count ≤ 64) × Takes before count tags after
 Makes (Binding t) before after =
-    (book before (buffer_of_tag t) ≡ line t.generation Out)
-    × (after ≡ with_line before (buffer_of_tag t) (line t.generation Bound))
+    IsAt Out before t
+    × Moves before (buffer_of_tag t) (line t.generation Bound) after
 Makes (GivingBack t) before after =
-    (book before (buffer_of_tag t) ≡ line t.generation Bound)
-    × (after ≡ with_line before (buffer_of_tag t) (next_line before.pool.wear t.generation))
+    IsAt Bound before t
+    × Moves before (buffer_of_tag t) (next_line before.pool.wear t.generation) after
 Makes (Restoring b l) before after =
-    IsBuffer before.pool b × MayHave before.pool.wear l × (before.fresh ≡ true) × (after ≡ with_line before b l)
+    IsBuffer before.pool b × MayHave before.pool.wear l × (before.fresh ≡ true) × Moves before b l after
 
 -- the calls, one after the other, lead from the one books to the other
 abbrev pub Leads : Ledger → List BookCall → Ledger → Type 0

@@ -1,5 +1,5 @@
 -- What the code keeps beside the lines: bits that say which buffers of a memory node are free, and counts.
-use Rattle.std.specs.Prelude.{◌≡◌, ℕ, ◌+◌, ◌*◌, ◌/◌, ◌%◌, ◌<◌, ◌≤◌, ◌≢◌, List, length, slice_index, slice_index_or, if◌then◌else◌}
+use Rattle.std.specs.Prelude.{◌≡◌, ℕ, ◌*◌, ◌/◌, ◌%◌, ◌<◌, ◌≤◌, ◌≢◌, List, length, slice_index, slice_index_or, if◌then◌else◌}
 use Rattle.std.specs.Int.{bit_at}
 use Rattle.clover_alloc.specs.declared.line.Place.{Place}
 use Rattle.clover_alloc.specs.declared.line.Place.TheVariants.{Free, Worn}

@@ -24,6 +24,12 @@ book books b = slice_index_or (slice_index_or books.nodes b.node []) b.index (li
 abbrev pub with_line : Ledger → Buffer → Line → Ledger
 with_line books b l = record books { nodes = slice_set books.nodes b.node (slice_set (slice_index_or books.nodes b.node []) b.index l) }
 
+-- one buffer has another line, and each other one the line that it had
+pub record Moves (before : Ledger) (b : Buffer) (l : Line) (after : Ledger) : Type 0 where
+  pub value : after ≡ with_line before b l
+  pub line : book after b ≡ l
+  pub others : (c : Buffer) → c ≢ b → book after c ≡ book before c
+
 -- how many buffers are in a place
 abbrev pub count_of : Place → Ledger → ℕ
 count_of p books = sum_by (count_in p) books.nodes
@@ -39,6 +45,10 @@ new_ledger pool = record { pool = pool; nodes = replicate pool.nodes (replicate 
 -- the buffer of a tag
 abbrev pub buffer_of_tag : TagParts → Buffer
 buffer_of_tag t = record { node = t.node; index = t.index }
+
+-- the tag's buffer is in the place at the tag's generation
+abbrev pub IsAt : Place → Ledger → TagParts → Type 0
+IsAt p books t = book books (buffer_of_tag t) ≡ line t.generation p
 
 -- a tag that can be given no more: below the books' generation of its buffer, or at it and not free
 pub record Spent (books : Ledger) (t : TagParts) : Type 0 where

@@ -6,12 +6,12 @@ use Rattle.clover_words.specs.Place.{IsBuffer}
 use Rattle.clover_words.specs.Tag.{TagParts}
 use Rattle.clover_alloc.specs.declared.line.Place.TheVariants.{Free, Out}
 use Rattle.clover_alloc.specs.Lines.{line, count_in}
-use Rattle.clover_alloc.specs.Ledger.{Ledger, book, with_line, count_of, buffer_of_tag, Spent}
+use Rattle.clover_alloc.specs.Ledger.{Ledger, book, with_line, count_of, buffer_of_tag, IsAt, Spent}
 
 -- the tag that is due: of the memory node with the most free buffers, the first such one, its first free buffer, at its generation
 pub record IsBalanced (books : Ledger) (t : TagParts) : Type 0 where
   pub node : IsFirstMaxByKey (count_in Free) books.nodes (length books.nodes) t.node
-  pub free : book books (buffer_of_tag t) ≡ line t.generation Free
+  pub free : IsAt Free books t
   pub first : (i : ℕ) → i < t.index → (book books (record { node = t.node; index = i })).place ≢ Free
 
 -- the books once the tag was taken: its buffer is out
@@ -27,6 +27,12 @@ Given before (t ∷ ts) after = IsBalanced before t × Given (with_out before t)
 pub record Takes (before : Ledger) (count : ℕ) (tags : List TagParts) (after : Ledger) : Type 0 where
   pub each : Given before tags after
   pub many : length tags ≡ min count (count_of Free before)
+
+-- the tags' buffers were free at the tags' generations and are out there; each other buffer has the line that it had
+pub record AreTaken (before : Ledger) (tags : List TagParts) (after : Ledger) : Type 0 where
+  pub free : All (IsAt Free before) tags
+  pub out : All (IsAt Out after) tags
+  pub others : (b : Buffer) → All (λ t. b ≢ buffer_of_tag t) tags → book after b ≡ book before b
 
 -- the tags are new ones: of buffers of the pool that differ, below the wear, not spent before and spent after
 pub record AreNew (before : Ledger) (tags : List TagParts) (after : Ledger) : Type 0 where

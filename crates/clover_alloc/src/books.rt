@@ -40,8 +40,8 @@ impl Model for Books {
 }
 
 impl Books {
-    ghost use Rattle.clover_alloc.specs.Ledger.{book, with_line, count_of, total_of, new_ledger, buffer_of_tag, KeepsSpent, IsLedger, MayHave};
-    ghost use Rattle.clover_alloc.specs.Taking.{IsBalanced, Takes, AreNew, with_out};
+    ghost use Rattle.clover_alloc.specs.Ledger.{book, Moves, count_of, total_of, new_ledger, buffer_of_tag, IsAt, KeepsSpent, IsLedger, MayHave};
+    ghost use Rattle.clover_alloc.specs.Taking.{IsBalanced, Takes, AreTaken, AreNew, with_out};
     ghost use Rattle.clover_alloc.specs.Calls.{next_line};
     ghost use Rattle.clover_alloc.specs.Kept.{IsCounted};
 
@@ -76,6 +76,7 @@ impl Books {
     pub fn take(&mut self, count: u32) -> Batch
         requires { count ≤ 64 }
         ensures taken { Takes self.old count (tags_of result) self.new }
+        ensures moved { AreTaken self.old (tags_of result) self.new }
         ensures new { AreNew self.old (tags_of result) self.new }
         ensures spent { KeepsSpent self.old self.new }
         ensures whole { IsLedger self.new }
@@ -129,11 +130,13 @@ impl Books {
 
     /// The buffer of the tag, which is out at the tag's generation, becomes a slot's root version.
     pub fn bind(&mut self, tag: Tag)
-        requires { book self.old (buffer_of_tag tag) ≡ line tag.generation Out }
-        ensures bound { self.new ≡ with_line self.old (buffer_of_tag tag) (line tag.generation Bound) }
+        requires { IsAt Out self.old tag }
+        ensures moves { Moves self.old (buffer_of_tag tag) (line tag.generation Bound) self.new }
         ensures spent { KeepsSpent self.old self.new }
         ensures whole { IsLedger self.new }
     {
+        // Read for the books' invariant alone.
+        let _pool = &self.pool;
         let bound = Line {
             generation: tag.generation,
             place: Place::Bound,
@@ -144,8 +147,8 @@ impl Books {
     /// The buffer of the tag, which is a slot's root version at the tag's generation, becomes free at the next
     /// generation, or worn there.
     pub fn give_back(&mut self, tag: Tag)
-        requires { book self.old (buffer_of_tag tag) ≡ line tag.generation Bound }
-        ensures back { self.new ≡ with_line self.old (buffer_of_tag tag) (next_line self.old.pool.wear tag.generation) }
+        requires { IsAt Bound self.old tag }
+        ensures moves { Moves self.old (buffer_of_tag tag) (next_line self.old.pool.wear tag.generation) self.new }
         ensures spent { KeepsSpent self.old self.new }
         ensures whole { IsLedger self.new }
     {
@@ -165,7 +168,7 @@ impl Books {
         requires generation { generation ≤ self.old.pool.wear }
         requires worn { (place ≡ Worn) ↔ (generation ≡ self.old.pool.wear) }
         requires fresh { self.old.fresh ≡ true }
-        ensures value { self.new ≡ with_line self.old buffer (line generation place) }
+        ensures moves { Moves self.old buffer (line generation place) self.new }
         ensures whole { IsLedger self.new }
     {
         self.put(buffer.node, buffer.index, Line { generation, place });
@@ -183,7 +186,7 @@ impl Books {
     fn put(&mut self, node: u32, index: u32, line: Line)
         requires within { IsBuffer self.old.pool (record { node = node; index = index }) }
         requires may { MayHave self.old.pool.wear line }
-        ensures value { self.new ≡ with_line self.old (record { node = node; index = index }) line }
+        ensures moves { Moves self.old (record { node = node; index = index }) line self.new }
         ensures whole { IsLedger self.new }
     {
         let lines = &mut self.nodes[node as usize];

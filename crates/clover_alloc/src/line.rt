@@ -21,6 +21,18 @@ pub struct Line {
     pub place: Place,
 }
 
+impl Line {
+    ghost use Rattle.clover_alloc.specs.Lines.{same_place};
+    ghost use Rattle.clover_alloc.specs.declared.line.Place.TheVariants.{Free};
+
+    // The buffer may be handed out.
+    pub fn is_free(self) -> bool
+        ensures { result ≡ same_place Free self.place }
+    {
+        self.place == Place::Free
+    }
+}
+
 /// How many buffers are in each place.
 #[derive(Clone, Copy, Debug, PartialEq, Eq)]
 pub struct Counts {

@@ -5,8 +5,7 @@ ghost use Rattle.clover_alloc.specs.Lines.{line, count_in};
 ghost use Rattle.clover_alloc.specs.Kept.{line_at};
 ghost use Rattle.clover_alloc.specs.declared.line.Place.TheVariants.{Free, Worn};
 
-use crate::bits;
-use crate::bits::WORD;
+use crate::bits::{WORD, with_bit};
 use crate::line::{Line, Place};
 use clover_list::OutOfMemory;
 use std::alloc::Global;
@@ -91,16 +90,15 @@ impl NodeBooks {
         ensures { self.new ≡ slice_set self.old index line }
     {
         let at = index as usize;
-        if self.lines[at].place == Place::Free {
-            self.free -= 1;
-        }
-        let is_free = line.place == Place::Free;
+        let was_free = self.lines[at].is_free();
+        let is_free = line.is_free();
+        let word = with_bit(self.words[at / WORD], at % WORD, is_free);
+        self.lines[at] = line;
+        self.words[at / WORD] = word;
+        self.free = self.free - u32::from(was_free) + u32::from(is_free);
         if is_free {
-            self.free += 1;
             self.low = self.low.min(at / WORD);
         }
-        self.lines[at] = line;
-        bits::put(&mut self.words, at, is_free);
     }
 
     /// The lowest free buffer. Only where the search will begin is noted, so the lines stay.
