@@ -1,0 +1,6 @@
+pub mod Order
+pub mod Searching
+pub mod Pairs
+pub mod Roots
+pub mod Asking
+pub mod Went

@@ -3,5 +3,14 @@
 #![tactic(auto)]
 
 mod binding;
+mod directory;
+mod names;
+mod stage;
+mod task;
+mod turn;
 
 pub use binding::Binding;
+pub use directory::Directory;
+pub use names::Names;
+pub use task::BindTask;
+pub use turn::BindTurn;
