@@ -5,3 +5,4 @@ pub mod Outcomes
 pub mod Onward
 pub mod Wants
 pub mod Steps
+pub mod Granting

@@ -121,7 +121,8 @@ module _ (p : Pool) (setup : Setup) (books : Ledger) (d : Bindings) (sweep : Opt
         roots = λ s. ap (λ (rs : List (ℕ × ℕ)). find_root rs s) k.roots ∙ a.directory.roots s;
       },
       books_of p books w a.books.whole a.books.pool role (λ b i. ap (λ (bs : List BookLine). find_book bs b) k.books ∙ a.books.same b i tt),
-      swept_kept v w d.list sweep k.unlinked a.sweep)
+      swept_kept v w d.list sweep k.unlinked a.sweep,
+    )
 
     -- the recycling goes on
     pub recycle_goes : (at : Stage) (n : RecycleState) → Agrees p [] (at_stage at) v → ((t : TagParts) → at ≢ AtFree t) → Here at → WorkHolds p d w (Recycling slot n) → Agrees p [] (with_task (Some (record { work = Recycling slot n; left = left })) books d) w

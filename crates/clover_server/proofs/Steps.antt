@@ -21,14 +21,14 @@ use Rattle.clover_server.specs.Going.{server_step, went, answer_of, refused, rec
 use Rattle.clover_server.specs.Holding.{Agrees}
 use Rattle.clover_server.specs.Looking.{position, free_in, room_of, lacks, swept_or, or_full}
 use Rattle.clover_server.specs.Server.{ServerState}
-use Rattle.clover_server.specs.Steps.{Due, Finishes, Sweeps, Recycles, Binds, Answers, WantStep, RecycleStep, FinishStep, OnAccess, Begins, or_finish, recycle_due, ended, sweeping, recycling, binding, swept, swept_on, swept_turn, all_swept, ended_if, full_if, full_turn, own_turn, is_left, want_after, want_turn}
+use Rattle.clover_server.specs.Steps.{Due, Finishes, Sweeps, Recycles, Binds, Answers, WantStep, RecycleStep, FinishStep, OnAccess, Begins, or_finish, by_room, stock_due, recycle_due, ended, sweeping, recycling, binding, swept, swept_on, swept_turn, all_swept, ended_if, full_if, full_turn, own_turn, is_left, want_after, want_turn}
 use Rattle.clover_server.specs.Told.{IsFull, IfFull}
 use Rattle.clover_server.specs.declared.due.Room.{Room}
 use Rattle.clover_server.specs.declared.due.Room.TheVariants.{Swept, Full as NoRoom, Free as HasRoom}
 use Rattle.clover_server.specs.declared.turn.ServerTurn.{ServerTurn}
 use Rattle.clover_server.specs.declared.turn.ServerTurn.TheVariants.{More, Ready, Unlinked, Recycled, Full, NoSlot, Unreached}
 use Rattle.clover_server.specs.declared.work.Unfinished.{Unfinished}
-use Rattle.clover_server.proofs.Wants.{agrees_ended, agrees_swept_on, is_full}
+use Rattle.clover_server.proofs.Wants.{agrees_ended, agrees_swept_on, is_full, busy_due, idle_due}
 
 -- what go_on tells: the access of the server b was made or refused, and left n with this answer
 abbrev pub WentOn : (b n : ServerState) → ServerTurn → (Step → ℕ → Type 0) → Type 0 → Type 0
@@ -93,9 +93,12 @@ module _ (made : Step → ℕ → Type 0) (failed still : Type 0) (s b n : Serve
   recycle_finished slot u r t e er =
       let due : recycle_due s slot ≡ Finishes = ap (λ (z : Option Unfinished). or_finish z (Recycles slot)) t in
       let is : is_left s.task ≡ u.left = ap is_left t in
-      subst (λ (z : Due). RecycleStep z s n r made failed) (sym due)
-      (b, e, subst (λ (z : Bool). OnAccess r (λ x. made (server_step b) x × (n ≡ went b x) × (r ≡ own_turn z (answer_of b x))) (failed × (n ≡ refused b))) (sym is)
-      (subst (λ (z : ServerTurn). OnAccess z (λ x. made (server_step b) x × (n ≡ went b x) × (z ≡ own_turn u.left (answer_of b x))) (failed × (n ≡ refused b))) (sym er) (own_told u.left r0 told)))
+      subst (λ (z : Due). RecycleStep z s n r made failed) (sym due) (
+        b,
+        e,
+        subst (λ (z : Bool). OnAccess r (λ x. made (server_step b) x × (n ≡ went b x) × (r ≡ own_turn z (answer_of b x))) (failed × (n ≡ refused b))) (sym is)
+            (subst (λ (z : ServerTurn). OnAccess z (λ x. made (server_step b) x × (n ≡ went b x) × (z ≡ own_turn u.left (answer_of b x))) (failed × (n ≡ refused b))) (sym er) (own_told u.left r0 told)),
+      )
 
   pub recycle_began : (slot : ℕ) (root : TagParts) → s.task ≡ None → root_of s.directory slot ≡ Some root → b ≡ recycling s slot root → RecycleStep (recycle_due s slot) s n r0 made failed
   recycle_began slot root t q e =
@@ -121,9 +124,13 @@ module _ (made : Step → ℕ → Type 0) (failed still : Type 0) (s b n : Serve
     stays_swept Unreached m u = (refl, refl)
 
     pub sweep_went : r0 ≢ Unlinked → r0 ≢ Unreached → WantStep (Sweeps slot) s n More made failed still
-    sweep_went l u = (b, (root, q, e), made_of r0 _ _ u told (λ x k.
-        let st = stays_swept r0 (went b x) l in
-        (x, (k.0, k.1 ∙ sym (ap (swept (went b x)) (sym k.2) ∙ st.0), sym (ap (swept_turn (went b x)) (sym k.2) ∙ st.1)))))
+    sweep_went l u = (
+      b,
+      (root, q, e),
+      made_of r0 _ _ u told (λ x k.
+          let st = stays_swept r0 (went b x) l in
+          (x, (k.0, k.1 ∙ sym (ap (swept (went b x)) (sym k.2) ∙ st.0), sym (ap (swept_turn (went b x)) (sym k.2) ∙ st.1)))),
+    )
 
     full_access : (t : Bool) (m : ServerState) (A : ℕ → Type 0) (B : Type 0) → ((x : ℕ) × A x) → OnAccess (full_if t m) A B
     full_access true m A B a = a
@@ -131,9 +138,12 @@ module _ (made : Step → ℕ → Type 0) (failed still : Type 0) (s b n : Serve
 
     pub sweep_read : r0 ≡ Unlinked → (new : ServerState) (r : ServerTurn) → new ≡ swept n Unlinked → r ≡ swept_turn n Unlinked → WantStep (Sweeps slot) s new r made failed still
     sweep_read u new r en er =
-        let t : WentOn b n Unlinked made failed = subst (λ (z : ServerTurn). WentOn b n z made failed) u told in
-        (b, (root, q, e), subst (λ (z : ServerTurn). OnAccess z (λ x. made (server_step b) x × (new ≡ swept (went b x) (answer_of b x)) × (r ≡ swept_turn (went b x) (answer_of b x))) (failed × (new ≡ ended (refused b)))) (sym er)
-        (full_access (all_swept (swept_on n)) (swept_on n) _ _ (t.0, (t.1.0, en ∙ (λ i. swept (t.1.1 i) (t.1.2 i)), er ∙ (λ i. swept_turn (t.1.1 i) (t.1.2 i))))))
+        let t : WentOn b n Unlinked made failed = subst (λ (z : ServerTurn). WentOn b n z made failed) u told in (
+          b,
+          (root, q, e),
+          subst (λ (z : ServerTurn). OnAccess z (λ x. made (server_step b) x × (new ≡ swept (went b x) (answer_of b x)) × (r ≡ swept_turn (went b x) (answer_of b x))) (failed × (new ≡ ended (refused b)))) (sym er)
+              (full_access (all_swept (swept_on n)) (swept_on n) _ _ (t.0, (t.1.0, en ∙ (λ i. swept (t.1.1 i) (t.1.2 i)), er ∙ (λ i. swept_turn (t.1.1 i) (t.1.2 i))))),
+        )
 
     -- what that read left, and that the server knows it
     pub read_left : r0 ≡ Unlinked → n ≡ record b { task = None }
@@ -260,3 +270,11 @@ full_sum s1 new r h e er sums = subst (λ (z : ServerTurn). IfFull z (λ bound w
 
     none : free_in s1 ≡ 0
     none = let z : nat_eq (free_in s1) 0 ≡ true = second (not (nat_lt (position s1.sweep) (length s1.directory.list))) (nat_eq (free_in s1) 0) h in grind (arith, nat_tests)
+
+-- a want of stock
+module _ (s n : ServerState) (r : ServerTurn) (made : Step → ℕ → Type 0) (failed still : Type 0) where
+  pub stock_finishes : IsSome s.task → WantStep Finishes s n r made failed still → WantStep (stock_due s) s n r made failed still
+  stock_finishes h t = subst (λ (z : Due). WantStep z s n r made failed still) (sym (busy_due s.task (by_room s (room_of s s.setup.batch) (Answers Ready)) h)) t
+
+  pub stock_told : (room : Room) → s.task ≡ None → room ≡ room_of s s.setup.batch → WantStep (by_room s room (Answers Ready)) s n r made failed still → WantStep (stock_due s) s n r made failed still
+  stock_told room h e t = subst (λ (z : Due). WantStep z s n r made failed still) (sym (idle_due s.task (by_room s (room_of s s.setup.batch) (Answers Ready)) h)) (subst (λ (z : Room). WantStep (by_room s z (Answers Ready)) s n r made failed still) e t)

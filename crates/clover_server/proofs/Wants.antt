@@ -1,7 +1,7 @@
 -- That the view and the server agree where a want has ended or begun something, and what a want finds.
-use Rattle.std.proofs.Common.{◌≡◌, ◌≢◌, ℕ, zero, suc, ◌+◌, ◌-◌, ◌^◌, ◌<◌, ◌≤◌, min, ◌&&◌, ◌⊎◌, ◌↔◌, List, [], ◌∷◌, length, Bool, true, false, not, refl, sym, ap, ◌∙◌, inl, inr, ⊎_elim, subst, arith}
+use Rattle.std.proofs.Common.{◌≡◌, ◌≢◌, ℕ, zero, suc, ◌+◌, ◌-◌, ◌^◌, ◌<◌, ◌≤◌, min, ◌&&◌, ◌⊎◌, List, [], ◌∷◌, length, Bool, true, false, not, refl, sym, ap, ◌∙◌, inl, inr, ⊎_elim, subst, arith}
 use Rattle.std.specs.Prelude.{nat_lt, nat_eq, slice_get, if◌then◌else◌, Option, Some, None, IsSome, IfSome}
-use Rattle.std.specs.Option.{option_map}
+use Rattle.std.specs.Option.{option_map, is_some}
 use Rattle.std.proofs.lemmas.Bool.Decides.{nat_tests}
 use Rattle.std.proofs.lemmas.Option.{slice_get_within}
 use Rattle.clover_words.specs.declared.pool.Pool.{Pool}
@@ -170,10 +170,7 @@ pub some_root : (o : Option TagParts) (P : TagParts → Type 0) → IsSome o →
 some_root None P h q = absurd (let z : false ≡ true = h in cc)
 some_root (Some root) P h q = (root, refl, q)
 
--- a test for a task
-pub some_task : (t : Option Unfinished) (b : Bool) → (b ≡ true ↔ IsSome t) → b ≡ true → IsSome t
-some_task t b h e = h.0 e
-
-pub no_task : (t : Option Unfinished) (b : Bool) → (b ≡ true ↔ IsSome t) → b ≡ false → t ≡ None
-no_task None b h e = refl
-no_task (Some u) b h e = absurd (let z : b ≡ true = h.1 refl in let y : true ≡ false = sym z ∙ e in cc)
+-- what is not there
+pub none_is : (t : Option Unfinished) → is_some t ≡ false → t ≡ None
+none_is None h = refl
+none_is (Some u) h = absurd (let z : true ≡ false = h in cc)

@@ -1,6 +1,8 @@
 // The metadata server: its books, its directory, its unfinished task, and the sweep of a want.
 ghost use Rattle.std.specs.Prelude.{◌≡◌, ◌≤◌, ◌<◌, ◌↔◌, ◌+◌, ℕ, true, false, [], ◌∷◌, drop, slice_get, length, take, IsTrue, IsSome, IsNone, IfSome, List, Option, Some, None};
+ghost use Rattle.clover_words.specs.declared.pool.Pool.{Pool as PoolShape};
 ghost use Rattle.clover_words.specs.Tag.{TagParts, IsTag};
+ghost use Rattle.clover_rule.specs.declared.view.View.{View};
 ghost use Rattle.clover_alloc.specs.Batch.{tags_of};
 ghost use Rattle.clover_alloc.specs.Ledger.{IsLedger, book, count_of, total_of, buffer_of_tag};
 ghost use Rattle.clover_alloc.specs.Lines.{line, number_of, sum_of};
@@ -157,6 +159,7 @@ impl Server {
         ensures taken { Takes self.old.books self.old.setup.batch (tags_of result) self.new.books }
         ensures new { AreNew self.old.books (tags_of result) self.new.books }
         ensures rest { self.new ≡ record self.old { books = self.new.books } }
+        ensures ahead { (p : PoolShape) (v : View) → Agrees p [] self.old v → Agrees p (tags_of result) self.new v }
     {
         self.books.take(self.setup.batch)
     }
@@ -414,12 +417,7 @@ impl Server {
     }
 
     // Makes a step towards the binding of a key that is not bound.
-    fn bind_unbound<P: Port>(
-        &mut self,
-        key: &Key,
-        free: Option<u32>,
-        port: &mut P,
-    ) -> ServerTurn
+    fn bind_unbound<P: Port>(&mut self, key: &Key, free: Option<u32>, port: &mut P) -> ServerTurn
         requires idle { self.old.task ≡ None }
         requires new { IsNew key.now self.old.directory.list }
         requires free { IsLowestFree self.old.directory free }

@@ -23,9 +23,9 @@ finish_for_want-requires g c =
     record {
       task = subst (λ (z : ServerState). IsSome z.task) (sym e.4) refl;
       agrees = subst (λ (z : ServerState). Agrees (P.pool p) [] z (P.view p)) (sym e.4)
-        (begun_binding (P.pool p) c.args.self.now (P.view p) c.args.slot c.args.key.now e.0 c.requires.agrees c.requires.idle c.requires.may e.3 e.1
-        (e.2.within 0 e.0 (let z : 0 < 1 = omega arith in z))
-        (subst IsLedger (ap (λ (z : ServerState). z.books) e.4) c.begin_binding.ensures.whole));
+          (begun_binding (P.pool p) c.args.self.now (P.view p) c.args.slot c.args.key.now e.0 c.requires.agrees c.requires.idle c.requires.may e.3 e.1
+          (e.2.within 0 e.0 (let z : 0 < 1 = omega arith in z))
+          (subst IsLedger (ap (λ (z : ServerState). z.books) e.4) c.begin_binding.ensures.whole));
     }
 
 pub returns-in-Swept-clause-step : goal.returns-in-Swept-clause-step
@@ -52,7 +52,7 @@ pub returns-in-Free-clause-step : goal.returns-in-Free-clause-step
 returns-in-Free-clause-step g c =
     let P = g.P.Port in let p = c.args.port.now in let q = c.finish_for_want.new.port in let e = c.begin_binding.ensures.begun in
     subst (λ (z : Room). WantStep (by_room c.args.self.now z (Binds c.args.slot c.args.key.now)) c.args.self.now c.finish_for_want.new.self c.finish_for_want.result (λ a x. P.made p a false x q) (P.failed p q) (q ≡ p)) c.in-Free.ensures
-        (want_began c.args.self.now c.begin_binding.new.self c.finish_for_want.new.self c.finish_for_want.result c.args.slot c.args.key.now (λ a x. P.made p a false x q) (P.failed p q) (q ≡ p) (e.0, e.1, e.4) c.finish_for_want.ensures.step)
+    (want_began c.args.self.now c.begin_binding.new.self c.finish_for_want.new.self c.finish_for_want.result c.args.slot c.args.key.now (λ a x. P.made p a false x q) (P.failed p q) (q ≡ p) (e.0, e.1, e.4) c.finish_for_want.ensures.step)
 
 pub returns-in-Free-clause-full : goal.returns-in-Free-clause-full
 returns-in-Free-clause-full g c = not_full c.finish_for_want.result _ c.finish_for_want.ensures.not_full

@@ -46,7 +46,7 @@ returns-in-Unlinked-clause-full g c =
     let l = read_left (λ a x. P.made p a false x q) (P.failed p q) (q ≡ p) s c.begin_sweep.new.self c.go_on.new.self c.go_on.result c.go_on.ensures.made c.args.slot r.0 r.1 e c.in-Unlinked.is ∙ ap (λ (z : ServerState). record z { task = None }) e in
     let k = read_known (λ a x. P.made p a false x q) (P.failed p q) (q ≡ p) s c.begin_sweep.new.self c.go_on.new.self c.go_on.result c.go_on.ensures.made c.args.slot r.0 r.1 e (P.pool p) (P.view p) (P.told p) (P.view q) (P.told q) (λ a x m. g.met.P.Port.made_tells p q a false x m) c.in-Unlinked.is in
     read_full (P.pool q) c.go_on.new.self (P.view q) (position s.sweep) c.args.slot c.requires.at.0 c.go_on.ensures.agrees (ap (λ (z : ServerState). z.sweep) l) (ap (λ (z : ServerState). slice_get z.directory.list (position s.sweep)) l ∙ c.requires.at.1) k
-        c.read_unlinked.new.self c.read_unlinked.result c.read_unlinked.ensures.value c.read_unlinked.ensures.answer c.read_unlinked.ensures.adds_up
+    c.read_unlinked.new.self c.read_unlinked.result c.read_unlinked.ensures.value c.read_unlinked.ensures.answer c.read_unlinked.ensures.adds_up
 
 pub returns-in-Unlinked-clause-agrees : goal.returns-in-Unlinked-clause-agrees
 returns-in-Unlinked-clause-agrees g c =
@@ -56,7 +56,7 @@ returns-in-Unlinked-clause-agrees g c =
     let l = read_left (λ a x. P.made p a false x q) (P.failed p q) (q ≡ p) s c.begin_sweep.new.self c.go_on.new.self c.go_on.result c.go_on.ensures.made c.args.slot r.0 r.1 e c.in-Unlinked.is ∙ ap (λ (z : ServerState). record z { task = None }) e in
     let k = read_known (λ a x. P.made p a false x q) (P.failed p q) (q ≡ p) s c.begin_sweep.new.self c.go_on.new.self c.go_on.result c.go_on.ensures.made c.args.slot r.0 r.1 e (P.pool p) (P.view p) (P.told p) (P.view q) (P.told q) (λ a x m. g.met.P.Port.made_tells p q a false x m) c.in-Unlinked.is in
     read_agrees (P.pool q) c.go_on.new.self (P.view q) (position s.sweep) c.args.slot c.requires.at.0 c.go_on.ensures.agrees (ap (λ (z : ServerState). z.sweep) l) (ap (λ (z : ServerState). slice_get z.directory.list (position s.sweep)) l ∙ c.requires.at.1) k
-        c.read_unlinked.new.self c.read_unlinked.ensures.value
+    c.read_unlinked.new.self c.read_unlinked.ensures.value
 
 pub returns-in-Unreached-clause-step : goal.returns-in-Unreached-clause-step
 returns-in-Unreached-clause-step g c =
