@@ -4,3 +4,4 @@ pub mod Holding
 pub mod Steps
 pub mod Looking
 pub mod Told
+pub mod Laws

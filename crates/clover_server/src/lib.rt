@@ -4,10 +4,12 @@
 #![tactic(auto)]
 
 mod due;
+mod laws;
 mod outcome;
 mod server;
 mod turn;
 mod work;
 
+pub use laws::{first_law, handed_law};
 pub use server::Server;
 pub use turn::{ServerRefusal, ServerTurn};
