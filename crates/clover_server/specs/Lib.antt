@@ -1,0 +1,7 @@
+pub mod Server
+pub mod Going
+pub mod Holding
+pub mod Steps
+pub mod Looking
+pub mod Told
+pub mod Laws

@@ -1,0 +1,15 @@
+//! The metadata server over any port: it hands out buffers in batches, binds keys to slots, and recycles the versions
+//! that stand behind no other. Each call that takes a port makes one access of the server's at most, and what was begun
+//! is finished first. No call takes memory.
+#![tactic(auto)]
+
+mod due;
+mod laws;
+mod outcome;
+mod server;
+mod turn;
+mod work;
+
+pub use laws::{first_law, handed_law};
+pub use server::Server;
+pub use turn::{ServerRefusal, ServerTurn};
