@@ -20,7 +20,7 @@ use Rattle.clover_rule.specs.Views.{book, find_book, root_at}
 use Rattle.clover_rule.specs.declared.view.BookLine.{BookLine}
 use Rattle.clover_rule.specs.declared.view.BufferState.TheVariants.{Out as ViewOut, Bound as ViewBound}
 use Rattle.clover_rule.specs.declared.view.Role.TheVariants.{Serving}
-use Rattle.clover_rule.specs.declared.view.Task.TheVariants.{Idle}
+use Rattle.clover_rule.specs.declared.view.ServerTask.TheVariants.{Idle}
 use Rattle.clover_rule.specs.declared.view.View.{View}
 use Rattle.clover_alloc.specs.Ledger.{Ledger, IsLedger, buffer_of_tag, with_line, book as line_of}
 use Rattle.clover_alloc.specs.Lines.{line}

@@ -30,8 +30,8 @@ use Rattle.clover_rule.specs.Words.{next_of, root_of as root_in_word}
 use Rattle.clover_rule.specs.declared.view.BookLine.{BookLine}
 use Rattle.clover_rule.specs.declared.view.BufferState.TheVariants.{Out as ViewOut, Bound as ViewBound, Worn as ViewWorn, Free as ViewFree}
 use Rattle.clover_rule.specs.declared.view.Role.TheVariants.{Serving}
-use Rattle.clover_rule.specs.declared.view.Task.{Task}
-use Rattle.clover_rule.specs.declared.view.Task.TheVariants.{Idle}
+use Rattle.clover_rule.specs.declared.view.ServerTask.{ServerTask}
+use Rattle.clover_rule.specs.declared.view.ServerTask.TheVariants.{Idle}
 use Rattle.clover_rule.specs.declared.view.View.{View}
 use Rattle.clover_alloc.specs.Calls.{next_line}
 use Rattle.clover_alloc.specs.Ledger.{Ledger, IsLedger, HasLines, buffer_of_tag, with_line, book as line_of}

@@ -11,7 +11,7 @@ use Rattle.clover_rule.specs.Moves.{IsFreeBatch}
 use Rattle.clover_rule.specs.Views.{Book, book, book_at}
 use Rattle.clover_rule.specs.declared.view.BufferState.{BufferState}
 use Rattle.clover_rule.specs.declared.view.BufferState.TheVariants.{Free as ViewFree, Worn as ViewWorn, Bound as ViewBound, Out as ViewOut}
-use Rattle.clover_rule.specs.declared.view.Task.TheVariants.{Idle}
+use Rattle.clover_rule.specs.declared.view.ServerTask.TheVariants.{Idle}
 use Rattle.clover_rule.specs.declared.view.View.{View}
 use Rattle.clover_alloc.specs.Ledger.{Ledger, IsLedger, buffer_of_tag, book as line_of}
 use Rattle.clover_alloc.specs.Lines.{line}

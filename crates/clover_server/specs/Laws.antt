@@ -7,7 +7,7 @@ use Rattle.clover_words.specs.Place.{IsBuffer}
 use Rattle.clover_words.specs.Tag.{TagParts, tag_number}
 use Rattle.clover_rule.specs.Asks.{IsAt}
 use Rattle.clover_rule.specs.Moves.{giving}
-use Rattle.clover_rule.specs.declared.view.Task.TheVariants.{Idle}
+use Rattle.clover_rule.specs.declared.view.ServerTask.TheVariants.{Idle}
 use Rattle.clover_rule.specs.declared.view.View.{View}
 use Rattle.clover_alloc.specs.Ledger.{Ledger, IsLedger, book}
 use Rattle.clover_alloc.specs.Lines.{line}
