@@ -191,13 +191,17 @@ task_handed p d v ts books None b h = record { server = h.server; task_is = h.ta
 task_handed p d v ts books (Some u) b h = by u.work b h
   where
     by : (w : Work) → AreBooksOf p (reserved (Some (record { work = w; left = u.left }))) books (giving (map tag_number ts) v) → WorkHolds p d v w → WorkHolds p d (giving (map tag_number ts) v) w
-    by (Binding own c) b h = (record {
-      at = record { server = h.0.at.server; task_is = h.0.at.task_is };
-      directory = record { pool = h.0.directory.pool; list = h.0.directory.list; roots = h.0.directory.roots };
-      enter = h.0.enter;
-      buffer = h.0.buffer;
-      free = still_free p c c.stage books (giving (map tag_number ts) v) b;
-    }, h.1, h.2)
+    by (Binding own c) b h = (
+      record {
+        at = record { server = h.0.at.server; task_is = h.0.at.task_is };
+        directory = record { pool = h.0.directory.pool; list = h.0.directory.list; roots = h.0.directory.roots };
+        enter = h.0.enter;
+        buffer = h.0.buffer;
+        free = still_free p c c.stage books (giving (map tag_number ts) v) b;
+      },
+      h.1,
+      h.2,
+    )
     by (Recycling slot c) b h = (record { task = record { server = h.0.task.server; task_is = h.0.task.task_is }; root = h.0.root; stands = h.0.stands }, h.1, h.2, h.3)
 
 -- the batch is handed over, where no sweep is under way
