@@ -1,42 +1,40 @@
 -- That the view and the server agree behind an access of a binding.
-use Rattle.std.proofs.Common.{◌≡◌, ◌≢◌, ℕ, ◌+◌, ◌<◌, ◌≤◌, List, [], ◌∷◌, ◌++◌, length, length-append, Bool, true, false, refl, sym, ap, ◌∙◌, subst, arith}
+use Rattle.std.proofs.Common.{◌≡◌, ◌≢◌, ℕ, ◌+◌, ◌<◌, List, [], ◌∷◌, ◌++◌, length, length-append, Bool, true, false, refl, sym, ap, ◌∙◌, subst, arith}
 use Rattle.std.specs.Prelude.{nat_lt, slice_get, if◌then◌else◌, Option, Some, None}
 use Rattle.std.specs.Option.{option_map}
-use Rattle.std.proofs.lemmas.Option.{slice_get-get_or, slice_get_within}
+use Rattle.std.proofs.lemmas.Option.{slice_get-get_or}
 use Rattle.std.proofs.lemmas.List.{get_or_append_left}
 use Rattle.clover_words.specs.declared.pool.Pool.{Pool}
 use Rattle.clover_words.specs.declared.setup.Setup.{Setup}
 use Rattle.clover_words.specs.declared.word.Buffer.{Buffer}
 use Rattle.clover_words.specs.Tag.{TagParts, IsTag, tag_number, home, age}
-use Rattle.clover_words.specs.Version.{buffer_at}
 use Rattle.clover_words.proofs.Versions.{buffer_tag, age_tag}
 use Rattle.clover_map.specs.declared.call.Entry.{Entry}
 use Rattle.clover_port.specs.Told.{Open, Made}
 use Rattle.clover_rule.specs.Asks.{IsAt}
-use Rattle.clover_rule.specs.Content.{inside, InRange}
+use Rattle.clover_rule.specs.Content.{InRange}
 use Rattle.clover_rule.specs.Lists.{Within}
 use Rattle.clover_rule.specs.Told.{Facts}
-use Rattle.clover_rule.specs.Views.{book, find_book, root_at}
+use Rattle.clover_rule.specs.Views.{book, find_book}
 use Rattle.clover_rule.specs.declared.view.BookLine.{BookLine}
 use Rattle.clover_rule.specs.declared.view.BufferState.TheVariants.{Out as ViewOut, Bound as ViewBound}
 use Rattle.clover_rule.specs.declared.view.Role.TheVariants.{Serving}
 use Rattle.clover_rule.specs.declared.view.ServerTask.TheVariants.{Idle}
 use Rattle.clover_rule.specs.declared.view.View.{View}
-use Rattle.clover_alloc.specs.Ledger.{Ledger, IsLedger, buffer_of_tag, with_line, book as line_of}
+use Rattle.clover_alloc.specs.Ledger.{Ledger, IsLedger, with_line, book as line_of}
 use Rattle.clover_alloc.specs.Lines.{line}
-use Rattle.clover_alloc.specs.declared.line.Place.TheVariants.{Bound, Out}
+use Rattle.clover_alloc.specs.declared.line.Place.TheVariants.{Bound}
 use Rattle.clover_dir.specs.Directory.{Bindings, root_of, with_binding}
-use Rattle.clover_dir.specs.Holding.{BindHolds, IsDirectoryOf}
-use Rattle.clover_dir.specs.Task.{UnderWay, after, bind_on, bind_step, binding_of, key_length, staged}
+use Rattle.clover_dir.specs.Holding.{IsDirectoryOf}
+use Rattle.clover_dir.specs.Task.{UnderWay, after, bind_on, bind_step, key_length, staged}
 use Rattle.clover_dir.specs.declared.stage.Stage.{Stage}
 use Rattle.clover_dir.specs.declared.stage.Stage.TheVariants.{Tombstone, FlushedTombstone, Key, FlushedKey, Root, FlushedRoot, Count, Over}
 use Rattle.clover_server.specs.Going.{books_bound}
-use Rattle.clover_server.specs.Holding.{Agrees, AreBooksOf, HasOut, IsSweptBy, WorkHolds, if_before, seen_book}
+use Rattle.clover_server.specs.Holding.{Agrees, AreBooksOf, IsSweptBy, WorkHolds, if_before, seen_book}
 use Rattle.clover_server.specs.Server.{ServerState}
 use Rattle.clover_server.specs.declared.work.Unfinished.{Unfinished}
-use Rattle.clover_server.specs.declared.work.Work.{Work}
 use Rattle.clover_server.specs.declared.work.Work.TheVariants.{Binding}
-use Rattle.clover_server.proofs.Lines.{SameBooks, SameBut, same_with_view, same_with_line}
+use Rattle.clover_server.proofs.Lines.{SameBooks, same_with_view, same_with_line}
 
 -- behind its first access a binding has nothing taken that the view does not know of
 none_before : (n : ℕ) (t : TagParts) (at : Stage) → if_before (after n at) t ≡ []

@@ -1,5 +1,5 @@
 -- What the server owes once its task's access was made or refused: the books are where the task's end asks them, the answer is that of the task, and the view and the server agree.
-use Rattle.std.proofs.Common.{◌≡◌, ◌≢◌, ℕ, List, [], Bool, true, false, refl, sym, ap, ◌∙◌, subst}
+use Rattle.std.proofs.Common.{◌≡◌, ℕ, [], Bool, false, refl, sym, ap, ◌∙◌, subst}
 use Rattle.std.specs.Prelude.{Option, Some, None}
 use Rattle.clover_words.specs.declared.pool.Pool.{Pool}
 use Rattle.clover_words.specs.declared.setup.Setup.{Setup}
@@ -11,13 +11,13 @@ use Rattle.clover_rule.specs.Words.{next_of}
 use Rattle.clover_rule.specs.declared.view.View.{View}
 use Rattle.clover_alloc.specs.Ledger.{Ledger, IsLedger}
 use Rattle.clover_dir.specs.Directory.{Bindings}
-use Rattle.clover_dir.specs.Task.{UnderWay, bind_on, bind_step, staged as bind_staged}
+use Rattle.clover_dir.specs.Task.{UnderWay, bind_step, staged as bind_staged}
 use Rattle.clover_dir.specs.declared.stage.Stage.{Stage as BindStage}
 use Rattle.clover_dir.specs.declared.stage.Stage.TheVariants.{Tombstone, FlushedTombstone, Key, FlushedKey, Root, FlushedRoot, Count, Over as BindOver}
-use Rattle.clover_recycle.specs.Recycling.{RecycleState, recycle_step, goes_on, answer_to, looked, look_answer, staged}
+use Rattle.clover_recycle.specs.Recycling.{RecycleState, recycle_step, answer_to, looked, look_answer, staged}
 use Rattle.clover_recycle.specs.declared.stage.Stage.{Stage}
 use Rattle.clover_recycle.specs.declared.stage.Stage.TheVariants.{AtVersion, AtLink, AtRoot, AtFlushedRoot, AtPass, AtFree, Over}
-use Rattle.clover_server.specs.Going.{work_step, work_on, directory_on, outcome_of, bind_outcome, recycle_outcome, at_last, OnMade, OnRefused, taken_in, turn_of, server_step, went, answer_of, refused}
+use Rattle.clover_server.specs.Going.{work_step, work_on, directory_on, outcome_of, bind_outcome, recycle_outcome, OnMade, OnRefused, taken_in, turn_of, server_step, went, answer_of, refused}
 use Rattle.clover_server.specs.Holding.{Agrees, WorkLeaves}
 use Rattle.clover_server.specs.Server.{ServerState}
 use Rattle.clover_server.specs.Steps.{OnAccess}
@@ -25,11 +25,10 @@ use Rattle.clover_server.specs.Told.{CanTake, AreTags}
 use Rattle.clover_server.specs.declared.outcome.Outcome.{Outcome}
 use Rattle.clover_server.specs.declared.outcome.Outcome.TheVariants.{Going, Unlinked, Recycled, Bound, Unreached}
 use Rattle.clover_server.specs.declared.turn.ServerTurn.{ServerTurn}
-use Rattle.clover_server.specs.declared.work.Unfinished.{Unfinished}
 use Rattle.clover_server.specs.declared.work.Work.{Work}
 use Rattle.clover_server.specs.declared.work.Work.TheVariants.{Binding, Recycling}
 use Rattle.clover_server.proofs.Binding.{bind_goes, bind_ends}
-use Rattle.clover_server.proofs.Outcomes.{made_so, refused_so, on_access, either_way}
+use Rattle.clover_server.proofs.Outcomes.{made_so, on_access, either_way}
 use Rattle.clover_server.proofs.Recycling.{recycle_goes, recycle_stays, recycle_ends, next_line_out, root_line_still}
 
 module _ (p : Pool) (setup : Setup) (books : Ledger) (d : Bindings) (sweep : Option ℕ) (left : Bool) where

@@ -1,9 +1,9 @@
 -- That the view and the server agree behind an access of a recycling, and where its end finds the buffers.
 use Prim.Native.Nat.{suc}
-use Rattle.std.proofs.Common.{◌≡◌, ◌≢◌, ℕ, ◌+◌, ◌/◌, ◌%◌, ◌<◌, ◌≤◌, List, [], ◌∷◌, ◌++◌, length, Bool, true, false, cond, eqb, refl, sym, ap, ◌∙◌, inl, inr, ⊎_elim, subst, arith, eq-eqb, ne_eqb}
+use Rattle.std.proofs.Common.{◌≡◌, ◌≢◌, ℕ, ◌+◌, ◌/◌, ◌%◌, ◌<◌, ◌≤◌, List, [], ◌∷◌, ◌++◌, length, Bool, true, false, cond, eqb, refl, sym, ap, ◌∙◌, inr, ⊎_elim, subst, arith, eq-eqb, ne_eqb}
 use native.Mathlib.Decide.{ℕ_discrete}
 use mathlib.Core.Logic.{dite}
-use Rattle.std.specs.Prelude.{nat_eq, if◌then◌else◌, slice_get, Option, Some, None}
+use Rattle.std.specs.Prelude.{nat_eq, if◌then◌else◌, Option, Some, None}
 use Rattle.std.specs.Option.{option_map}
 use Rattle.std.proofs.lemmas.List.{get_or-set_same, get_or-set_other, get_or_past}
 use Rattle.std.proofs.lemmas.Bool.{cases_lt}
@@ -12,25 +12,22 @@ use Rattle.clover_words.specs.declared.setup.Setup.{Setup}
 use Rattle.clover_words.specs.declared.word.Buffer.{Buffer}
 use Rattle.clover_words.specs.Place.{IsBuffer}
 use Rattle.clover_words.specs.Tag.{TagParts, IsTag, tag_number, home, age}
-use Rattle.clover_words.specs.Version.{buffer_at}
 use Rattle.clover_words.proofs.Versions.{buffer_tag, age_tag}
-use Rattle.clover_map.specs.declared.call.Entry.{Entry}
 use Rattle.clover_port.specs.Told.{Open, Made}
 use Rattle.clover_rule.specs.Asks.{IsAt}
-use Rattle.clover_rule.specs.Content.{inside, InRange}
+use Rattle.clover_rule.specs.Content.{InRange}
 use Rattle.clover_rule.specs.Learned.{looked as showed, counted}
 use Rattle.clover_rule.specs.Lists.{Within}
-use Rattle.clover_rule.specs.Memory.{link, word}
+use Rattle.clover_rule.specs.Memory.{word}
 use Rattle.clover_rule.specs.Server.{waiting_name}
-use Rattle.clover_rule.specs.Steps.{Step, ReadVersion, act_of}
-use Rattle.clover_rule.specs.Told.{Facts, behind_root}
+use Rattle.clover_rule.specs.Steps.{ReadVersion, act_of}
+use Rattle.clover_rule.specs.Told.{behind_root}
 use Rattle.clover_rule.proofs.Ties.{buffer_in}
 use Rattle.clover_rule.specs.Views.{book, find_book, find_root, root_at, free_or_worn}
-use Rattle.clover_rule.specs.Words.{next_of, root_of as root_in_word}
+use Rattle.clover_rule.specs.Words.{root_of as root_in_word}
 use Rattle.clover_rule.specs.declared.view.BookLine.{BookLine}
 use Rattle.clover_rule.specs.declared.view.BufferState.TheVariants.{Out as ViewOut, Bound as ViewBound, Worn as ViewWorn, Free as ViewFree}
 use Rattle.clover_rule.specs.declared.view.Role.TheVariants.{Serving}
-use Rattle.clover_rule.specs.declared.view.ServerTask.{ServerTask}
 use Rattle.clover_rule.specs.declared.view.ServerTask.TheVariants.{Idle}
 use Rattle.clover_rule.specs.declared.view.View.{View}
 use Rattle.clover_alloc.specs.Calls.{next_line}
@@ -42,17 +39,13 @@ use Rattle.clover_alloc.specs.declared.line.Place.TheVariants.{Free, Worn, Bound
 use Rattle.clover_alloc.proofs.LedgerLemmas.{HasLines-with_line, book-with_line_other}
 use Rattle.clover_dir.specs.Directory.{Bindings, root_of, with_root}
 use Rattle.clover_dir.specs.Holding.{IsDirectoryOf}
-use Rattle.clover_recycle.specs.Recycling.{RecycleState, recycle_step, unfinished, staged, goes_on, answer_to, looked, look_answer}
+use Rattle.clover_recycle.specs.Recycling.{RecycleState, recycle_step, unfinished, staged}
 use Rattle.clover_recycle.specs.declared.stage.Stage.{Stage}
 use Rattle.clover_recycle.specs.declared.stage.Stage.TheVariants.{AtVersion, AtLink, AtRoot, AtFlushedRoot, AtPass, AtFree, Over}
-use Rattle.clover_server.specs.Going.{books_bound, books_moved, recycle_outcome}
-use Rattle.clover_server.specs.Holding.{Agrees, AreBooksOf, IsSweptBy, WorkHolds, WorkLeaves, seen_book}
+use Rattle.clover_server.specs.Going.{books_bound, books_moved}
+use Rattle.clover_server.specs.Holding.{Agrees, AreBooksOf, IsSweptBy, WorkHolds, seen_book}
 use Rattle.clover_server.specs.Server.{ServerState}
-use Rattle.clover_server.specs.Told.{CanTake, AreTags}
-use Rattle.clover_server.specs.declared.outcome.Outcome.{Outcome}
-use Rattle.clover_server.specs.declared.outcome.Outcome.TheVariants.{Going, Unlinked, Recycled}
 use Rattle.clover_server.specs.declared.work.Unfinished.{Unfinished}
-use Rattle.clover_server.specs.declared.work.Work.{Work}
 use Rattle.clover_server.specs.declared.work.Work.TheVariants.{Recycling}
 use Rattle.clover_server.proofs.Lines.{SameBooks, same_with_line, tag_line}
 use Rattle.clover_server.proofs.Binding.{books_of, ranged_of, swept_kept}

@@ -14,14 +14,13 @@ use Rattle.clover_rule.specs.Words.{next_of, root_of as root_in_word}
 use Rattle.clover_rule.specs.declared.view.View.{View}
 use Rattle.clover_alloc.specs.Ledger.{total_of, count_of}
 use Rattle.clover_alloc.specs.declared.line.Place.TheVariants.{Bound, Worn, Out}
-use Rattle.clover_alloc.specs.Taking.{IsBalanced}
 use Rattle.clover_dir.specs.Directory.{root_of}
 use Rattle.clover_recycle.specs.Recycling.{look_answer}
 use Rattle.clover_server.specs.Going.{server_step, went, answer_of, refused, recycle_outcome, taken_in, turn_of}
 use Rattle.clover_server.specs.Holding.{Agrees}
 use Rattle.clover_server.specs.Looking.{position, free_in, room_of, lacks, swept_or, or_full}
 use Rattle.clover_server.specs.Server.{ServerState}
-use Rattle.clover_server.specs.Steps.{Due, Finishes, Sweeps, Recycles, Binds, Answers, WantStep, RecycleStep, FinishStep, OnAccess, Begins, or_finish, by_room, stock_due, recycle_due, ended, sweeping, recycling, binding, swept, swept_on, swept_turn, all_swept, ended_if, full_if, full_turn, own_turn, is_left, want_after, want_turn}
+use Rattle.clover_server.specs.Steps.{Due, Finishes, Sweeps, Recycles, Binds, Answers, WantStep, RecycleStep, FinishStep, OnAccess, Begins, or_finish, by_room, stock_due, recycle_due, ended, sweeping, recycling, swept, swept_on, swept_turn, all_swept, ended_if, full_if, full_turn, own_turn, is_left}
 use Rattle.clover_server.specs.Told.{IsFull, IfFull}
 use Rattle.clover_server.specs.declared.due.Room.{Room}
 use Rattle.clover_server.specs.declared.due.Room.TheVariants.{Swept, Full as NoRoom, Free as HasRoom}

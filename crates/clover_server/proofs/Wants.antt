@@ -1,8 +1,7 @@
 -- That the view and the server agree where a want has ended or begun something, and what a want finds.
-use Rattle.std.proofs.Common.{◌≡◌, ◌≢◌, ℕ, zero, suc, ◌+◌, ◌-◌, ◌^◌, ◌<◌, ◌≤◌, min, ◌&&◌, ◌⊎◌, List, [], ◌∷◌, length, Bool, true, false, not, refl, sym, ap, ◌∙◌, inl, inr, ⊎_elim, subst, arith}
-use Rattle.std.specs.Prelude.{nat_lt, nat_eq, slice_get, if◌then◌else◌, Option, Some, None, IsSome, IfSome}
+use Rattle.std.proofs.Common.{◌≡◌, ℕ, zero, suc, ◌+◌, ◌-◌, ◌^◌, ◌<◌, ◌≤◌, min, ◌⊎◌, List, [], ◌∷◌, length, true, false, refl, sym, ap, ◌∙◌, inl, inr, ⊎_elim, subst, arith}
+use Rattle.std.specs.Prelude.{slice_get, Option, Some, None, IsSome, IfSome}
 use Rattle.std.specs.Option.{option_map, is_some}
-use Rattle.std.proofs.lemmas.Bool.Decides.{nat_tests}
 use Rattle.std.proofs.lemmas.Option.{slice_get_within}
 use Rattle.clover_words.specs.declared.pool.Pool.{Pool}
 use Rattle.clover_words.specs.declared.setup.Setup.{Setup}
@@ -11,38 +10,27 @@ use Rattle.clover_words.specs.Place.{IsBuffer}
 use Rattle.clover_words.specs.Tag.{TagParts, IsTag, tag_number, home, age}
 use Rattle.clover_words.specs.Version.{buffer_at}
 use Rattle.clover_words.proofs.Versions.{buffer_tag, age_tag}
-use Rattle.clover_port.specs.Told.{Open, Made}
 use Rattle.clover_rule.specs.Content.{inside}
-use Rattle.clover_rule.specs.Learned.{looked as showed, counted}
 use Rattle.clover_rule.specs.Lists.{Within}
-use Rattle.clover_rule.specs.Memory.{link, word}
-use Rattle.clover_rule.specs.Steps.{ReadVersion, act_of}
-use Rattle.clover_rule.specs.Views.{book, find_book, book_at}
-use Rattle.clover_rule.specs.Words.{next_of, root_of as root_in_word}
+use Rattle.clover_rule.specs.Views.{book, book_at}
 use Rattle.clover_rule.specs.declared.view.BufferState.TheVariants.{Free as ViewFree}
 use Rattle.clover_rule.specs.declared.view.View.{View}
 use Rattle.clover_rule.proofs.Keeping.{inside_of}
 use Rattle.clover_rule.proofs.Ties.{buffer_same}
-use Rattle.clover_alloc.specs.Ledger.{Ledger, IsLedger, buffer_of_tag, with_line, total_of, book as line_of}
+use Rattle.clover_alloc.specs.Ledger.{Ledger, IsLedger, buffer_of_tag, total_of, book as line_of}
 use Rattle.clover_alloc.specs.Lines.{line}
 use Rattle.clover_alloc.specs.Taking.{IsBalanced, with_out}
 use Rattle.clover_alloc.specs.declared.line.Place.TheVariants.{Free, Out}
 use Rattle.clover_alloc.proofs.LedgerLemmas.{book-with_line_same, book-with_line_other}
 use Rattle.clover_dir.specs.Directory.{Bindings, IsBound, root_of}
 use Rattle.clover_dir.specs.Holding.{MayEnter}
-use Rattle.clover_recycle.specs.Recycling.{look_answer}
 use Rattle.clover_recycle.specs.Sweeping.{after_turn}
 use Rattle.clover_recycle.specs.declared.turn.RecycleTurn.TheVariants.{Unlinked as WasUnlinked}
-use Rattle.clover_server.specs.Going.{recycle_outcome, turn_of, went, answer_of}
 use Rattle.clover_server.specs.Holding.{Agrees, IsSweptBy, seen_book}
-use Rattle.clover_server.specs.Looking.{position, free_in, room_of, lacks, swept_or, or_full}
+use Rattle.clover_server.specs.Looking.{position, free_in}
 use Rattle.clover_server.specs.Server.{ServerState}
-use Rattle.clover_server.specs.Steps.{Due, Finishes, or_finish, ended, sweeping, recycling, binding, swept_on, swept, swept_turn, all_swept, ended_if, full_if, full_turn, OnAccess}
-use Rattle.clover_server.specs.Told.{IsFull, IfFull}
-use Rattle.clover_server.specs.declared.due.Room.{Room}
-use Rattle.clover_server.specs.declared.due.Room.TheVariants.{Swept, Full as NoRoom, Free as HasRoom}
-use Rattle.clover_server.specs.declared.turn.ServerTurn.{ServerTurn}
-use Rattle.clover_server.specs.declared.turn.ServerTurn.TheVariants.{More, Ready, Unlinked, Recycled, Full, NoSlot, Unreached}
+use Rattle.clover_server.specs.Steps.{Due, Finishes, or_finish, ended, sweeping, recycling, binding, swept_on}
+use Rattle.clover_server.specs.Told.{IsFull}
 use Rattle.clover_server.specs.declared.work.Unfinished.{Unfinished}
 
 -- an unfinished task comes first, and only that

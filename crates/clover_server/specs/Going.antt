@@ -1,5 +1,5 @@
 -- The server's unfinished task: which step its next access is, what that access comes to, and what it makes of the server.
-use Rattle.std.specs.Prelude.{ℕ, Bool, true, Option, Some, None}
+use Rattle.std.specs.Prelude.{ℕ, true, Option, Some, None}
 use Rattle.clover_words.specs.Tag.{TagParts}
 use Rattle.clover_alloc.specs.Calls.{next_line}
 use Rattle.clover_alloc.specs.Ledger.{Ledger, with_line, buffer_of_tag}

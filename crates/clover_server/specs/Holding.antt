@@ -1,7 +1,6 @@
 -- What every call of the server stands on: that its port's view is this server's books, directory and unfinished task.
 use Rattle.std.specs.Prelude.{◌≡◌, ◌≢◌, ℕ, ◌<◌, ◌≤◌, true, List, [], ◌∷◌, ◌++◌, length, map, slice_get, Option, Some, None}
 use Rattle.clover_words.specs.declared.pool.Pool.{Pool}
-use Rattle.clover_words.specs.Place.{IsBuffer}
 use Rattle.clover_words.specs.Tag.{TagParts, IsTag, tag_number, home}
 use Rattle.clover_words.specs.Version.{buffer_at}
 use Rattle.clover_rule.specs.Asks.{IsAt}
@@ -20,11 +19,9 @@ use Rattle.clover_alloc.specs.declared.line.Place.{Place}
 use Rattle.clover_alloc.specs.declared.line.Place.TheVariants.{Free, Worn, Bound, Out}
 use Rattle.clover_dir.specs.Directory.{Bindings, IsBound, root_of}
 use Rattle.clover_dir.specs.Holding.{BindHolds, IsDirectoryOf}
-use Rattle.clover_dir.specs.Task.{UnderWay}
 use Rattle.clover_dir.specs.declared.stage.Stage.{Stage}
 use Rattle.clover_dir.specs.declared.stage.Stage.TheVariants.{Tombstone, Over}
 use Rattle.clover_recycle.specs.Holding.{RecycleHolds}
-use Rattle.clover_recycle.specs.Recycling.{RecycleState}
 use Rattle.clover_server.specs.Server.{ServerState}
 use Rattle.clover_server.specs.declared.outcome.Outcome.{Outcome}
 use Rattle.clover_server.specs.declared.outcome.Outcome.TheVariants.{Going, Unlinked, Recycled, Bound as WasBound, Unreached}

@@ -1,5 +1,5 @@
 -- How a server comes to agree with its view, and that it does so again once a batch is handed over.
-use Rattle.std.specs.Prelude.{◌≡◌, [], List, map, Option, None}
+use Rattle.std.specs.Prelude.{◌≡◌, [], List, map, None}
 use Rattle.clover_words.specs.declared.pool.Pool.{Pool}
 use Rattle.clover_words.specs.declared.setup.Setup.{Setup}
 use Rattle.clover_words.specs.declared.word.Buffer.{Buffer}

@@ -1,5 +1,5 @@
 -- What a want finds: a key's slot and the lowest unbound slot in the directory, and whether a buffer is free or the sweep has a binding left.
-use Rattle.std.specs.Prelude.{◌≡◌, ℕ, ◌<◌, ◌↔◌, nat_lt, nat_eq, Bool, if◌then◌else◌, List, slice_get, Option, Some, None, IsNone, IfSome}
+use Rattle.std.specs.Prelude.{ℕ, ◌<◌, ◌↔◌, nat_lt, nat_eq, Bool, if◌then◌else◌, List, slice_get, Option, Some, None, IsNone, IfSome}
 use Rattle.clover_alloc.specs.Ledger.{count_of}
 use Rattle.clover_alloc.specs.declared.line.Place.TheVariants.{Free}
 use Rattle.clover_dir.specs.Directory.{Bindings, IsBound}

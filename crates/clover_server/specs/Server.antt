@@ -1,7 +1,6 @@
 -- The metadata server as contracts see it.
-use Rattle.std.specs.Prelude.{ℕ, Bool, true, false, Option, Some, None, [], ◌∷◌, List}
+use Rattle.std.specs.Prelude.{ℕ, Option, None}
 use Rattle.clover_words.specs.declared.setup.Setup.{Setup}
-use Rattle.clover_words.specs.Tag.{TagParts}
 use Rattle.clover_alloc.specs.Ledger.{Ledger}
 use Rattle.clover_dir.specs.Directory.{Bindings}
 use Rattle.clover_server.specs.declared.work.Unfinished.{Unfinished}

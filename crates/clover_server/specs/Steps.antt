@@ -1,5 +1,5 @@
 -- What is due of a step call, and what the call makes of the server and answers: exactly this, and nothing else.
-use Rattle.std.specs.Prelude.{◌≡◌, ℕ, ◌+◌, nat_lt, nat_eq, ◌&&◌, Bool, true, false, not, if◌then◌else◌, List, length, Option, Some, None}
+use Rattle.std.specs.Prelude.{◌≡◌, ℕ, nat_lt, nat_eq, ◌&&◌, Bool, true, false, not, if◌then◌else◌, List, length, Option, Some, None}
 use Rattle.clover_words.specs.Tag.{TagParts}
 use Rattle.clover_alloc.specs.Ledger.{count_of}
 use Rattle.clover_alloc.specs.Taking.{IsBalanced, with_out}
@@ -16,7 +16,7 @@ use Rattle.clover_server.specs.Server.{ServerState}
 use Rattle.clover_server.specs.declared.due.Room.{Room}
 use Rattle.clover_server.specs.declared.due.Room.TheVariants.{Swept, Full as IsFull, Free as HasFree}
 use Rattle.clover_server.specs.declared.turn.ServerTurn.{ServerTurn}
-use Rattle.clover_server.specs.declared.turn.ServerTurn.TheVariants.{More, Ready, Unlinked, Recycled, Full, NoSlot, Unreached}
+use Rattle.clover_server.specs.declared.turn.ServerTurn.TheVariants.{More, Ready, Unlinked, Full, NoSlot, Unreached}
 use Rattle.clover_server.specs.declared.work.Unfinished.{Unfinished}
 use Rattle.clover_server.specs.declared.work.Work.{Work}
 use Rattle.clover_server.specs.declared.work.Work.TheVariants.{Binding, Recycling}

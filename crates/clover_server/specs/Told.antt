@@ -1,6 +1,6 @@
 -- What the answers of a step tell in the field's own terms, and what the server's helpers ask.
 use Rattle.std.specs.Prelude.{◌≡◌, ℕ, ◌+◌}
-use Rattle.clover_words.specs.Tag.{TagParts, IsTag}
+use Rattle.clover_words.specs.Tag.{IsTag}
 use Rattle.clover_alloc.specs.Ledger.{book, total_of, buffer_of_tag}
 use Rattle.clover_alloc.specs.Lines.{line}
 use Rattle.clover_alloc.specs.declared.line.Place.TheVariants.{Bound, Out}
@@ -11,7 +11,7 @@ use Rattle.clover_server.specs.Going.{books_bound}
 use Rattle.clover_server.specs.Looking.{free_in}
 use Rattle.clover_server.specs.Server.{ServerState}
 use Rattle.clover_server.specs.declared.outcome.Outcome.{Outcome}
-use Rattle.clover_server.specs.declared.outcome.Outcome.TheVariants.{Going, Unlinked, Recycled, Bound as WasBound, Unreached}
+use Rattle.clover_server.specs.declared.outcome.Outcome.TheVariants.{Recycled, Bound as WasBound}
 use Rattle.clover_server.specs.declared.turn.ServerTurn.{ServerTurn}
 use Rattle.clover_server.specs.declared.turn.ServerTurn.TheVariants.{Full}
 

@@ -1,10 +1,9 @@
-use Rattle.std.proofs.Common.{◌≡◌, ℕ, [], false, refl, subst, sym, ap, ◌∙◌, arith}
+use Rattle.std.proofs.Common.{◌≡◌, [], false, refl, subst, sym, ap, arith}
 use Rattle.std.specs.Prelude.{IsSome, ◌<◌, ◌≤◌}
 use Rattle.clover_alloc.specs.Ledger.{IsLedger}
-use Rattle.clover_alloc.specs.Taking.{IsBalanced}
 use Rattle.clover_server.specs.Holding.{Agrees}
 use Rattle.clover_server.specs.Server.{ServerState}
-use Rattle.clover_server.specs.Steps.{Due, Binds, WantStep, by_room}
+use Rattle.clover_server.specs.Steps.{Binds, WantStep, by_room}
 use Rattle.clover_server.specs.declared.due.Room.{Room}
 use Rattle.clover_server.specs.declared.due.Room.TheVariants.{Swept, Full, Free}
 use Rattle.clover_server.proofs.Steps.{found_room, want_began, not_full, told_full}

@@ -1,4 +1,4 @@
-use Rattle.std.proofs.Common.{◌≡◌, ℕ, true, false, subst, sym, ap, ◌∙◌}
+use Rattle.std.proofs.Common.{◌≡◌, true, false, subst, sym, ap, ◌∙◌}
 use Rattle.std.specs.Option.{is_some}
 use Rattle.clover_server.specs.Looking.{IsSlotOf, IsLowestFree}
 use Rattle.clover_server.specs.Server.{ServerState}

@@ -1,5 +1,5 @@
 use Rattle.std.proofs.Common.{◌≡◌, ℕ, [], false, subst, sym}
-use Rattle.std.specs.Prelude.{Option, Some, None}
+use Rattle.std.specs.Prelude.{Option}
 use Rattle.clover_server.specs.Holding.{Agrees}
 use Rattle.clover_server.specs.Server.{ServerState}
 use Rattle.clover_server.specs.Steps.{WantStep, unbound_due}

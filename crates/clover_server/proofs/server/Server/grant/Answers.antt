@@ -1,4 +1,4 @@
-use Rattle.std.proofs.Common.{◌≡◌, [], subst, sym, ap, ◌∙◌}
+use Rattle.std.proofs.Common.{subst, sym, ap}
 use Rattle.clover_alloc.specs.Batch.{tags_of}
 use Rattle.clover_alloc.specs.Ledger.{Ledger}
 use Rattle.clover_alloc.specs.Taking.{Given}

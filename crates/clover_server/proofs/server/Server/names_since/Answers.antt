@@ -1,4 +1,4 @@
-use Rattle.std.proofs.Common.{◌≡◌, ℕ, ◌-◌, length, length-drop, drop, take, sym, ap, ◌∙◌}
+use Rattle.std.proofs.Common.{ℕ, length-drop, drop, take, sym, ap, ◌∙◌}
 use Rattle.std.proofs.Math.Seq.{take-length}
 use Rattle.std.proofs.lemmas.List.{drop-map}
 use Rattle.clover_dir.specs.Bindings.{pair_of, pairs_of}

@@ -1,6 +1,5 @@
-use Rattle.std.proofs.Common.{◌≡◌, ℕ, List, [], false, refl, subst, sym, ap, ◌∙◌}
-use Rattle.std.specs.Prelude.{Option, Some, None, IsSome, slice_get}
-use Rattle.clover_rule.specs.Steps.{Step}
+use Rattle.std.proofs.Common.{◌≡◌, [], false, refl, subst, sym, ap, ◌∙◌}
+use Rattle.std.specs.Prelude.{None, IsSome, slice_get}
 use Rattle.clover_dir.specs.Directory.{root_of}
 use Rattle.clover_server.specs.Holding.{Agrees}
 use Rattle.clover_server.specs.Looking.{position}
