@@ -23,6 +23,7 @@ use std::alloc::Global;
 
 /// Puts out what the last event printed, with a trace the access behind those that were listed before it, and
 /// answers what is left of the event's line.
+#[inline(always)]
 fn tell<K: Sink>(
     machine: &Machine,
     listed: usize,
@@ -77,6 +78,7 @@ fn begin<K: Sink>(
 }
 
 /// The next of the steps that are left of a line. Answers what is left behind it.
+#[inline(always)]
 fn go_on<K: Sink>(
     machine: &mut Machine,
     work: Work,

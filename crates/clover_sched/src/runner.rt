@@ -27,6 +27,7 @@ pub struct Advance {
 }
 
 // Whether a begin was turned away, by what it came to.
+#[inline(always)]
 fn is_turned_away(note: &Note) -> bool
     ensures { IsTrue result ↔ IsTurnedAway note.now }
 {
@@ -37,6 +38,7 @@ fn is_turned_away(note: &Note) -> bool
 }
 
 // An event behind which nothing of its line is left.
+#[inline(always)]
 fn last_of(actor: u32, note: Note) -> Advance
     ensures note { result.note ≡ note }
     ensures left { result.left ≡ Work.Steps actor 0 }
@@ -84,6 +86,7 @@ pub fn begin_line(machine: &mut Machine, line: Line) -> Result<Option<Advance>, 
 /// left prints nothing, and however much that is, no time is spent on it.
 ///
 /// `OutOfMemory` for want of memory, and then nothing has happened.
+#[inline(always)]
 pub fn work_on(machine: &mut Machine, work: Work) -> Result<Option<Advance>, OutOfMemory>
     requires { 1 ≤ actor_in work }
     ensures came { IfOk result (Advances machine.old machine.new (steps_line work)) }
