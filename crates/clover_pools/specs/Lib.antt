@@ -1,2 +1,5 @@
 pub mod Recycling
 pub mod Small
+pub mod Calls
+pub mod Grants
+pub mod Turns

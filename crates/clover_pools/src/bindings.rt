@@ -1,10 +1,12 @@
 // The metadata server binds a key over a plain pool, by one access a step; each of them is refused once and then made.
-ghost use Rattle.std.specs.Prelude.{◌≡◌, ◌≢◌, OnOk, IfOk};
+ghost use Rattle.std.specs.Prelude.{◌≡◌, ◌≢◌, [], OnOk, IfOk};
 ghost use Rattle.clover_dir.specs.Directory.{nothing_bound};
-ghost use Rattle.clover_dir.specs.Going.{Answers, OnGoing};
-ghost use Rattle.clover_dir.specs.Holding.{BindHolds};
+ghost use Rattle.clover_dir.specs.Going.{Answers, OnBound, OnGoing};
+ghost use Rattle.clover_dir.specs.Holding.{BindHolds, IsDirectoryOf};
 ghost use Rattle.clover_dir.specs.declared.stage.Stage.TheVariants.{Over};
 ghost use Rattle.clover_plain.specs.Plain.{first_view, view_at};
+ghost use Rattle.clover_rule.specs.Asks.{IsAt};
+ghost use Rattle.clover_rule.specs.declared.view.ServerTask.TheVariants.{Idle};
 ghost use Rattle.clover_pools.specs.Small.{HasSmallNumbers, IsReady, IsSmall};
 
 use clover_dir::{BindTask, BindTurn, Directory};
@@ -17,7 +19,7 @@ use std::process::Abort;
 use std::test::Fail;
 
 // One node of four buffers with two value words each, two slots and one client.
-fn small_setup() -> Result<Setup, Fail>
+pub(crate) fn small_setup() -> Result<Setup, Fail>
     ensures { IfOk result HasSmallNumbers }
 {
     let shape = Pool::check(1, 4, 2, 2, 3)?;
@@ -25,17 +27,18 @@ fn small_setup() -> Result<Setup, Fail>
 }
 
 // The pool as its run begins.
-fn begun_pool(alloc: Global, setup: Setup) -> Result<PlainPool, OutOfMemory>
+pub(crate) fn begun_pool(alloc: Global, setup: Setup) -> Result<PlainPool, OutOfMemory>
     requires { HasSmallNumbers setup }
     ensures ready { IfOk result (λ pool. IsReady pool × IsSmall pool) }
     ensures setup { IfOk result (λ pool. pool.setup ≡ setup) }
+    ensures entries { IfOk result (λ pool. pool.entries ≡ []) }
     ensures views { IfOk result (λ pool. (view_at pool 0 ≡ first_view pool.setup 0) × (view_at pool 1 ≡ first_view pool.setup 1)) }
 {
     PlainPool::make(alloc, setup, true)
 }
 
 // The binding's next access through a port of the server, or a refused one.
-fn bind_next(
+pub(crate) fn bind_next(
     pool: &mut PlainPool,
     task: &mut BindTask,
     directory: &mut Directory,
@@ -49,6 +52,9 @@ fn bind_next(
     ensures small { OnOk result (IsSmall pool.new) }
     ensures holds { IfOk result (λ turn. OnGoing turn (BindHolds pool.new.setup.pool task.new directory.new (view_at pool.new 1))) }
     ensures answers { IfOk result (Answers task.old task.new directory.old directory.new) }
+    ensures same { OnOk result ((pool.new.setup ≡ pool.old.setup) × (pool.new.entries ≡ pool.old.entries)) }
+    ensures client { OnOk result (view_at pool.new 0 ≡ view_at pool.old 0) }
+    ensures bound { IfOk result (λ turn. OnBound turn (IsAt (view_at pool.new 1) Idle × IsDirectoryOf pool.new.setup.pool directory.new (view_at pool.new 1))) }
 {
     pool.reserve()?;
     let mut port = pool.port(Actor::Server, refuse);

@@ -1,8 +1,11 @@
 //! Tests that cross crates below the machine: the tasks of the metadata server and the calls of a client, each by its own
-//! crate's calls, over one plain pool with a server. It has no code besides.
+//! crate's calls, over one plain pool with a server. Besides it has what they tell apart of a node's turns.
 #![tactic(auto)]
 
 #[cfg(test)]
 mod bindings;
 #[cfg(test)]
 mod recycling;
+#[cfg(test)]
+mod served;
+mod turns;

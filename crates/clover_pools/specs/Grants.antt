@@ -1,0 +1,54 @@
+-- A small pool between the run's begin and the client's first call: the server hands over a batch, binds a key, and hands over its name.
+use Rattle.std.specs.Prelude.{◌≡◌, ℕ, List, [], ◌∷◌}
+use Rattle.clover_rule.specs.Asks.{IsAt}
+use Rattle.clover_rule.specs.Moves.{given, giving}
+use Rattle.clover_rule.specs.declared.view.ServerTask.TheVariants.{Idle}
+use Rattle.clover_rule.specs.declared.view.View.{View}
+use Rattle.clover_plain.specs.Plain.{Plain, first_view, view_at}
+use Rattle.clover_words.specs.declared.setup.Setup.{Setup}
+use Rattle.clover_pools.specs.Small.{IsReady, IsSmall}
+
+-- nothing was entered yet
+pub record IsNew (p : Plain) : Type 0 where
+  pub ready : IsReady p
+  pub small : IsSmall p
+  pub entries : p.entries ≡ []
+
+-- the run begins
+pub record IsBegun (p : Plain) : Type 0 where
+  pub new : IsNew p
+  pub client : view_at p 0 ≡ first_view p.setup 0
+  pub server : view_at p 1 ≡ first_view p.setup 1
+
+-- the first two buffers at generation 0
+abbrev pub batch : List ℕ
+batch = 0 ∷ 1048576 ∷ []
+
+-- the name of slot 0
+abbrev pub name : List (ℕ × List ℕ)
+name = (0, 97 ∷ []) ∷ []
+
+-- what the client knows once it has the batch, and once it has the name too
+abbrev pub dealt_view : Setup → View
+dealt_view s = given batch [] (first_view s 0)
+
+abbrev pub named_view : Setup → View
+named_view s = given [] name (dealt_view s)
+
+-- the client has the batch
+pub record IsDealt (p : Plain) : Type 0 where
+  pub new : IsNew p
+  pub client : view_at p 0 ≡ dealt_view p.setup
+  pub server : view_at p 1 ≡ giving batch (first_view p.setup 1)
+
+-- besides, slot 0 is bound to `a`
+pub record IsBoundOnce (p : Plain) : Type 0 where
+  pub new : IsNew p
+  pub client : view_at p 0 ≡ dealt_view p.setup
+  pub idle : IsAt (view_at p 1) Idle
+  pub directory : (view_at p 1).server.directory ≡ name
+
+-- and the client has the name
+pub record IsNamed (p : Plain) : Type 0 where
+  pub new : IsNew p
+  pub client : view_at p 0 ≡ named_view p.setup
