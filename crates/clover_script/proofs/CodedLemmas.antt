@@ -1,5 +1,5 @@
 -- coded texts
-use Rattle.std.proofs.Common.{◌≡◌, ◌/◌, ◌%◌, ◌<◌, ℕ, Bool, true, false, List, [], ◌∷◌, ◌++◌, length, cond, refl, ap, subst, sym, ◌∙◌, arith}
+use Rattle.std.proofs.Common.{◌≡◌, ◌/◌, ◌%◌, ◌<◌, ℕ, Bool, true, false, List, [], ◌∷◌, ◌++◌, cond, refl, ap, subst, sym, ◌∙◌, arith}
 use Rattle.std.proofs.lemmas.Bool.{false≢true}
 use Rattle.std.proofs.lemmas.Bool.Decides.{nat_tests}
 use Rattle.clover_script.specs.Coded.{AreBytes, coded, coded_byte, hex_digit, is_plain}
@@ -43,14 +43,14 @@ no_front true b after e = cc
 no_front false b after e = cc
 
 -- where a coded text goes on behind its first byte
-pub one_front : (b : ℕ) (after all : List ℕ) → b < 256 → AreBytes all → coded_byte b ++ after ≡ coded all → (more : List ℕ) × AreBytes more × (after ≡ coded more)
+pub one_front : (b : ℕ) (after all : List ℕ) → b < 256 → AreBytes all → coded_byte b ++ after ≡ coded all → (more : List ℕ) × AreBytes more × (after ≡ coded more) × (all ≡ b ∷ more)
 one_front b after [] h are e = absurd (no_front (is_plain b) b after (ap (λ s. s ++ after) (sym (is_spelled b)) ∙ e))
-one_front b after (c ∷ cs) h are e = (cs, are.1, (one_byte b c after (coded cs) h are.0 e).1)
+one_front b after (c ∷ cs) h are e = let r = one_byte b c after (coded cs) h are.0 e in (cs, are.1, r.1, ap (λ (x : ℕ). x ∷ cs) (sym r.0))
 
--- a text that begins with no byte's spelling is no coded text
-pub nowhere : (rest more : List ℕ) → AreBytes more → rest ≡ coded more → 0 < length rest → ((b : ℕ) (x : List ℕ) → b < 256 → rest ≡ coded_byte b ++ x → ⊥) → ⊥
-nowhere rest [] are e some none = omega (arith, ap length e)
-nowhere rest (b ∷ bs) are e some none = none b (coded bs) are.0 e
+-- a coded text that begins with no byte's spelling is that of no bytes
+pub nowhere : (rest more : List ℕ) → AreBytes more → rest ≡ coded more → ((b : ℕ) (x : List ℕ) → b < 256 → rest ≡ coded_byte b ++ x → ⊥) → more ≡ []
+nowhere rest [] are e none = refl
+nowhere rest (b ∷ bs) are e none = absurd (none b (coded bs) are.0 e)
 
 -- a coded text stands for one list of bytes
 pub one_text : (xs ys : List ℕ) → AreBytes xs → AreBytes ys → coded xs ≡ coded ys → xs ≡ ys

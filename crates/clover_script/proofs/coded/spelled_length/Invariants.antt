@@ -1,11 +1,11 @@
-use Rattle.std.proofs.Common.{◌≡◌, ◌++◌, List, ℕ, length}
+use Rattle.std.proofs.Common.{◌≡◌, ◌+◌, ◌≤◌, ◌++◌, List, ℕ, length}
 use Rattle.clover_script.specs.Coded.{AreBytes, coded}
-use Rattle.clover_script.proofs.coded.decode.Given as goal
+use Rattle.clover_script.proofs.coded.spelled_length.Given as goal
 
 abbrev pub invariant-loop-rest : goal.invariant-loop-rest
 invariant-loop-rest l = record {
-  read : l.text ≡ coded l.bytes.items ++ l.rest;
-  bytes : AreBytes l.bytes.items;
+  read : (front : List ℕ) × AreBytes front × (l.text ≡ coded front ++ l.rest) × (l.length ≡ length front);
+  size : l.length + length l.rest ≤ length l.text;
   no_other : (all : List ℕ) → AreBytes all → l.text ≡ coded all → (more : List ℕ) × AreBytes more × (l.rest ≡ coded more);
 }
 
