@@ -1,11 +1,12 @@
 -- what the parts of a line spell, read from their front
-use Rattle.std.proofs.Common.{◌≡◌, ◌<◌, ◌/◌, ◌%◌, ℕ, Bool, true, false, List, [], ◌∷◌, ◌++◌, get_or, cond, refl, sym, ap, ◌∙◌, arith, append_assoc}
+use Rattle.std.proofs.Common.{suc, ◌≡◌, ◌<◌, ◌/◌, ◌%◌, ℕ, Bool, true, false, List, [], ◌∷◌, ◌++◌, get_or, cond, refl, sym, ap, ◌∙◌, arith, append_assoc}
 use Rattle.std.specs.Prelude.{codes}
 use Rattle.std.proofs.lemmas.Bool.Decides.{nat_tests}
 use Rattle.clover_map.specs.declared.bytes.Value.{Value}
 use Rattle.clover_map.specs.declared.call.Call.{Call}
 use Rattle.clover_map.specs.declared.call.Call.TheVariants.{Get, Put, Delete, Swap}
-use Rattle.clover_script.specs.Coded.{AreBytes, coded, is_plain, hex_digit}
+use Rattle.clover_words.specs.Pack.{AreBytes}
+use Rattle.clover_script.specs.Coded.{coded, is_plain, hex_digit}
 use Rattle.clover_script.specs.Split.{Lacks}
 use Rattle.clover_script.specs.Line.{IsKey, IsWritten, IsClientCall}
 use Rattle.clover_script.specs.Text.{tag_text, value_text, call_text}
@@ -24,7 +25,7 @@ plain_lacks false b rest is lt h = (grind (arith), (grind (arith, nat_tests), (g
 -- no space stands in a coded text
 pub coded_lacks : (k : List ℕ) → AreBytes k → Lacks 32 (coded k)
 coded_lacks [] are = tt
-coded_lacks (b ∷ bs) are = plain_lacks (is_plain b) b (coded bs) refl are.0 (coded_lacks bs are.1)
+coded_lacks (b ∷ bs) are = plain_lacks (is_plain b) b (coded bs) refl (are 0) (coded_lacks bs (λ i. are (suc i)))
 
 same_value : (v w : Value) → v.flags ≡ w.flags → v.bytes ≡ w.bytes → v ≡ w
 same_value v w p q = λ i. record { flags = p i; bytes = q i }

@@ -87,7 +87,7 @@ pub record IsTallied (text : List ℕ) (s : Setup) (keys : List (List ℕ)) (cou
   pub front : List (List ℕ)
   pub said : List Spoken
   pub parts : lines_of text ≡ front ++ lines_of rest
-  pub stands : IsBefore front (begun s said keys)
+  pub so_far : IsBefore front (begun s said keys)
   pub counted : (c : ℕ) → IsActor c → slice_index counts c ≡ taken c said
   pub number : lines ≡ length front
 
@@ -114,7 +114,7 @@ tallied_first text line rest after n s t (over, all, read, number) next opens se
       front = over ++ line ∷ [];
       said = [];
       parts = one_further text line rest after over read next;
-      stands = before_first over s line all opens.0 opens.1;
+      so_far = before_first over s line all opens.0 opens.1;
       counted = λ c is. none c;
       number = simp length-append (omega (arith, number));
     } in
@@ -136,7 +136,7 @@ tallied_next text line rest after old new lines h next (inl (over, same)) =
       front = h.front ++ line ∷ [];
       said = h.said;
       parts = one_further text line rest after h.front h.parts next;
-      stands = before_over h.front old.setup h.said old.names line over h.stands;
+      so_far = before_over h.front old.setup h.said old.names line over h.so_far;
       counted = h.counted;
       number = simp length-append (omega (arith, h.number));
     } in
@@ -146,7 +146,7 @@ tallied_next text line rest after old new lines h next (inr (u, is, e, a)) =
       front = h.front ++ line ∷ [];
       said = h.said ++ u ∷ [];
       parts = one_further text line rest after h.front h.parts next;
-      stands = before_said h.front old.setup h.said old.names new.names line u h.stands is e a.named (a.slots h.stands.1.slots)
+      so_far = before_said h.front old.setup h.said old.names new.names line u h.so_far is e a.named (a.slots h.so_far.1.slots)
           (λ c one. subst (HasDealt old.setup c) (h.counted c (taker_is_actor c u is one)) (a.stock c one));
       counted = λ c actor. omega (arith, a.counted c, h.counted c actor, taken_append c h.said (u ∷ []));
       number = simp length-append (omega (arith, h.number));
@@ -162,5 +162,5 @@ pub tallied_all : (text rest : List ℕ) (t : Tally) (lines : ℕ) (o : Outline)
     → (said : List Spoken) × IsLinesOf text o.setup said o.names
 tallied_all text rest t lines o h none outlined =
     let all : lines_of text ≡ h.front = h.parts ∙ ap (λ (ls : List (List ℕ)). h.front ++ ls) (no_text rest none) ∙ append-nil h.front in
-    let made : IsLinesOf text t.setup h.said t.names = subst (λ (ls : List (List ℕ)). IsBefore ls (begun t.setup h.said t.names)) (sym all) h.stands in
+    let made : IsLinesOf text t.setup h.said t.names = subst (λ (ls : List (List ℕ)). IsBefore ls (begun t.setup h.said t.names)) (sym all) h.so_far in
     subst (λ (p : Outline). (said : List Spoken) × IsLinesOf text p.setup said p.names) (sym outlined) (h.said, made)

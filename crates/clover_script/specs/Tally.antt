@@ -7,7 +7,7 @@ use Rattle.clover_script.specs.declared.spelled.LineText.{LineText}
 use Rattle.clover_script.specs.declared.spelled.LineText.TheVariants.{Begin, Step, Finish, Call as Calls, Refuse}
 use Rattle.clover_script.specs.declared.tally.Tally.{Tally}
 use Rattle.clover_script.specs.Line.{IsActor, IsIgnored, client, Spoken, says_begin, says_step, says_finish, says_call, says_refuse, IsSpoken, line_text}
-use Rattle.clover_script.specs.Naming.{Names, NamesKey}
+use Rattle.clover_script.specs.Naming.{NamesKeys, NamesKey}
 use Rattle.clover_script.specs.Lines.{calls_in, takes, asked_takes, taken_by, taken, begun, IsUnbuiltLine}
 
 -- The counts are those of lines that say this.
@@ -61,7 +61,7 @@ BarsLine t (says_refuse a) = ⊥
 -- A line that says this makes the old tally the new one.
 pub record Adds (old : Tally) (u : Spoken) (new : Tally) : Type 0 where
   pub setup : new.setup ≡ old.setup
-  pub named : Names old.names (calls_in u) new.names
+  pub named : NamesKeys old.names (calls_in u) new.names
   pub slots : length old.names ≤ old.setup.pool.slots → length new.names ≤ old.setup.pool.slots
   pub stock : (c : ℕ) → taken_by c u ≡ 1 → HasDealt old.setup c (slice_index old.takes c)
   pub counted : (c : ℕ) → slice_index new.takes c ≡ slice_index old.takes c + taken_by c u

@@ -1,7 +1,8 @@
 // Coded texts, read and written: printable bytes stand for themselves, every other byte is a percent
 // sign and two digits. Works on bytes alone.
 ghost use Rattle.std.specs.Prelude.{◌≡◌, ◌+◌, ◌*◌, ◌<◌, ℕ, List, ◌++◌, length, IfSome, IfNone, OnOk, flat_map};
-ghost use Rattle.clover_script.specs.Coded.{AreBytes, coded, coded_byte, hex_byte, hex_digit, is_plain};
+ghost use Rattle.clover_words.specs.Pack.{AreBytes};
+ghost use Rattle.clover_script.specs.Coded.{coded, coded_byte, hex_byte, hex_digit, is_plain};
 
 use std::alloc::AllocError;
 

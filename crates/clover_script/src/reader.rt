@@ -31,12 +31,12 @@ pub fn spelled_line(line: &[u8]) -> Option<LineText>
     ensures found { IfSome result (SpellsLine line.now) }
     ensures none { IfNone result (IsNoLine line.now) }
 {
-    if let Some(words) = after_word(line, b"begin ") {
-        let (actor, call) = asked_of(words)?;
+    if let Some(rest) = after_word(line, b"begin ") {
+        let (actor, call) = asked_of(rest)?;
         return Some(LineText::Begin { actor, call });
     }
-    if let Some(words) = after_word(line, b"call ") {
-        let (actor, call) = asked_of(words)?;
+    if let Some(rest) = after_word(line, b"call ") {
+        let (actor, call) = asked_of(rest)?;
         return Some(LineText::Call { actor, call });
     }
     taskless_line(line)
@@ -47,11 +47,11 @@ fn taskless_line(line: &[u8]) -> Option<LineText>
     ensures found { IfSome result (SpellsLine line.now) }
     ensures none { IfNone result (IsNoTasklessLine line.now) }
 {
-    if let Some(words) = after_word(line, b"step ") {
-        return step_of(words);
+    if let Some(rest) = after_word(line, b"step ") {
+        return step_of(rest);
     }
-    if let Some(words) = after_word(line, b"finish ") {
-        let actor = actor_of(words)?;
+    if let Some(rest) = after_word(line, b"finish ") {
+        let actor = actor_of(rest)?;
         return Some(LineText::Finish { actor });
     }
     let actor = actor_of(after_word(line, b"refuse ")?)?;

@@ -23,8 +23,8 @@ pub fn asked_of(text: &[u8]) -> Option<(u32, CallText)>
     ensures found { IfSome result (λ p. SpellsAsked text.now p.0 p.1) }
     ensures none { IfNone result (SpellsNothingAsked text.now) }
 {
-    let (actor, words) = actor_front(text)?;
-    let call = call_of(words)?;
+    let (actor, rest) = actor_front(text)?;
+    let call = call_of(rest)?;
     Some((actor, call))
 }
 
@@ -33,16 +33,16 @@ fn call_of(text: &[u8]) -> Option<CallText>
     ensures found { IfSome result (SpellsCall text.now) }
     ensures none { IfNone result (SpellsNoCall text.now) }
 {
-    if let Some(words) = after_word(text, b"get ") {
-        let key = key_of(words)?;
+    if let Some(rest) = after_word(text, b"get ") {
+        let key = key_of(rest)?;
         return Some(CallText::Get { key });
     }
-    if let Some(words) = after_word(text, b"delete ") {
-        let key = key_of(words)?;
+    if let Some(rest) = after_word(text, b"delete ") {
+        let key = key_of(rest)?;
         return Some(CallText::Delete { key });
     }
-    if let Some(words) = after_word(text, b"put ") {
-        return put_of(words);
+    if let Some(rest) = after_word(text, b"put ") {
+        return put_of(rest);
     }
     swap_of(after_word(text, b"swap ")?)
 }
@@ -52,8 +52,8 @@ fn put_of(text: &[u8]) -> Option<CallText>
     ensures found { IfSome result (SpellsCall (codes "put " ++ text.now)) }
     ensures none { IfNone result ((k : List ℕ) (v : Value) → IsKey k → IsWritten v → text.now ≡ coded k ++ 32 ∷ value_text v → ⊥) }
 {
-    let (key, words) = key_front(text)?;
-    let value = value_of(words)?;
+    let (key, rest) = key_front(text)?;
+    let value = value_of(rest)?;
     Some(CallText::Put { key, value })
 }
 
@@ -62,9 +62,9 @@ fn swap_of(text: &[u8]) -> Option<CallText>
     ensures found { IfSome result (SpellsCall (codes "swap " ++ text.now)) }
     ensures none { IfNone result ((k : List ℕ) (e : ℕ) (v : Value) → IsKey k → e < 2 ^ 42 → IsWritten v → text.now ≡ coded k ++ 32 ∷ (tag_text e ++ 32 ∷ value_text v) → ⊥) }
 {
-    let (key, words) = key_front(text)?;
-    let (expected, words) = tag_front(words)?;
-    let value = value_of(words)?;
+    let (key, rest) = key_front(text)?;
+    let (expected, rest) = tag_front(rest)?;
+    let value = value_of(rest)?;
     Some(CallText::Swap {
         key,
         expected,

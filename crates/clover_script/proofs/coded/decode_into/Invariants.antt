@@ -1,5 +1,6 @@
 use Rattle.std.proofs.Common.{◌≡◌, ◌++◌, List, ℕ, length, take}
-use Rattle.clover_script.specs.Coded.{AreBytes, coded}
+use Rattle.clover_words.specs.Pack.{AreBytes}
+use Rattle.clover_script.specs.Coded.{coded}
 use Rattle.clover_script.proofs.coded.decode_into.Given as goal
 
 abbrev pub invariant-loop-index : goal.invariant-loop-index

@@ -1,5 +1,6 @@
 use Rattle.std.proofs.Common.{◌≡◌, ◌+◌, ◌≤◌, ◌++◌, List, ℕ, length}
-use Rattle.clover_script.specs.Coded.{AreBytes, coded}
+use Rattle.clover_words.specs.Pack.{AreBytes}
+use Rattle.clover_script.specs.Coded.{coded}
 use Rattle.clover_script.proofs.coded.spelled_length.Given as goal
 
 abbrev pub invariant-loop-rest : goal.invariant-loop-rest

@@ -5,4 +5,4 @@ use Rattle.clover_script.proofs.task.asked_of.Goals as goal
 pub returns-in_err-call-clause-none : goal.returns-in_err-call-clause-none
 returns-in_err-call-clause-none c =
     let actor = c.in_ok-actor.ensures.found in
-    if_none c.from_residual-in_err-call.result (no_asked c.args.text.now c.in_ok-actor.words.now c.in_ok-actor.actor actor.0 actor.1 c.in_err-call.ensures.none)
+    if_none c.from_residual-in_err-call.result (no_asked c.args.text.now c.in_ok-actor.rest.now c.in_ok-actor.actor actor.0 actor.1 c.in_err-call.ensures.none)
