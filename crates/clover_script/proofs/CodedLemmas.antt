@@ -1,5 +1,6 @@
 -- coded texts
-use Rattle.std.proofs.Common.{zero, suc, ◌≡◌, ◌/◌, ◌%◌, ◌<◌, ℕ, Bool, true, false, List, [], ◌∷◌, ◌++◌, cond, refl, ap, subst, sym, ◌∙◌, arith}
+use Rattle.std.proofs.Common.{zero, suc, ◌≡◌, ◌/◌, ◌%◌, ◌<◌, ℕ, Bool, true, false, List, [], ◌∷◌, ◌++◌, refl, ap, subst, sym, ◌∙◌, arith}
+use Rattle.std.specs.Prelude.{if◌then◌else◌}
 use Rattle.std.proofs.lemmas.Bool.{false≢true}
 use Rattle.std.proofs.lemmas.Bool.Decides.{nat_tests}
 use Rattle.clover_words.specs.Pack.{AreBytes}
@@ -19,7 +20,7 @@ spelled true b = b ∷ []
 spelled false b = 37 ∷ hex_digit (b / 16) ∷ hex_digit (b % 16) ∷ []
 
 is_spelled : (b : ℕ) → coded_byte b ≡ spelled (is_plain b) b
-is_spelled b = elim (is_plain b) as (λ p. cond p (b ∷ []) (37 ∷ hex_digit (b / 16) ∷ hex_digit (b % 16) ∷ []) ≡ spelled p b) [ true ↦ refl | false ↦ refl ]
+is_spelled b = elim (is_plain b) as (λ p. (if p then b ∷ [] else 37 ∷ hex_digit (b / 16) ∷ hex_digit (b % 16) ∷ []) ≡ spelled p b) [ true ↦ refl | false ↦ refl ]
 
 percent : (b : ℕ) → b ≡ 37 → is_plain b ≡ true → ⊥
 percent b e p = absurd (false≢true (subst (λ x. is_plain x ≡ true) e p))

@@ -1,9 +1,9 @@
 -- one more line of a script, for a check that reads them one behind the other
-use Rattle.std.proofs.Common.{◌≡◌, ◌<◌, ◌≤◌, ◌+◌, ℕ, Bool, true, false, List, [], ◌∷◌, ◌++◌, length, cond, refl, sym, ap, subst, ◌∙◌, inl, inr, arith, append_assoc, append-nil}
+use Rattle.std.proofs.Common.{◌≡◌, ◌<◌, ◌≤◌, ◌+◌, ℕ, Bool, true, false, List, [], ◌∷◌, ◌++◌, length, refl, sym, ap, subst, ◌∙◌, inl, inr, arith, append_assoc, append-nil}
 use Rattle.std.proofs.lemmas.List.Elements.{All-nil, All-cons, All-append}
 use Rattle.std.proofs.lemmas.Bool.Decides.{leb_tells}
 use Rattle.std.proofs.lemmas.Grind.{flat_map-append}
-use Rattle.std.specs.Prelude.{flat_map, nat_eq}
+use Rattle.std.specs.Prelude.{if◌then◌else◌, ◌==◌, flat_map}
 use Rattle.clover_words.specs.declared.setup.Setup.{Setup}
 use Rattle.clover_words.specs.Preset.{HasDealt, buffers_total}
 use Rattle.clover_map.specs.declared.call.Call.{Call}
@@ -52,7 +52,7 @@ before_first lines s l all e enough = (
   record { named = refl; slots = omega arith; stock = λ c n lt. absurd (omega (arith, lt)) },
 )
 
-takes_most : (b : Bool) (call : Call) → cond b (takes call) 0 ≤ 1
+takes_most : (b : Bool) (call : Call) → (if b then takes call else 0) ≤ 1
 takes_most true (Get k) = omega arith
 takes_most true (Put k v) = omega arith
 takes_most true (Delete k) = omega arith
@@ -60,7 +60,7 @@ takes_most true (Swap k e v) = omega arith
 takes_most false call = omega arith
 
 asked_most : (c a : ℕ) (asked : Asked) → asked_takes c a asked ≤ 1
-asked_most c a (client call) = takes_most (nat_eq a c) call
+asked_most c a (client call) = takes_most (a == c) call
 
 -- a line takes one buffer at most
 pub taken_most : (c : ℕ) (u : Spoken) → taken_by c u ≤ 1

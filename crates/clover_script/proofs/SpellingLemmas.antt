@@ -1,6 +1,6 @@
 -- what the parts of a line spell, read from their front
-use Rattle.std.proofs.Common.{suc, ◌≡◌, ◌<◌, ◌/◌, ◌%◌, ℕ, Bool, true, false, List, [], ◌∷◌, ◌++◌, get_or, cond, refl, sym, ap, ◌∙◌, arith, append_assoc}
-use Rattle.std.specs.Prelude.{codes}
+use Rattle.std.proofs.Common.{suc, ◌≡◌, ◌<◌, ◌/◌, ◌%◌, ℕ, Bool, true, false, List, [], ◌∷◌, ◌++◌, get_or, refl, sym, ap, ◌∙◌, arith, append_assoc}
+use Rattle.std.specs.Prelude.{if◌then◌else◌, codes}
 use Rattle.std.proofs.lemmas.Bool.Decides.{nat_tests}
 use Rattle.clover_map.specs.declared.bytes.Value.{Value}
 use Rattle.clover_map.specs.declared.call.Call.{Call}
@@ -18,7 +18,7 @@ pub after_same : (w x y : List ℕ) → w ++ x ≡ w ++ y → x ≡ y
 after_same [] x y e = e
 after_same (b ∷ bs) x y e = let t : bs ++ x ≡ bs ++ y = cc in after_same bs x y t
 
-plain_lacks : (p : Bool) (b : ℕ) (rest : List ℕ) → is_plain b ≡ p → b < 256 → Lacks 32 rest → Lacks 32 (cond p (b ∷ []) (37 ∷ hex_digit (b / 16) ∷ hex_digit (b % 16) ∷ []) ++ rest)
+plain_lacks : (p : Bool) (b : ℕ) (rest : List ℕ) → is_plain b ≡ p → b < 256 → Lacks 32 rest → Lacks 32 ((if p then b ∷ [] else 37 ∷ hex_digit (b / 16) ∷ hex_digit (b % 16) ∷ []) ++ rest)
 plain_lacks true b rest is lt h = (grind (arith, nat_tests), h)
 plain_lacks false b rest is lt h = (grind (arith), (grind (arith, nat_tests), (grind (arith, nat_tests), h)))
 

@@ -1,8 +1,8 @@
 -- the lines of a script that are checked so far
-use Rattle.std.proofs.Common.{◌≡◌, ◌≤◌, ◌+◌, ℕ, Bool, false, Option, Some, None, Result, Ok, Err, List, [], ◌∷◌, ◌++◌, length, cond, refl, sym, ap, subst, ◌∙◌, inl, inr, arith, append_assoc, append-nil}
+use Rattle.std.proofs.Common.{◌≡◌, ◌≤◌, ◌+◌, ℕ, Bool, false, Option, Some, None, Result, Ok, Err, List, [], ◌∷◌, ◌++◌, length, refl, sym, ap, subst, ◌∙◌, inl, inr, arith, append_assoc, append-nil}
 use Rattle.std.proofs.lemmas.List.{length-append}
 use Rattle.std.proofs.lemmas.Bool.Decides.{nat_tests}
-use Rattle.std.specs.Prelude.{All, IfOk, IfNone, IsTrue, slice_index, nat_eq}
+use Rattle.std.specs.Prelude.{if◌then◌else◌, All, IfOk, IfNone, IsTrue, slice_index, ◌==◌}
 use Rattle.clover_words.specs.declared.setup.Setup.{Setup}
 use Rattle.clover_words.specs.Preset.{HasDealt, buffers_total}
 use Rattle.clover_map.specs.declared.call.Call.{Call}
@@ -23,13 +23,13 @@ bad_pool line n None fits e bad = bad_opening (n, fits, e, bad)
 bad_pool line n (Some s) fits e bad = tt
 
 -- who takes a buffer is the client that is asked
-the_taker : (c a k : ℕ) → cond (nat_eq a c) k 0 ≡ 1 → (a ≡ c) × (k ≡ 1)
+the_taker : (c a k : ℕ) → (if a == c then k else 0) ≡ 1 → (a ≡ c) × (k ≡ 1)
 the_taker c a k h = (grind (arith, nat_tests), grind (arith, nat_tests))
 
-own_take : (a k : ℕ) → cond (nat_eq a a) k 0 ≡ k
+own_take : (a k : ℕ) → (if a == a then k else 0) ≡ k
 own_take a k = grind (arith, nat_tests)
 
-its_stock : (old new : Tally) (a : ℕ) (call : Call) → AdmitsCall old a call new → (c : ℕ) → cond (nat_eq a c) (takes call) 0 ≡ 1 → HasDealt old.setup c (slice_index old.takes c)
+its_stock : (old new : Tally) (a : ℕ) (call : Call) → AdmitsCall old a call new → (c : ℕ) → (if a == c then takes call else 0) ≡ 1 → HasDealt old.setup c (slice_index old.takes c)
 its_stock old new a call h c one =
     let r = the_taker c a (takes call) one in
     subst (λ (n : ℕ). HasDealt old.setup n (slice_index old.takes n)) r.0 (h.stock r.1)

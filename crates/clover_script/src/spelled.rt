@@ -73,27 +73,25 @@ impl CallText<'_> {
         let (call, written) = match self {
             CallText::Get { key } => (Call::Get { key }, 0),
             CallText::Delete { key } => (Call::Delete { key }, 0),
-            CallText::Put { key, value } => {
-                let written = value.written;
-                let value = value.decode(alloc)?;
-                (Call::Put { key, value }, written)
-            }
+            CallText::Put { key, value } => (
+                Call::Put {
+                    key,
+                    value: value.decode(alloc)?,
+                },
+                value.written,
+            ),
             CallText::Swap {
                 key,
                 expected,
                 value,
-            } => {
-                let written = value.written;
-                let value = value.decode(alloc)?;
-                (
-                    Call::Swap {
-                        key,
-                        expected,
-                        value,
-                    },
-                    written,
-                )
-            }
+            } => (
+                Call::Swap {
+                    key,
+                    expected,
+                    value: value.decode(alloc)?,
+                },
+                value.written,
+            ),
         };
         Ok(Task::Client { call, written })
     }
