@@ -5,6 +5,10 @@
 #[cfg(test)]
 mod bindings;
 #[cfg(test)]
+mod calls;
+#[cfg(test)]
+mod grants;
+#[cfg(test)]
 mod recycling;
 #[cfg(test)]
 mod served;
