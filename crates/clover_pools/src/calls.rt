@@ -1,4 +1,5 @@
-// The calls of a small pool's client by its node, access by access; each entry is entered behind the access that decides it.
+// The calls of a small pool's client by its node, access by access; each entry is entered behind the access that
+// decides it.
 ghost use Rattle.std.specs.Prelude.{◌≡◌, ◌≢◌, [], ◌∷◌, true, IfOk, IfSome};
 ghost use Rattle.clover_map.specs.declared.bytes.Value.{Value as Stored};
 ghost use Rattle.clover_map.specs.declared.call.Call.TheVariants.{Get as GetOf, Put as PutOf};
@@ -85,8 +86,8 @@ fn start_get(node: &mut Node, call: &Call) -> bool
     true
 }
 
-// Makes the accesses of a put that was started up to the exchange that commits it, whose entry is entered. Whether it came
-// to that.
+// Makes the accesses of a put that was started up to the exchange that commits it, whose entry is entered. Whether it
+// came to that.
 fn commit(
     pool: &mut PlainPool,
     node: &mut Node,
@@ -134,7 +135,8 @@ fn value_of(alloc: Global, flags: u32, room: &ValueBuf) -> Result<Value, Fail>
     Ok(Value { flags, bytes })
 }
 
-// Makes the accesses of a get that was started up to its end, whose entry is entered. The number of the tag that it found.
+// Makes the accesses of a get that was started up to its end, whose entry is entered. The number of the tag that it
+// found.
 fn find(
     alloc: Global,
     pool: &mut PlainPool,

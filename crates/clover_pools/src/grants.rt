@@ -1,4 +1,5 @@
-// The metadata server of a small pool hands a batch out of its books to the client, binds a key, and hands over its name.
+// The metadata server of a small pool hands a batch out of its books to the client, binds a key, and hands over its
+// name.
 ghost use Rattle.std.specs.Prelude.{◌≡◌, [], ◌∷◌, true, IfOk, OnOk};
 ghost use Rattle.clover_dir.specs.Directory.{nothing_bound};
 ghost use Rattle.clover_pools.specs.Grants.{AreNew, HaveGiven, IsBegun, IsBoundOnce, IsDealt, IsNamed, name};

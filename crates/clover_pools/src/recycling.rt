@@ -1,5 +1,5 @@
-// The metadata server recycles a slot's root version over a plain pool, by one access a step; each of them is refused once
-// and then made. Before that the server binds a key, and a client puts an empty value under it, up to its commit.
+// The metadata server recycles a slot's root version over a plain pool, by one access a step; each of them is refused
+// once and then made. Before that the server binds a key, and a client puts an empty value under it, up to its commit.
 ghost use Rattle.std.specs.Prelude.{◌≡◌, true, IfSome, IfOk};
 ghost use Rattle.clover_plain.specs.Plain.{view_at};
 ghost use Rattle.clover_recycle.specs.Holding.{RecycleHolds};
@@ -53,8 +53,8 @@ fn refused_and_made(
     }
 }
 
-// A whole recycling of slot 0, each of its accesses refused before it is made. The last answer, or None where an earlier
-// one is not that the recycling goes on.
+// A whole recycling of slot 0, each of its accesses refused before it is made. The last answer, or None where an
+// earlier one is not that the recycling goes on.
 fn recycle(pool: &mut PlainPool, old: Tag) -> Result<Option<RecycleTurn>, OutOfMemory>
     requires ready { IsReady pool.old }
     requires small { IsSmall pool.old }
