@@ -1,7 +1,7 @@
 -- What one access of a node's call over a small pool leaves of the pool, the client and the call.
-use Rattle.std.proofs.Common.{◌≡◌, ◌≢◌, ℕ, suc, ◌≤◌, List, [], ◌∷◌, ◌++◌, length, get_or, Bool, refl, sym, ap, ◌∙◌, subst, ◌⊎◌, inl, inr}
-use Rattle.std.specs.Prelude.{Option, Some, None}
-use Rattle.std.proofs.lemmas.List.{length-set}
+use Rattle.std.proofs.Common.{◌≡◌, ◌≢◌, ℕ, suc, ◌≤◌, List, [], ◌∷◌, ◌++◌, length, get_or, Bool, sym, ap, ◌∙◌, subst, ◌⊎◌, inl, inr}
+use Rattle.std.specs.Prelude.{Some}
+use Rattle.std.proofs.lemmas.List.{get_or-set_other, length-set}
 use Rattle.std.proofs.lemmas.Option.{same_Some}
 use Rattle.clover_words.specs.declared.bytes.ValueBuf.{ValueBuf}
 use Rattle.clover_words.specs.declared.pool.Pool.{Pool}
@@ -17,7 +17,7 @@ use Rattle.clover_rule.specs.Knowing.{link_entry}
 use Rattle.clover_rule.specs.Learned.{next_view, next_history}
 use Rattle.clover_rule.specs.Moves.{nobody}
 use Rattle.clover_rule.specs.Rule.{longest}
-use Rattle.clover_rule.specs.Steps.{Step, client, number_of, reply_of}
+use Rattle.clover_rule.specs.Steps.{Step, client, number_of}
 use Rattle.clover_rule.specs.Told.{Facts}
 use Rattle.clover_rule.specs.Views.{OwnCalls}
 use Rattle.clover_rule.specs.declared.view.Role.{Role}
@@ -26,7 +26,6 @@ use Rattle.clover_rule.specs.declared.view.View.{View}
 use Rattle.clover_rule.proofs.Acting.{role_kept}
 use Rattle.clover_plain.specs.Plain.{Plain, HasRoom, Kept, Stepped, history, open_of, view_at}
 use Rattle.clover_walk.specs.Walking.{key_at}
-use Rattle.clover_get.specs.Getting.{Getting}
 use Rattle.clover_get.specs.Going.{key_of}
 use Rattle.clover_put.specs.Answering.{IsBefore, IsBehind}
 use Rattle.clover_put.specs.Putting.{Putting, Stage, Storing, Flushing, Seeking, AtMeta, AtLink, Deciding, AtBad, AtRaise, AtShort, Over, call_of, put_on}
@@ -39,9 +38,10 @@ use Rattle.clover_node.specs.Going.{GoesOn, Turns, Went}
 use Rattle.clover_node.specs.Node.{NodeState, NodeHolds, CallHolds, HasCommitted, IsUncommitted, call_under, next_step, is_first, new_tag}
 use Rattle.clover_node.specs.Turning.{OnMade, reply_in}
 use Rattle.clover_node.proofs.GetGoes.{goes, going_misses, holding_open}
-use Rattle.clover_node.proofs.PutGoes.{SameCall, same_call, before_misses}
-use Rattle.clover_pools.specs.Small.{IsReady, IsSmall, HasSmallNumbers}
-use Rattle.clover_pools.specs.Calls.{KnowsName, Serves, Since, Adds, Leaves, Acted, asked, next_entry}
+use Rattle.clover_node.proofs.PutGoes.{same_call, before_misses}
+use Rattle.clover_pools.specs.Grants.{HasRoot}
+use Rattle.clover_pools.specs.Small.{HasSmallNumbers}
+use Rattle.clover_pools.specs.Calls.{Serves, Since, Adds, Leaves, Acted, asked, next_entry}
 use Rattle.clover_pools.proofs.Quiet.{names_kept, put_quiet, behind_quiet, get_quiet, committed_entry, ended_entry}
 
 -- no call has committed that has not
@@ -145,6 +145,9 @@ module _ (n n1 : NodeState) (room room1 : ValueBuf) (t : NodeTurn) (l : Bool) (x
   same_view : view_at p0 0 ≡ view_at p 0
   same_view = ap (λ (vs : List View). get_or vs 0 nobody) kept.views
 
+  same_server : view_at q 1 ≡ view_at p 1
+  same_server = ap (λ (vs : List View). get_or vs 1 nobody) told.stepped.views ∙ get_or-set_other p0.views 0 1 (next_view (is_first n.under) (next_step n.under (view_at p0 0) room) (history p0) (view_at p0 0) x) nobody (λ e. cc) ∙ ap (λ (vs : List View). get_or vs 1 nobody) kept.views
+
   same_history : history p0 ≡ history p
   same_history = λ i. longest (kept.views i ++ kept.absent i)
 
@@ -182,6 +185,7 @@ module _ (n n1 : NodeState) (room room1 : ValueBuf) (t : NodeTurn) (l : Bool) (x
       role = ap (λ (v : View). v.pass.role) told.made.told.next ∙ role_kept step (is_first n.under) told.made.now.history (view_at p0 0) x ∙ role;
       names = names ∙ ap (λ (v : View). v.pass.names) same_view ∙ serves.knows.names;
     };
+    server = subst HasRoot (sym same_server) serves.server;
     pool = told.pool ∙ serves.pool ∙ sym (ap (λ (s : Setup). s.pool) same_setup);
     holds = told.holds;
     adds = subst (λ (h : List Entry). Adds t n.under (asked n p) room1 h (history q)) same_history
@@ -213,7 +217,7 @@ on_made (Refused (TooLong r m)) a f = f a
 -- a call goes on behind an access that did not end it
 pub goes_on : (n0 n n1 : NodeState) (p0 p q : Plain) (room room1 : ValueBuf) → Serves p n room → Since n0 p0 n p → Acted More n n1 p q room room1 → Serves q n1 room1 × (n1.under ≢ Nothing) × Since n0 p0 n1 q
 goes_on n0 n n1 p0 p q room room1 s since a = (
-  record { ready = record { opened = a.opened; entered = a.entries ∙ s.ready.entered ∙ sym a.adds }; small = a.small; knows = a.knows; pool = a.pool; holds = a.holds },
+  record { ready = record { opened = a.opened; entered = a.entries ∙ s.ready.entered ∙ sym a.adds }; small = a.small; knows = a.knows; server = a.server; pool = a.pool; holds = a.holds },
   a.leaves.1,
   record { call = a.leaves.0 ∙ since.call; committed = λ h. a.leaves.2 (since.committed h); before = λ h. a.leaves.3 (since.before h); entries = a.entries ∙ since.entries },
 )

@@ -1,29 +1,26 @@
 -- How the client of a small pool starts its calls, and what is due and stands once they are decided.
-use Rattle.std.proofs.Common.{◌≡◌, ◌≢◌, ℕ, zero, suc, ◌+◌, ◌<◌, ◌/◌, ◌%◌, ◌==◌, List, [], ◌∷◌, ◌++◌, length, get_or, Bool, true, cond, refl, sym, ap, ◌∙◌, subst, inl, inr, arith, eq-eqb}
-use Rattle.std.specs.Prelude.{Option, Some, None}
+use Rattle.std.proofs.Common.{◌≡◌, ◌≢◌, ℕ, suc, ◌<◌, List, [], ◌∷◌, ◌++◌, length, get_or, Bool, cond, refl, sym, ap, ◌∙◌, subst, inl, arith, eq-eqb}
+use Rattle.std.specs.Prelude.{Some, None}
 use Rattle.std.proofs.lemmas.List.Elements.{All-nil}
 use Rattle.clover_words.specs.declared.bytes.ValueBuf.{ValueBuf}
 use Rattle.clover_words.specs.declared.pool.Pool.{Pool}
 use Rattle.clover_words.specs.declared.setup.Setup.{Setup}
-use Rattle.clover_words.specs.Place.{IsBuffer}
-use Rattle.clover_words.specs.Tag.{TagParts, tag_number, home, age}
-use Rattle.clover_words.specs.Version.{buffer_at}
+use Rattle.clover_words.specs.Tag.{TagParts, tag_number}
 use Rattle.clover_map.specs.declared.bytes.Value.{Value}
 use Rattle.clover_map.specs.declared.call.Call.{Call}
 use Rattle.clover_map.specs.declared.call.Call.TheVariants.{Get as GetOf, Put as PutOf}
 use Rattle.clover_map.specs.declared.call.Entry.{Entry}
 use Rattle.clover_map.specs.declared.call.Reply.{Reply}
 use Rattle.clover_map.specs.declared.call.Reply.TheVariants.{Stored as StoredAs, Found as FoundAs}
-use Rattle.clover_rule.specs.Content.{inside, InRange}
+use Rattle.clover_rule.specs.Content.{InRange}
 use Rattle.clover_rule.specs.History.{own}
 use Rattle.clover_rule.specs.Lists.{Within}
 use Rattle.clover_rule.specs.Moves.{nobody}
 use Rattle.clover_rule.specs.Rule.{longest}
-use Rattle.clover_rule.specs.Steps.{IsClient, number_of}
+use Rattle.clover_rule.specs.Steps.{number_of}
 use Rattle.clover_rule.specs.declared.view.Role.{Role}
 use Rattle.clover_rule.specs.declared.view.Role.TheVariants.{Client}
 use Rattle.clover_rule.specs.declared.view.View.{View}
-use Rattle.clover_rule.proofs.Keeping.{inside_of}
 use Rattle.clover_cache.specs.Node.{cursor_at}
 use Rattle.clover_walk.specs.Standing.{number_of as cursor_number}
 use Rattle.clover_walk.specs.Walking.{key_at, made_walk}
@@ -32,18 +29,20 @@ use Rattle.clover_put.specs.Putting.{made_put}
 use Rattle.clover_put.specs.declared.job.Job.TheVariants.{Put}
 use Rattle.clover_plain.specs.Plain.{Plain, KeptButEntries, history, view_at}
 use Rattle.clover_plain.proofs.Opening.{client_role}
-use Rattle.clover_node.specs.Beginning.{ExpectsTag, HasTag, IsBegun, MayStart, Starts, given_number}
-use Rattle.clover_node.specs.Node.{NodeState, NodeHolds, AreCursors, IsCursor, CallHolds, HasCommitted, IsUncommitted, call_under, first_node}
+use Rattle.clover_plain.proofs.SmallPool.{age_first, home_first}
+use Rattle.clover_node.specs.Beginning.{HasTag, IsBegun, MayStart, Starts, given_number}
+use Rattle.clover_node.specs.Node.{NodeState, NodeHolds, AreCursors, IsCursor, CallHolds, IsUncommitted, first_node}
 use Rattle.clover_node.specs.declared.answer.Answer.TheVariants.{Stored, Found}
 use Rattle.clover_node.specs.declared.answer.NodeTurn.{NodeTurn}
 use Rattle.clover_node.specs.declared.answer.NodeTurn.TheVariants.{Decided, Done}
 use Rattle.clover_node.specs.Turning.{OnMade}
 use Rattle.clover_node.specs.declared.under.Underway.{Underway}
 use Rattle.clover_node.specs.declared.under.Underway.TheVariants.{Nothing, Get, Write}
-use Rattle.clover_pools.specs.Calls.{KnowsName, Serves, Came, HasFirst, IsCommitted, IsIdle, IsNext, IsStarted, asked, next_entry}
-use Rattle.clover_pools.specs.Grants.{IsNamed, name, named_view}
-use Rattle.clover_pools.specs.Small.{IsReady, IsSmall, HasSmallNumbers}
+use Rattle.clover_pools.specs.Calls.{KnowsName, Came, HasFirst, IsCommitted, IsIdle, IsNext, IsStarted, asked, next_entry}
+use Rattle.clover_pools.specs.Grants.{HasRoot, IsNamed}
+use Rattle.clover_pools.specs.Small.{HasSmallNumbers}
 use Rattle.clover_pools.specs.Turns.{IsOutcome}
+use Rattle.clover_pools.proofs.SmallPool.{in_pool}
 use Rattle.clover_pools.specs.declared.turns.Outcome.{Outcome}
 use Rattle.clover_pools.specs.declared.turns.Outcome.TheVariants.{Committed, Stored as StoredOut, Found as FoundOut}
 
@@ -51,29 +50,15 @@ use Rattle.clover_pools.specs.declared.turns.Outcome.TheVariants.{Committed, Sto
 abbrev pub first_tag : TagParts
 first_tag = record { node = 0; index = 0; generation = 0 }
 
-home_first : home 0 ≡ 0
-unfolding home
-home_first = refl
-
-age_first : age 0 ≡ 0
-unfolding age
-age_first = refl
-
-first_inside : (s : Setup) → HasSmallNumbers s → inside s.pool (home 0) ≡ true
-first_inside s few = let a = few.nodes in let c = few.buffers in
-    inside_of s.pool (home 0) (subst (λ (n : ℕ). IsBuffer s.pool (buffer_at n)) (sym home_first) (record { node = omega arith; index = omega arith }))
-
 first_range : (s : Setup) → HasSmallNumbers s → InRange s.pool 0
-first_range s few = (first_inside s few, (let w = s.pool.some_wear in let a = age_first in omega arith))
+first_range s few = (in_pool s few 0 0 home_first (omega arith) refl refl, (let w = s.pool.some_wear in let a = age_first in omega arith))
 
 module _ (p : Plain) (n : NodeState) (i : IsIdle p n) where
   pub slot_inside : 0 < n.pool.slots
   slot_inside = let a = i.small.numbers.slots in let b = ap (λ (z : Pool). z.slots) i.pool in omega arith
 
-  pub owns_first : (t : TagParts) (c : Call) → t ≡ first_tag → (x : Value) × (c ≡ PutOf (97 ∷ []) x) → HasTag n.pool (Some t) c
-  owns_first t c e (x, is) =
-      subst (λ (z : Call). HasTag n.pool (Some t) z) (sym is)
-      (subst (λ (k : ℕ). InRange n.pool k) (sym (ap tag_number e)) (subst (λ (z : Pool). InRange z 0) (sym i.pool) (first_range p.setup i.small.numbers)))
+  pub owns_first : (c : Call) → (x : Value) × (c ≡ PutOf (97 ∷ []) x) → HasTag n.pool (Some first_tag) c
+  owns_first c (x, is) = subst (λ (z : Call). HasTag n.pool (Some first_tag) z) (sym is) (subst (λ (z : Pool). InRange z 0) (sym i.pool) (first_range p.setup i.small.numbers))
 
   node_holds : (room : ValueBuf) → NodeHolds n (view_at p 0) room
   node_holds room = record {
@@ -97,19 +82,18 @@ started : (p : Plain) (n n1 : NodeState) (room : ValueBuf) (own1 : ℕ) (c : Cal
 started p n n1 room own1 c i may s before =
     let h = s.holds (view_at p 0) room (node_holds p n i room) may in
     record {
-      serves = record { ready = i.ready; small = i.small; knows = i.knows; pool = s.pool ∙ i.pool; holds = h.0 };
+      serves = record { ready = i.ready; small = i.small; knows = i.knows; server = i.server; pool = s.pool ∙ i.pool; holds = h.0 };
       busy = busy_so n1.under before;
       call = h.1;
       before = before;
     }
 
-pub put_started : (p : Plain) (n n1 : NodeState) (room : ValueBuf) (t : TagParts) (c : Call) → IsIdle p n → IsNext (view_at p 0) → t ≡ first_tag → (x : Value) × (c ≡ PutOf (97 ∷ []) x) → Starts n 0 (given_number (Some t)) c n1 → IsStarted p n1 room c
-put_started p n n1 room t c i next e (x, is) s =
-    let own_is : tag_number t ≡ 0 = ap tag_number e in
+pub put_started : (p : Plain) (n n1 : NodeState) (room : ValueBuf) (c : Call) → IsIdle p n → IsNext (view_at p 0) → (x : Value) × (c ≡ PutOf (97 ∷ []) x) → Starts n 0 (given_number (Some first_tag)) c n1 → IsStarted p n1 room c
+put_started p n n1 room c i next (x, is) s =
     let w = made_walk n.pool 0 (cursor_number (cursor_at 0 n.cursors)) in
-    let begun : n1.under ≡ Write (made_put w Put (tag_number t) x) = subst (λ (z : Call). IsBegun w (tag_number t) z n1.under) is s.begun in
+    let begun : n1.under ≡ Write (made_put w Put 0 x) = subst (λ (z : Call). IsBegun w 0 z n1.under) is s.begun in
     let may : MayStart 0 0 (PutOf (97 ∷ []) x) (view_at p 0) = record { named = named p n i; key = key_there p n i; next = (next.rest, next.stock) } in
-    started p n n1 room (tag_number t) c i (subst (λ (k : ℕ). MayStart 0 k c (view_at p 0)) (sym own_is) (subst (λ (z : Call). MayStart 0 0 z (view_at p 0)) (sym is) may)) s (subst IsUncommitted (sym begun) tt)
+    started p n n1 room 0 c i (subst (λ (z : Call). MayStart 0 0 z (view_at p 0)) (sym is) may) s (subst IsUncommitted (sym begun) tt)
 
 pub get_started : (p : Plain) (n n1 : NodeState) (room : ValueBuf) (k : List ℕ) (c : Call) → IsIdle p n → k ≡ 97 ∷ [] → c ≡ GetOf k → Starts n 0 (given_number None) c n1 → IsStarted p n1 room c
 get_started p n n1 room k c i ke ce s =
@@ -156,6 +140,7 @@ committed_so p q q1 n1 n2 room1 c t k e came whole entered same =
         ready = record { opened = same.opened ∙ a.opened; entered = entered ∙ sym whole ∙ sym (λ i. longest (same.views i ++ same.absent i)) };
         small = record { numbers = subst HasSmallNumbers (sym same.setup) a.small.numbers; seats = ap length same.views ∙ a.small.seats };
         knows = subst KnowsName (sym view) a.knows;
+        server = subst HasRoot (sym (ap (λ (vs : List View). get_or vs 1 nobody) same.views)) a.server;
         pool = a.pool ∙ sym (ap (λ (s : Setup). s.pool) same.setup);
         holds = subst (λ (v : View). NodeHolds n2 v room1) (sym view) a.holds;
       };
@@ -173,6 +158,7 @@ finished_so p q n n2 room room1 t c came =
         ready = record { opened = a.opened; entered = a.entries ∙ came.serves.ready.entered ∙ sym quiet };
         small = a.small;
         knows = a.knows;
+        server = a.server;
         pool = a.pool;
         of_pool = a.holds.pool;
         cursors = a.holds.cursors;
@@ -198,6 +184,7 @@ idle_first p n b e =
         ready = b.new.ready;
         small = b.new.small;
         knows = record { role = ap (λ (v : View). v.pass.role) b.client ∙ client_role p.setup 0 (omega arith); names = ap (λ (v : View). v.pass.names) b.client };
+        server = b.server;
         pool = ap (λ (z : NodeState). z.pool) e;
         of_pool = ap (λ (v : View). v.pass.pool) b.client ∙ sym (ap (λ (z : NodeState). z.pool) e);
         cursors = subst (λ (z : NodeState). AreCursors z.pool (view_at p 0) z.cursors) (sym e) (record { last = tt; list = All-nil (IsCursor p.setup.pool (view_at p 0)) });

@@ -15,6 +15,7 @@ use Rattle.clover_node.specs.declared.under.Underway.{Underway}
 use Rattle.clover_node.specs.declared.under.Underway.TheVariants.{Nothing}
 use Rattle.clover_node.specs.Node.{NodeState, NodeHolds, AreCursors, HasCommitted, IsUncommitted, call_under}
 use Rattle.clover_node.specs.Turning.{reply_in}
+use Rattle.clover_pools.specs.Grants.{HasRoot}
 use Rattle.clover_pools.specs.Small.{IsReady, IsSmall}
 
 -- client 1 knows that slot 0 is bound to `a`
@@ -22,11 +23,12 @@ pub record KnowsName (v : View) : Type 0 where
   pub role : v.pass.role ≡ Client 1
   pub names : v.pass.names ≡ (0, 97 ∷ []) ∷ []
 
--- the node is that of client 1, which knows what the call under way needs
+-- the node is that of client 1, which knows what the call under way needs, and the server is idle
 pub record Serves (p : Plain) (n : NodeState) (room : ValueBuf) : Type 0 where
   pub ready : IsReady p
   pub small : IsSmall p
   pub knows : KnowsName (view_at p 0)
+  pub server : HasRoot (view_at p 1)
   pub pool : n.pool ≡ p.setup.pool
   pub holds : NodeHolds n (view_at p 0) room
 
@@ -59,16 +61,18 @@ pub record Acted (t : NodeTurn) (n n1 : NodeState) (p q : Plain) (room room1 : V
   pub small : IsSmall q
   pub entries : q.entries ≡ p.entries
   pub knows : KnowsName (view_at q 0)
+  pub server : HasRoot (view_at q 1)
   pub pool : n1.pool ≡ q.setup.pool
   pub holds : NodeHolds n1 (view_at q 0) room1
   pub adds : Adds t n.under (asked n p) room1 (history p) (history q)
   pub leaves : Leaves t n.under n1.under (asked n p) (asked n1 q)
 
--- the node is that of client 1, which has no call under way
+-- the node is that of client 1, which has no call under way, and the server is idle
 pub record IsIdle (p : Plain) (n : NodeState) : Type 0 where
   pub ready : IsReady p
   pub small : IsSmall p
   pub knows : KnowsName (view_at p 0)
+  pub server : HasRoot (view_at p 1)
   pub pool : n.pool ≡ p.setup.pool
   pub of_pool : (view_at p 0).pass.pool ≡ n.pool
   pub cursors : AreCursors n.pool (view_at p 0) n.cursors

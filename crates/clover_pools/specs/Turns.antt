@@ -1,5 +1,5 @@
 -- What the tests tell apart of a node's turns.
-use Rattle.std.specs.Prelude.{◌≡◌, ℕ}
+use Rattle.std.specs.Prelude.{◌≡◌}
 use Rattle.clover_words.specs.Tag.{TagParts, tag_number}
 use Rattle.clover_node.specs.declared.answer.Answer.TheVariants.{Stored as StoredAnswer, Found as FoundAnswer}
 use Rattle.clover_node.specs.declared.answer.NodeTurn.{NodeTurn}
