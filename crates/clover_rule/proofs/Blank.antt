@@ -73,7 +73,7 @@ module _ (p : Pool) (first : Tagged) (ws : List ℕ) (blank : IsBlank p ws) (emp
   words_are : mem_of p ws ≡ blank_mem
   words_are = blank_words p ws blank
 
-  opens : Opens p blank_image (blank_sound p) (shows first) [] (mem_of p ws)
+  opens : Opens p blank_image (blank_sound p) first [] (mem_of p ws)
   unfolding blank_sound
   opens = record {
     next = λ b. (ap (λ (m : Mem). m.next b) words_are, ap (λ (m : Mem). m.fnext b) words_are);

@@ -6,7 +6,9 @@ use Rattle.std.specs.Prelude.{Some}
 use Rattle.std.proofs.lemmas.List.{length-set}
 use Rattle.clover_words.specs.Tag.{home, age}
 use Rattle.clover_map.specs.declared.call.Entry.{Entry}
-use Rattle.clover_rule.specs.History.{Map, own, used_by}
+use Rattle.clover_map.specs.History.{own}
+use Rattle.clover_map.specs.Tagged.{Tagged}
+use Rattle.clover_rule.specs.History.{used_by}
 use Rattle.clover_rule.specs.Lists.{Each, nth, upd, Within}
 use Rattle.clover_rule.specs.Memory.{gen, Mem}
 use Rattle.clover_rule.specs.Server.{Ready, AtStage, Help, Serves, Whole}
@@ -28,7 +30,7 @@ each_both P [] ys a b = b
 each_both P (x ∷ xs) ys a b = (a.0, each_both P xs ys a.1 b)
 
 -- a batch that stood at one loose place goes to another
-module _ (l : Pool) (m0 : Map) (used : List ℕ) (m : Mem) (vs : List View) (st : Story) (h : List Entry) (w : Whole l m0 used m vs st h) (batch : List ℕ) (q0 : Place) (k : ℕ) (ready : Ready q0) (was : Each (λ (t : ℕ). st.place (home t) ≡ q0) batch) where
+module _ (l : Pool) (m0 : Tagged) (used : List ℕ) (m : Mem) (vs : List View) (st : Story) (h : List Entry) (w : Whole l m0 used m vs st h) (batch : List ℕ) (q0 : Place) (k : ℕ) (ready : Ready q0) (was : Each (λ (t : ℕ). st.place (home t) ≡ q0) batch) where
   abbrev pub q : Place
   q = Stocked k
 
@@ -132,7 +134,7 @@ module _ (l : Pool) (m0 : Map) (used : List ℕ) (m : Mem) (vs : List View) (st 
     }
 
 -- the server splits off a new client's pass: the batch is empty
-module _ (l : Pool) (m0 : Map) (used : List ℕ) (m : Mem) (vs : List View) (st : Story) (h : List Entry) (w : Whole l m0 used m vs st h) (id : ℕ) (v : View) (at : nth vs id ≡ Some v) (role : v.pass.role ≡ Serving) (n : ℕ) (fresh : Within n v.server.clients → ⊥) where
+module _ (l : Pool) (m0 : Tagged) (used : List ℕ) (m : Mem) (vs : List View) (st : Story) (h : List Entry) (w : Whole l m0 used m vs st h) (id : ℕ) (v : View) (at : nth vs id ≡ Some v) (role : v.pass.role ≡ Serving) (n : ℕ) (fresh : Within n v.server.clients → ⊥) where
   abbrev pass_view : View
   pass_view = client_of n v
 
@@ -142,7 +144,7 @@ module _ (l : Pool) (m0 : Map) (used : List ℕ) (m : Mem) (vs : List View) (st 
   abbrev pub views_then : List View
   views_then = set vs id making_view ++ pass_view ∷ []
 
-  none_own : (cs : List ℕ) (xs : List Entry) → (Within n cs → ⊥) → Each (λ (e : Entry). Within e.client cs) xs → own n xs ≡ []
+  none_own : (cs : List ℕ) (xs : List Entry) → (Within n cs → ⊥) → Each (λ (e : Entry). Within e.client cs) xs → own xs n ≡ []
   none_own cs [] f a = refl
   none_own cs (e ∷ xs) f a = rw (ne_eqb e.client n (λ q. f (subst (λ (z : ℕ). Within z cs) q a.0))) (none_own cs xs f a.1)
 

@@ -7,7 +7,6 @@ use Rattle.clover_words.specs.declared.pool.Pool.{Pool}
 use Rattle.clover_words.specs.Tag.{home}
 use Rattle.clover_map.specs.declared.call.Entry.{Entry}
 use Rattle.clover_map.specs.Tagged.{Tagged}
-use Rattle.clover_rule.specs.History.{shows}
 use Rattle.clover_rule.specs.Laws.{ClientLaw, GrantLaw, AcceptLaw, HandOverLaw, NoteLaw, JoinNoteLaw, SpentLaw}
 use Rattle.clover_rule.specs.Lists.{Each, IsPart, Within, nth, upd}
 use Rattle.clover_rule.specs.Meets.{InStocks, Meets, OfRun}
@@ -86,7 +85,7 @@ module _ (p : Pool) (first : Tagged) (used : List ℕ) (ws : List ℕ) (vs : Lis
   bindings_are role bs e = let s = r.whole.serves id v at role in cut_rest st.bindings bs (waiting_name st.task) (sym s.directory ∙ e ∙ ap (λ (t : ServerTask). bs ++ waiting_name t) s.task_is)
 
   -- a split over the same words
-  split_met : (left right : View) → OfRun p first used left → OfRun p first used right → left.plan ≡ [] → right.plan ≡ [] → (st1 : Story) → InStocks (split vs id left right) st1 → Whole p (shows first) used m (split vs id left right) st1 h → Meets p first used ws (split vs id left right) st1 h
+  split_met : (left right : View) → OfRun p first used left → OfRun p first used right → left.plan ≡ [] → right.plan ≡ [] → (st1 : Story) → InStocks (split vs id left right) st1 → Whole p first used m (split vs id left right) st1 h → Meets p first used ws (split vs id left right) st1 h
   split_met left right a b c d st1 stocks w = record {
     sized = r.sized;
     decodes = r.decodes;
@@ -96,7 +95,7 @@ module _ (p : Pool) (first : Tagged) (used : List ℕ) (ws : List ℕ) (vs : Lis
     whole = w;
   }
 
-  joined_met : (j : ℕ) (both rest : View) → OfRun p first used both → OfRun p first used rest → both.plan ≡ [] → rest.plan ≡ [] → (st1 : Story) → InStocks (joined vs id both j rest) st1 → Whole p (shows first) used m (joined vs id both j rest) st1 h → Meets p first used ws (joined vs id both j rest) st1 h
+  joined_met : (j : ℕ) (both rest : View) → OfRun p first used both → OfRun p first used rest → both.plan ≡ [] → rest.plan ≡ [] → (st1 : Story) → InStocks (joined vs id both j rest) st1 → Whole p first used m (joined vs id both j rest) st1 h → Meets p first used ws (joined vs id both j rest) st1 h
   joined_met j both rest a b c d st1 stocks w = record {
     sized = r.sized;
     decodes = r.decodes;
@@ -115,11 +114,11 @@ module _ (p : Pool) (first : Tagged) (used : List ℕ) (ws : List ℕ) (vs : Lis
 
   pub client_met : (n : ℕ) → MayMake v n → Meets p first used ws (split vs id (making n v) (client_of n v)) st h
   client_met n may = split_met (making n v) (client_of n v) (record { of_pool = of.of_pool; from_map = of.from_map; from_used = of.from_used }) (record { of_pool = of.of_pool; from_map = of.from_map; from_used = of.from_used }) still_here refl st
-      (stocks_split (making n v) (client_of n v) refl) (split_client p (shows first) used m vs st h r.whole id v at may.server n may.fresh)
+      (stocks_split (making n v) (client_of n v) refl) (split_client p first used m vs st h r.whole id v at may.server n may.fresh)
 
   pub note_met : (n : ℕ) → v.pass.role ≡ Client n → Meets p first used ws (split vs id v (note_of v)) st h
   note_met n role = split_met v (note_of v) of (record { of_pool = of.of_pool; from_map = of.from_map; from_used = of.from_used }) still_here refl st
-      (stocks_split v (note_of v) refl) (note_whole p (shows first) used m vs st h r.whole id v at n role)
+      (stocks_split v (note_of v) refl) (note_whole p first used m vs st h r.whole id v at n role)
 
   -- a batch of free tags goes to a grant
   module _ (batch : List ℕ) (position : ℕ) (names : List (ℕ × List ℕ)) (may : MayGrant p v batch position names) where
@@ -137,7 +136,7 @@ module _ (p : Pool) (first : Tagged) (used : List ℕ) (ws : List ℕ) (vs : Lis
 
     pub grant_met : Meets p first used ws (split vs id (giving batch v) (grant batch position names v)) granted h
     grant_met = split_met (giving batch v) (grant batch position names v) (record { of_pool = of.of_pool; from_map = of.from_map; from_used = of.from_used }) (record { of_pool = of.of_pool; from_map = of.from_map; from_used = of.from_used }) still_here refl granted stocks_granted
-        (grant_whole p (shows first) used m vs st h r.whole id v at may.tags.server batch may.tags.free may.tags.apart position names part)
+        (grant_whole p first used m vs st h r.whole id v at may.tags.server batch may.tags.free may.tags.apart position names part)
 
   module _ (j : ℕ) (apart : j ≢ id) (y : View) (there : nth vs j ≡ Some y) where
     -- the views after a join, at the joining seat and elsewhere
@@ -155,7 +154,7 @@ module _ (p : Pool) (first : Tagged) (used : List ℕ) (ws : List ℕ) (vs : Lis
 
     pub noted_met : MayNote v y → Meets p first used ws (joined vs id (noted v y) j (spent v)) st h
     noted_met may = joined_met j (noted v y) (spent v) (record { of_pool = of.of_pool; from_map = of.from_map; from_used = of.from_used }) (record { of_pool = of.of_pool; from_map = of.from_map; from_used = of.from_used }) still_here refl st
-        (stocks_joined (noted v y) (spent v) refl may.stock) (join_note p (shows first) used m vs st h r.whole id j apart v y at there may.server may.noting may.stock)
+        (stocks_joined (noted v y) (spent v) refl may.stock) (join_note p first used m vs st h r.whole id j apart v y at there may.server may.noting may.stock)
 
     -- a grant is taken in
     module _ (may : MayAccept v y) where
@@ -187,7 +186,7 @@ module _ (p : Pool) (first : Tagged) (used : List ℕ) (ws : List ℕ) (vs : Lis
 
       pub accept_met : Meets p first used ws (joined vs id (accepted v y) j (spent v)) taken_in h
       accept_met = joined_met j (accepted v y) (spent v) (record { of_pool = of.of_pool; from_map = of.from_map; from_used = of.from_used }) (record { of_pool = of.of_pool; from_map = of.from_map; from_used = of.from_used }) still_here refl taken_in stocks_accepted
-          (join_whole p (shows first) used m vs st h r.whole id j apart v y at there may.number may.client may.granting may.fits may.bare)
+          (join_whole p first used m vs st h r.whole id j apart v y at there may.number may.client may.granting may.fits may.bare)
 
 -- what is left of a view goes
 pub spent_met : (p : Pool) (first : Tagged) (used : List ℕ) (ws : List ℕ) (vs : List View) (st : Story) (h : List Entry) (w : View) → Meets p first used ws (vs ++ spent w ∷ []) st h → (i : ℕ) (v : View) → nth vs i ≡ Some v → Meets p first used ws vs st h
@@ -197,7 +196,7 @@ spent_met p first used ws vs st h w r i v at = record {
   same = λ k y e. r.same k y (front k y e);
   still = λ k y e. r.still k y (front k y e);
   stocks = λ b k e. let o = r.stocks b k e in ⊎_elim (λ q. (o.0, q, o.2, o.3, o.4)) (λ q. absurd (subst (λ (y : View). Within o.2 y.pass.stock) (sym q.1) o.3)) (nth_snoc vs (spent w) o.0 k o.1);
-  whole = dropped p (shows first) used (mem_of p ws) vs (spent w) st h r.whole refl (i, v, at);
+  whole = dropped p first used (mem_of p ws) vs (spent w) st h r.whole refl (i, v, at);
 }
   where
     front : (k : ℕ) (y : View) → nth vs k ≡ Some y → nth (vs ++ spent w ∷ []) k ≡ Some y

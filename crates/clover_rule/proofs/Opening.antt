@@ -6,8 +6,9 @@ use Rattle.std.proofs.lemmas.Bool.Decides.{nat_tests}
 use Rattle.clover_words.specs.Tag.{home, age}
 use Rattle.clover_map.specs.declared.bytes.Value.{Value}
 use Rattle.clover_map.specs.declared.call.Entry.{Entry}
+use Rattle.clover_map.specs.Tagged.{Tagged}
 use Rattle.clover_rule.specs.Content.{content, InRange, Spells, inside, Fits}
-use Rattle.clover_rule.specs.History.{Version, Map}
+use Rattle.clover_rule.specs.History.{Version}
 use Rattle.clover_rule.specs.Image.{Image, Chain}
 use Rattle.clover_rule.specs.Lists.{Within, Each, nth}
 use Rattle.clover_rule.specs.Memory.{word, gen, link, Mem}
@@ -77,7 +78,7 @@ abbrev pub has : Option (List ℕ) → Bool
 has None = false
 has (Some x) = true
 
-module _ (l : Pool) (im : Image) (sound : Sound l im) (m0 : Map) (used : List ℕ) (m : Mem) (o : Opens l im sound m0 used m) (owner : ℕ → Option ℕ) (own : Owners l im o.spot owner) where
+module _ (l : Pool) (im : Image) (sound : Sound l im) (m0 : Tagged) (used : List ℕ) (m : Mem) (o : Opens l im sound m0 used m) (owner : ℕ → Option ℕ) (own : Owners l im o.spot owner) where
   abbrev ready_test : ℕ → Bool
   ready_test b = inside l b && ltb (gen (im.next b)) l.wear
 

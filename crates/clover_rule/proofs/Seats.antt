@@ -6,8 +6,8 @@ use Rattle.std.specs.Prelude.{Some}
 use Rattle.std.proofs.lemmas.List.{length-set}
 use Rattle.clover_words.specs.Tag.{home, age}
 use Rattle.clover_map.specs.declared.call.Entry.{Entry}
+use Rattle.clover_map.specs.Tagged.{Tagged}
 use Rattle.clover_rule.specs.Content.{inside}
-use Rattle.clover_rule.specs.History.{Map}
 use Rattle.clover_rule.specs.Lists.{Each, nth, upd, Within, IsPart}
 use Rattle.clover_rule.specs.Memory.{gen, Mem}
 use Rattle.clover_rule.specs.Server.{book_of, Serves, Whole}
@@ -26,7 +26,7 @@ use Rattle.clover_rule.proofs.Steps.{each_map, nth_set, set_here, set_away}
 use Rattle.clover_rule.proofs.ServerTools.{book_same, free_place}
 use Rattle.clover_rule.proofs.Hands.{hand_whole, hand_view, hand_owned}
 
-module _ (l : Pool) (m0 : Map) (used : List ℕ) (m : Mem) (vs : List View) (st : Story) (h : List Entry) (w : Whole l m0 used m vs st h) (id : ℕ) (v v' x : View) (at : nth vs id ≡ Some v)
+module _ (l : Pool) (m0 : Tagged) (used : List ℕ) (m : Mem) (vs : List View) (st : Story) (h : List Entry) (w : Whole l m0 used m vs st h) (id : ℕ) (v v' x : View) (at : nth vs id ≡ Some v)
     (batch : List ℕ) (was : Each (λ (t : ℕ). st.place (home t) ≡ Free) batch) (same : v'.pass.role ≡ v.pass.role) (past : v'.pass.history ≡ v.pass.history) (clients : v'.server.clients ≡ v.server.clients) (unserving : x.pass.role ≢ Serving) (noclient : (c : ℕ) → x.pass.role ≢ Client c)
     (okv : ViewOk m (record st { place = handed st.place batch (Stocked (length vs)) }) h id v') (okx : ViewOk m (record st { place = handed st.place batch (Stocked (length vs)) }) h (length vs) x)
     (serves : v.pass.role ≡ Serving → Serves l m (record st { place = handed st.place batch (Stocked (length vs)) }) st.task v'.server)
@@ -78,7 +78,7 @@ module _ (l : Pool) (m0 : Map) (used : List ℕ) (m : Mem) (vs : List View) (st 
       longest_of j a q e (no d) = (j, a, nth_front (set vs id v') x j (λ z. let b = nth_within vs j a q in let b2 = length-set vs id v' in absurd (omega arith)) ∙ set_away vs id j v' d ∙ q, e)
 
 -- the server splits off a grant of tags that are free in its view, with the names from a position on
-module _ (l : Pool) (m0 : Map) (used : List ℕ) (m : Mem) (vs : List View) (st : Story) (h : List Entry) (w : Whole l m0 used m vs st h) (id : ℕ) (v : View) (at : nth vs id ≡ Some v) (role : v.pass.role ≡ Serving)
+module _ (l : Pool) (m0 : Tagged) (used : List ℕ) (m : Mem) (vs : List View) (st : Story) (h : List Entry) (w : Whole l m0 used m vs st h) (id : ℕ) (v : View) (at : nth vs id ≡ Some v) (role : v.pass.role ≡ Serving)
     (batch : List ℕ) (free : Each (λ (t : ℕ). (inside l (home t) ≡ true) × ((book_at v.server) (home t) ≡ book (age t) IsFree)) batch) (apart : Apart batch) (position : ℕ) (names : List (ℕ × List ℕ)) (part : IsPart position names st.bindings) where
   abbrev k : ℕ
   k = length vs

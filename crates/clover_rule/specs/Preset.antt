@@ -4,8 +4,9 @@ use Prim.Native.Nat.{suc}
 use Rattle.clover_words.specs.declared.pool.Pool.{Pool}
 use Rattle.clover_words.specs.Meta.{tombstone}
 use Rattle.clover_words.specs.Tag.{home, age}
+use Rattle.clover_map.specs.Key.{IsKey}
 use Rattle.clover_map.specs.Tagged.{Tagged}
-use Rattle.clover_rule.specs.Content.{inside, spelling, IsKey}
+use Rattle.clover_rule.specs.Content.{inside, spelling}
 use Rattle.clover_rule.specs.History.{shows}
 use Rattle.clover_rule.specs.Lists.{Within, nth}
 use Rattle.clover_rule.specs.Meets.{OfRun, Decodes}
