@@ -6,11 +6,12 @@ use Rattle.std.specs.FinMap.{get}
 use Rattle.clover_map.specs.declared.call.Entry.{Entry}
 use Rattle.clover_map.specs.declared.bytes.Held.{Held}
 use Rattle.clover_map.specs.Tagged.{Tagged}
-use Rattle.clover_rule.specs.History.{Version, commits_at, ends, pair_of, leads, shows}
+use Rattle.clover_rule.specs.History.{Version, commits_at, ends, pair_of}
 use Rattle.clover_rule.specs.Lists.{nth, Within, IsPrefix}
 use Rattle.clover_rule.specs.Memory.{Mem}
 use Rattle.clover_rule.specs.Story.{Story, Tale}
 use Rattle.clover_rule.specs.Views.{Naming}
+use Rattle.clover_rule.proofs.KeyMaps.{leads, shows}
 use Rattle.clover_rule.proofs.Keys.{key_discrete}
 use Rattle.clover_rule.proofs.Histories.{leads_commits}
 use Rattle.clover_rule.proofs.Histories.{ends_more}

@@ -17,8 +17,8 @@ use Rattle.clover_map.specs.declared.bytes.Held.{Held}
 use Rattle.clover_rule.specs.Content.{Spells, inside}
 use Rattle.clover_rule.specs.Cut.{IsCut, image_of, IsKnownDurable, AfterCut, CutLaw}
 use Rattle.clover_map.specs.Legal.{Legal}
-use Rattle.clover_rule.specs.History.{Version, Map, shows, kept, leads, ends}
-use Rattle.clover_rule.specs.Image.{Image, IsImage, Reads, ReadsMap, missing, tags, Chain}
+use Rattle.clover_rule.specs.History.{Version, kept, ends}
+use Rattle.clover_rule.specs.Image.{Image, IsImage, Reads, missing, tags, Chain}
 use Rattle.clover_rule.specs.Lists.{Within, nth}
 use Prim.Native.Nat.{suc}
 use Rattle.clover_rule.specs.Meets.{Meets, IsCode}
@@ -29,11 +29,12 @@ use Rattle.clover_rule.specs.Words.{guarded, mem_of, next_of, root_of}
 use Rattle.clover_rule.specs.declared.view.View.{View}
 use Rattle.clover_rule.proofs.Steps.{each_within}
 use Rattle.clover_rule.proofs.Snocs.{within_nth}
-use Rattle.clover_rule.proofs.Cuts.{last_lost, untold, legal_left, cut_stands}
+use Rattle.clover_rule.proofs.Cuts.{ReadsMap, last_lost, untold, legal_left, cut_stands}
 use Rattle.clover_rule.proofs.Rested.{cut_ages, cut_rested}
 use Rattle.clover_rule.proofs.Soundness.{cut_sound, cut_ends, bound_root as bound_key, spelled as spelled_key, chain_placed}
 use Rattle.clover_rule.proofs.Spelling.{one_key}
 use Rattle.clover_rule.proofs.Keys.{key_discrete}
+use Rattle.clover_rule.proofs.KeyMaps.{Map, shows, leads}
 use Rattle.clover_rule.proofs.TaggedMaps.{legal_history}
 use Rattle.clover_rule.proofs.Ties.{both, below, buffer_in, content_in, content_side}
 

@@ -10,7 +10,7 @@ use Rattle.clover_map.specs.declared.call.Entry.{Entry}
 use Rattle.clover_map.specs.Key.{IsKey}
 use Rattle.clover_map.specs.Tagged.{Tagged}
 use Rattle.clover_rule.specs.Content.{spelling, Fits}
-use Rattle.clover_rule.specs.History.{Version, commits_at, ends, at_key}
+use Rattle.clover_rule.specs.History.{Version, commits_at, ends}
 use Rattle.clover_rule.specs.Lists.{nth, upd}
 use Rattle.clover_rule.specs.Memory.{gen, Mem}
 use Rattle.clover_rule.specs.Server.{Ready, IsStoring, Stage, Help, is_home, book_of, Serves, Whole, or_else, root_in}
@@ -23,6 +23,7 @@ use Rattle.clover_rule.specs.declared.view.Role.TheVariants.{Serving}
 use Rattle.clover_rule.specs.declared.view.ServerTask.TheVariants.{Storing, Rooted}
 use Rattle.clover_rule.specs.declared.view.View.{View}
 use Rattle.clover_words.specs.declared.pool.Pool.{Pool}
+use Rattle.clover_rule.proofs.KeyMaps.{at_key}
 use Rattle.clover_rule.proofs.Keys.{at_key_same, at_key_else}
 use Rattle.clover_rule.proofs.Spelling.{dead_word}
 use Rattle.clover_rule.proofs.Tools.{upd_same, upd_else, nth_within}

@@ -8,7 +8,6 @@ use Rattle.clover_words.specs.declared.word.Side.TheVariants.{Current, Flushed}
 use Rattle.clover_words.specs.Version.{buffer_at, content_at}
 use Rattle.clover_map.specs.Tagged.{Tagged}
 use Rattle.clover_rule.specs.Content.{inside}
-use Rattle.clover_rule.specs.History.{shows}
 use Rattle.clover_rule.specs.Image.{Image}
 use Rattle.clover_rule.specs.Laws.{BlankLaw, IsBlank}
 use Rattle.clover_rule.specs.Meets.{IsCode}
@@ -18,6 +17,7 @@ use Rattle.clover_rule.specs.Sound.{Sound}
 use Rattle.clover_rule.specs.Views.{book, free_or_worn}
 use Rattle.clover_rule.specs.Words.{mem_of, guarded, next_of, root_of}
 use Rattle.clover_rule.specs.declared.view.BufferState.TheVariants.{Free as IsFree, Worn as IsWorn}
+use Rattle.clover_rule.proofs.KeyMaps.{shows}
 use Rattle.clover_rule.proofs.Ties.{mem_path}
 
 abbrev pub blank_image : Image

@@ -17,7 +17,8 @@ use Rattle.clover_map.specs.Tagged.{Tagged}
 use Rattle.clover_map.specs.Tags.{IsFresh}
 use Rattle.clover_rule.specs.Changes.{linked_mem, linked_story}
 use Rattle.clover_rule.specs.Content.{Fits, value_meta}
-use Rattle.clover_rule.specs.History.{Version, used_by, committed, pair_of, paired, tag_in, grown, leads, shows}
+use Rattle.clover_map.specs.Legal.{used_by}
+use Rattle.clover_rule.specs.History.{Version, committed, pair_of, paired}
 use Rattle.clover_rule.specs.Knowing.{MayLink, link_entry, link_view, SawValue, SawTombstone, CopiedValue}
 use Rattle.clover_rule.specs.Lists.{Each, nth, Within}
 use Rattle.clover_rule.specs.Memory.{word, gen, Mem}
@@ -28,12 +29,14 @@ use Rattle.clover_rule.specs.declared.view.Role.TheVariants.{Client}
 use Rattle.clover_rule.specs.declared.view.View.{View}
 use Rattle.clover_words.specs.declared.pool.Pool.{Pool}
 use Rattle.clover_words.specs.declared.meta.Kind.TheVariants.{Value as IsValue}
-use Rattle.clover_rule.proofs.TaggedMaps.{Permits}
+use Rattle.clover_rule.proofs.Tools.{each_both}
+use Rattle.clover_rule.proofs.KeyMaps.{tag_in, leads, shows}
+use Rattle.clover_rule.proofs.TaggedMaps.{Permits, new_some, new_none}
 use Rattle.clover_rule.proofs.Spelling.{meta_dead, meta_live, first_word, read_content}
 use Rattle.clover_rule.proofs.Commit.{can as commit_can, grows as commit_grows, rule' as commit_rule, owned as commit_owned, slot_bound as commit_bound, tail_durable as commit_durable}
 use Rattle.clover_rule.proofs.Decide.{version, tail_durable, map_at, copied_word, decide_rule, decided_view}
-use Rattle.clover_rule.proofs.ClientSteps.{each_snoc, client_whole, link_help, link_serves}
-use Rattle.clover_rule.proofs.Snocs.{used_snoc}
+use Rattle.clover_rule.proofs.ClientSteps.{client_whole, link_help, link_serves}
+use Rattle.clover_rule.proofs.Snocs.{each_used}
 
 tag_of_pair : (w : Version) (x : Value) → w.value ≡ Some x → tag_in (pair_of w) ≡ Some w.tag
 tag_of_pair w x e = rw e refl
@@ -58,8 +61,8 @@ module _ (l : Pool) (m0 : Tagged) (used : List ℕ) (m : Mem) (vs : List View) (
       (commit_rule m0 used m vs st h r id v at n s k u t y call reply rest p nm cm does found)
       (link_help l m st r.core w.help s u i id (record { tag = t; value = y }) c k key fits h (h ++ link_entry v n call reply ∷ []) g)
       (link_serves l m st r.core w.help s u i id (record { tag = t; value = y }) c k key fits h (h ++ link_entry v n call reply ∷ []) g)
-      (subst (Each (λ (x : ℕ). (age x < l.wear) × (age x ≤ gen (m.fnext (home x))))) (sym (used_snoc used h (link_entry v n call reply) ∙ ap (grown (used_by used h)) cm)) ((let a = o.1 in let b = rg.1 in omega arith, let a = o.1 in let b = ap gen lo.1 in omega arith), w.safe))
-      (λ cs a b. each_snoc (λ (e : Entry). Within e.client cs) h (link_entry v n call reply) b a)
+      (each_used (λ (x : ℕ). (age x < l.wear) × (age x ≤ gen (m.fnext (home x)))) used h (link_entry v n call reply) w.safe (subst (Each (λ (x : ℕ). (age x < l.wear) × (age x ≤ gen (m.fnext (home x))))) (sym (new_some call reply (record { tag = t; value = y }) cm)) ((let a = o.1 in let b = rg.1 in omega arith, let a = o.1 in let b = ap gen lo.1 in omega arith), tt)))
+      (λ cs a b. each_both (λ (e : Entry). Within e.client cs) h (link_entry v n call reply ∷ []) b (a, tt))
 
   -- what the tail's meta word says of the map
   live_map : (s : ℕ) (k : List ℕ) (u : ℕ) (tail : Within (s, u) v.pass.durable) (name : Within (s, k) v.pass.names) (found : m.next (home u) ≡ word (age u) None) → SawValue v s u → tag_in (leads (shows m0) h k) ≡ Some u
@@ -90,8 +93,8 @@ module _ (l : Pool) (m0 : Tagged) (used : List ℕ) (m : Mem) (vs : List View) (
         → Whole l m0 used m (renewed vs id (decided_view m0 used m vs st h r id v at s k u tail name found n call reply)) st (h ++ link_entry v n call reply ∷ [])
     load_whole call reply nm cm does = client_whole l m0 used m vs st h w id v (decided_view m0 used m vs st h r id v at s k u tail name found n call reply) at n role refl m st (h ++ link_entry v n call reply ∷ [])
         (decide_rule m0 used m vs st h r id v at s k u tail name found n role call reply nm cm does) w.help (λ sv e. e)
-        (subst (Each (λ (x : ℕ). (age x < l.wear) × (age x ≤ gen (m.fnext (home x))))) (sym (used_snoc used h (link_entry v n call reply) ∙ ap (grown (used_by used h)) cm)) w.safe)
-        (λ cs a b. each_snoc (λ (e : Entry). Within e.client cs) h (link_entry v n call reply) b a)
+        (each_used (λ (x : ℕ). (age x < l.wear) × (age x ≤ gen (m.fnext (home x)))) used h (link_entry v n call reply) w.safe (subst (Each (λ (x : ℕ). (age x < l.wear) × (age x ≤ gen (m.fnext (home x))))) (sym (new_none (leads (shows m0) h k) (used_by used h) call reply does cm)) tt))
+        (λ cs a b. each_both (λ (e : Entry). Within e.client cs) h (link_entry v n call reply ∷ []) b (a, tt))
 
     -- Found
     pub found_get : (x : Value) → CopiedValue v s u x → Permits (leads (shows m0) h k) (used_by used h) (Get k) (Found u x)

@@ -12,9 +12,11 @@ use Rattle.clover_map.specs.History.{key_of}
 use Rattle.clover_map.proofs.Parts.{own_push, own_push_other}
 use Rattle.clover_map.specs.Tagged.{Tagged}
 use Rattle.clover_map.specs.Tags.{IsFresh}
+use Rattle.std.specs.List.{cons_option}
 use Rattle.clover_rule.specs.Changes.{linked_mem, linked_story}
 use Rattle.std.specs.Str.{bytes_eq}
-use Rattle.clover_rule.specs.History.{Version, used_by, commits_at, joined, entry_key, commit_of, lost_in, grown, committed, leads, shows}
+use Rattle.clover_map.specs.Legal.{used_by}
+use Rattle.clover_rule.specs.History.{Version, commits_at, entry_key, commit_of, lost_in, committed}
 use Rattle.clover_rule.specs.Knowing.{MayLink, link_entry, link_view}
 use Rattle.clover_rule.specs.Lists.{Each, nth, Within}
 use Rattle.clover_rule.specs.Memory.{word, gen, Mem}
@@ -24,13 +26,14 @@ use Rattle.clover_rule.specs.declared.view.Content.{Content}
 use Rattle.clover_rule.specs.declared.view.Role.{Role}
 use Rattle.clover_rule.specs.declared.view.Role.TheVariants.{Client}
 use Rattle.clover_rule.specs.declared.view.View.{View}
-use Rattle.clover_rule.proofs.TaggedMaps.{Permits, fresh_all}
+use Rattle.clover_rule.proofs.KeyMaps.{leads, shows}
+use Rattle.clover_rule.proofs.TaggedMaps.{Permits, new_some, fresh_all}
 use Rattle.clover_rule.proofs.Tools.{upd_same, upd_else, nth_within, nth_snoc, nth_front}
 use Rattle.clover_rule.proofs.Standings.{same_tag}
 use Rattle.clover_rule.proofs.Keys.{eq_key, ne_key}
-use Rattle.clover_rule.proofs.Histories.{legal_snoc, commits_snoc}
+use Rattle.clover_rule.proofs.Histories.{legal_snoc, commits_snoc, commits_first}
 use Rattle.clover_rule.proofs.Linking.{CanLink, link_core, u_last, u_sure, gens, u_stands, tag_else, tag_new}
-use Rattle.clover_rule.proofs.Snocs.{unread_snoc, fresh_commit, within_nth, within_commits, within_back, used_snoc}
+use Rattle.clover_rule.proofs.Snocs.{unread_snoc, fresh_commit, within_nth, within_commits, within_back, each_used}
 use Rattle.clover_rule.proofs.Steps.{each_map, each_within, prefix_self, within_prefix, Grows, Leaves, view_kept, nth_set, set_here, link_kept, durable_kept, past_kept, copied_kept, role_was}
 
 version_kept : (st : Story) (s : ℕ) (w : Version) (s' i : ℕ) (x : Version) → nth (st.log s') i ≡ Some x → nth ((linked_story st s w).log s') i ≡ Some x
@@ -138,10 +141,10 @@ module _ (m0 : Tagged) (used : List ℕ) (m : Mem) (vs : List View) (st : Story)
       )
 
   own_commit : commits_at k (e ∷ []) ≡ w ∷ []
-  own_commit = ap (λ (j : List ℕ). cond (bytes_eq j k) (joined (committed call reply) []) []) nm ∙ ap (λ (o : Option Version). cond (bytes_eq k k) (joined o []) []) cm ∙ ap (λ (b : Bool). cond b (w ∷ []) []) (eq_key k k refl)
+  own_commit = commits_first k e [] ∙ ap (λ (j : List ℕ). cond (bytes_eq j k) (cons_option (committed call reply) []) []) nm ∙ ap (λ (o : Option Version). cond (bytes_eq k k) (cons_option o []) []) cm ∙ ap (λ (b : Bool). cond b (w ∷ []) []) (eq_key k k refl)
 
   else_commit : (k1 : List ℕ) → k ≢ k1 → commits_at k1 (e ∷ []) ≡ []
-  else_commit k1 d = ap (λ (j : List ℕ). cond (bytes_eq j k1) (joined (committed call reply) []) []) nm ∙ ap (λ (b : Bool). cond b (joined (committed call reply) []) []) (ne_key k k1 d)
+  else_commit k1 d = commits_first k1 e [] ∙ ap (λ (j : List ℕ). cond (bytes_eq j k1) (cons_option (committed call reply) []) []) nm ∙ ap (λ (b : Bool). cond b (cons_option (committed call reply) []) []) (ne_key k k1 d)
 
   told' : (s1 : ℕ) (k1 : List ℕ) → st.keys s1 ≡ Some k1 → st'.log s1 ≡ st.first s1 ++ commits_at k1 h'
   told' s1 k1 q = go (ℕ_discrete s1 s)
@@ -155,7 +158,7 @@ module _ (m0 : Tagged) (used : List ℕ) (m : Mem) (vs : List View) (st : Story)
 
   tale' : Tale st' m0 used h'
   tale' = record {
-    legal = legal_snoc m0 used used h e (λ x c. c) r.tale.legal (subst (λ (j : List ℕ). Permits (leads (shows m0) h j) (used_by used h) call reply) (sym nm) (does fresh));
+    legal = legal_snoc m0 used h e r.tale.legal (subst (λ (j : List ℕ). Permits (leads (shows m0) h j) (used_by used h) call reply) (sym nm) (does fresh));
     told = told';
     began = r.tale.began;
     unread = unread_snoc (unsure st) (unsure st') h e r.tale.unread (λ x1 a b. let z = unread_after x1 a b in (z.0, λ q. z.1 (sym nm ∙ q)));
@@ -187,7 +190,7 @@ module _ (m0 : Tagged) (used : List ℕ) (m : Mem) (vs : List View) (st : Story)
   spent_new = inr (s, upd_same st.place (home t) (Chained s), sym (gens' (home t) ∙ owned.1))
 
   spent' : Each (Spent m' st') (used_by used h')
-  spent' = subst (Each (Spent m' st')) (sym (used_snoc used h e ∙ ap (grown (used_by used h)) cm)) (spent_new, each_map spent_kept (used_by used h) r.spent)
+  spent' = each_used (Spent m' st') used h e (each_map spent_kept (used_by used h) r.spent) (subst (Each (Spent m' st')) (sym (new_some call reply w cm)) (spent_new, tt))
 
   parts_apart : Each (λ (y : ℕ). home y ≢ home t) rest × Apart rest
   parts_apart = subst Apart p.stock ok.apart

@@ -8,7 +8,8 @@ use Rattle.clover_map.specs.declared.call.Reply.{Reply}
 use Rattle.clover_map.specs.declared.call.Entry.{Entry}
 use Rattle.clover_map.specs.History.{key_of}
 use Rattle.clover_map.specs.Tagged.{Tagged}
-use Rattle.clover_rule.specs.History.{Version, used_by, commits_at, entry_key, commit_of, lost_in, grown, committed, leads, shows}
+use Rattle.clover_map.specs.Legal.{used_by}
+use Rattle.clover_rule.specs.History.{Version, commits_at, entry_key, commit_of, lost_in, committed}
 use Rattle.clover_rule.specs.Knowing.{link_entry}
 use Rattle.clover_rule.specs.Lists.{Each, nth, Within}
 use Rattle.clover_rule.specs.Memory.{gen, Mem}
@@ -20,12 +21,14 @@ use Rattle.clover_rule.specs.declared.view.ServerTask.{ServerTask}
 use Rattle.clover_rule.specs.declared.view.ServerTask.TheVariants.{Idle, Storing, Rooted, Waiting, Loaded, Raised, Led, Both, Exchanged}
 use Rattle.clover_rule.specs.declared.view.View.{View}
 use Rattle.clover_words.specs.declared.pool.Pool.{Pool}
-use Rattle.clover_rule.proofs.TaggedMaps.{Permits}
+use Rattle.clover_rule.proofs.Tools.{each_both}
+use Rattle.clover_rule.proofs.KeyMaps.{leads, shows}
+use Rattle.clover_rule.proofs.TaggedMaps.{Permits, new_none}
 use Rattle.clover_rule.proofs.Tools.{nth_within}
-use Rattle.clover_rule.proofs.Snocs.{within_nth, within_commits, within_back, used_snoc}
+use Rattle.clover_rule.proofs.Snocs.{within_nth, within_commits, within_back, each_used}
 use Rattle.clover_rule.proofs.AbsentLaw.{same_option, absent_map, whole_prefix}
 use Rattle.clover_rule.proofs.Uncommitted.{answered, answered_rule}
-use Rattle.clover_rule.proofs.ClientSteps.{each_snoc, client_whole}
+use Rattle.clover_rule.proofs.ClientSteps.{client_whole}
 
 module _ (l : Pool) (m0 : Tagged) (used : List ℕ) (m : Mem) (vs : List View) (st : Story) (h : List Entry) (w : Whole l m0 used m vs st h)
     (id : ℕ) (v : View) (at : nth vs id ≡ Some v) (k : List ℕ) (missing : (s : ℕ) → Within (s, k) v.pass.names → ⊥) (found : m.count ≡ length v.pass.names) where
@@ -82,5 +85,5 @@ module _ (l : Pool) (m0 : Tagged) (used : List ℕ) (m : Mem) (vs : List View) (
       → Whole l m0 used m (renewed vs id (counted_view n call reply)) st (h ++ link_entry v n call reply ∷ [])
   count_whole n role call reply nm cm does = client_whole l m0 used m vs st h w id v (counted_view n call reply) at n role refl m st (h ++ link_entry v n call reply ∷ [])
       (answered_rule m0 used m vs st h r id v at n role k unread_after v.pass.words ok.words (max v.pass.most m.count) (let q = ok.most in omega arith) call reply nm cm does) w.help (λ sv e. e)
-      (subst (Each (λ (x : ℕ). (age x < l.wear) × (age x ≤ gen (m.fnext (home x))))) (sym (used_snoc used h (link_entry v n call reply) ∙ ap (grown (used_by used h)) cm)) w.safe)
-      (λ cs a b. each_snoc (λ (x : Entry). Within x.client cs) h (link_entry v n call reply) b a)
+      (each_used (λ (x : ℕ). (age x < l.wear) × (age x ≤ gen (m.fnext (home x)))) used h (link_entry v n call reply) w.safe (subst (Each (λ (x : ℕ). (age x < l.wear) × (age x ≤ gen (m.fnext (home x))))) (sym (new_none (leads (shows m0) h k) (used_by used h) call reply does cm)) tt))
+      (λ cs a b. each_both (λ (x : Entry). Within x.client cs) h (link_entry v n call reply ∷ []) b (a, tt))

@@ -1,5 +1,5 @@
 -- The law of cuts.
-use Rattle.std.proofs.Common.{◌≡◌, ℕ, zero, suc, ◌+◌, ◌<◌, ◌≤◌, List, [], ◌∷◌, ◌++◌, length, drop, Bool, true, false, cond, ltb, leb, ◌&&◌, refl, sym, ap, ◌∙◌, ⊎_elim, arith, subst, true≢false}
+use Rattle.std.proofs.Common.{◌≡◌, ◌≢◌, ℕ, zero, suc, ◌+◌, ◌<◌, ◌≤◌, List, [], ◌∷◌, ◌++◌, length, drop, Bool, true, false, cond, ltb, leb, ◌&&◌, refl, sym, ap, ◌∙◌, ⊎_elim, arith, subst, true≢false}
 use native.Mathlib.Decide.{ℕ_discrete, dec_le}
 use mathlib.Core.Logic.{dite}
 use Rattle.std.specs.Prelude.{Option, Some, None}
@@ -12,29 +12,36 @@ use Rattle.clover_map.specs.declared.bytes.Held.{Held}
 use Rattle.std.specs.Str.{bytes_eq}
 use Rattle.clover_map.specs.Legal.{Legal}
 use Rattle.clover_map.specs.Tagged.{Tagged}
-use Rattle.clover_rule.specs.History.{shows, Version, Map, pair_of, ends, kept, commits_at, Unread, Last, entry_key, commit_of, lost_in, joined, leads}
-use Rattle.clover_rule.specs.Image.{Image, IsImage, Chain, is_none, leads_to, missing, sift, tags, Reads, ReadsMap}
+use Rattle.std.specs.List.{cons_option}
+use Rattle.clover_rule.specs.History.{Version, pair_of, ends, kept, commits_at, Unread, Last, entry_key, commit_of, lost_in}
+use Rattle.clover_rule.specs.Image.{Image, IsImage, Chain, is_none, leads_to, missing, sift, tags, Reads}
 use Rattle.clover_rule.specs.Lists.{Each, nth}
 use Rattle.clover_rule.specs.Memory.{gen, link, Mem}
 use Rattle.clover_rule.specs.Story.{Story, tag_in_version, tag_at, only, Core, Tale, unsure, Durable}
+use Rattle.clover_rule.proofs.KeyMaps.{shows, Map, leads}
 use Rattle.clover_rule.proofs.Tools.{nth_some, nth_within, nth_none}
-use Rattle.clover_rule.proofs.Histories.{kept_legal, unread_last, leads_commits, ends_more}
+use Rattle.clover_rule.proofs.Histories.{kept_legal, unread_last, leads_commits, ends_more, commits_first}
 use Rattle.clover_rule.proofs.Standings.{tag_there, only_none}
 
+-- each bound slot reads as the map says at its key
+pub record ReadsMap (st : Story) (im : Image) (m : Map) : Type 0 where
+  pub bound : (s : ℕ) (k : List ℕ) → st.keys s ≡ Some k → Reads im s (m k)
+  pub unbound : (k : List ℕ) → ((s : ℕ) → st.keys s ≢ Some k) → m k ≡ None
+
 -- sifting a history sifts the commits of each key
-sift_step : (lost : ℕ → Bool) (c : Option Version) (b : Bool) (xs : List Version) → sift lost (cond b (joined c xs) xs) ≡ cond (lost_in lost c) (sift lost xs) (cond b (joined c (sift lost xs)) (sift lost xs))
+sift_step : (lost : ℕ → Bool) (c : Option Version) (b : Bool) (xs : List Version) → sift lost (cond b (cons_option c xs) xs) ≡ cond (lost_in lost c) (sift lost xs) (cond b (cons_option c (sift lost xs)) (sift lost xs))
 sift_step lost None true xs = refl
 sift_step lost None false xs = refl
 sift_step lost (Some w) true xs = refl
 sift_step lost (Some w) false xs = elim (lost w.tag) as (λ (b : Bool). sift lost xs ≡ cond b (sift lost xs) (sift lost xs)) [ true ↦ refl | false ↦ refl ]
 
-commits_cond : (k : List ℕ) (e : Entry) (b : Bool) (xs : List Entry) → commits_at k (cond b xs (e ∷ xs)) ≡ cond b (commits_at k xs) (cond (bytes_eq (entry_key e) k) (joined (commit_of e) (commits_at k xs)) (commits_at k xs))
+commits_cond : (k : List ℕ) (e : Entry) (b : Bool) (xs : List Entry) → commits_at k (cond b xs (e ∷ xs)) ≡ cond b (commits_at k xs) (cond (bytes_eq (entry_key e) k) (cons_option (commit_of e) (commits_at k xs)) (commits_at k xs))
 commits_cond k e true xs = refl
-commits_cond k e false xs = refl
+commits_cond k e false xs = commits_first k e xs
 
 pub commits_kept : (lost : ℕ → Bool) (k : List ℕ) (h : List Entry) → commits_at k (kept lost h) ≡ sift lost (commits_at k h)
 commits_kept lost k [] = refl
-commits_kept lost k (e ∷ h) = commits_cond k e (lost_in lost (commit_of e)) (kept lost h) ∙ ap (λ (xs : List Version). cond (lost_in lost (commit_of e)) xs (cond (bytes_eq (entry_key e) k) (joined (commit_of e) xs) xs)) (commits_kept lost k h) ∙ sym (sift_step lost (commit_of e) (bytes_eq (entry_key e) k) (commits_at k h))
+commits_kept lost k (e ∷ h) = commits_cond k e (lost_in lost (commit_of e)) (kept lost h) ∙ ap (λ (xs : List Version). cond (lost_in lost (commit_of e)) xs (cond (bytes_eq (entry_key e) k) (cons_option (commit_of e) xs) xs)) (commits_kept lost k h) ∙ sym (ap (sift lost) (commits_first k e h) ∙ sift_step lost (commit_of e) (bytes_eq (entry_key e) k) (commits_at k h))
 
 sift_append : (lost : ℕ → Bool) (xs ys : List Version) → sift lost (xs ++ ys) ≡ sift lost xs ++ sift lost ys
 sift_append lost [] ys = refl

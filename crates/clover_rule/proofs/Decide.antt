@@ -12,7 +12,8 @@ use Rattle.clover_map.specs.declared.bytes.Held.{Held}
 use Rattle.clover_map.specs.History.{key_of}
 use Rattle.clover_map.specs.Tagged.{Tagged}
 use Rattle.clover_rule.specs.Content.{content}
-use Rattle.clover_rule.specs.History.{pair_of, Version, used_by, commits_at, ends, entry_key, commit_of, lost_in, committed, leads, shows}
+use Rattle.clover_map.specs.Legal.{used_by}
+use Rattle.clover_rule.specs.History.{pair_of, Version, commits_at, ends, entry_key, commit_of, lost_in, committed}
 use Rattle.clover_rule.specs.Knowing.{link_entry}
 use Rattle.clover_rule.specs.Lists.{nth, Within}
 use Rattle.clover_rule.specs.Memory.{word, gen, Mem}
@@ -20,6 +21,7 @@ use Rattle.clover_rule.specs.Story.{Story, tag_in_version, tag_at, Durable, unsu
 use Rattle.clover_rule.specs.Views.{IsCopied, ViewOk, Basis, renewed, shown}
 use Rattle.clover_rule.specs.declared.view.Role.TheVariants.{Client}
 use Rattle.clover_rule.specs.declared.view.View.{View}
+use Rattle.clover_rule.proofs.KeyMaps.{leads, shows}
 use Rattle.clover_rule.proofs.TaggedMaps.{Permits}
 use Rattle.clover_rule.proofs.Histories.{ends_more, ends_last}
 use Rattle.clover_rule.proofs.Tools.{nth_within}

@@ -8,12 +8,12 @@ use Rattle.clover_words.specs.Tag.{home, age}
 use Rattle.clover_map.specs.declared.call.Entry.{Entry}
 use Rattle.clover_map.specs.History.{own}
 use Rattle.clover_map.specs.Tagged.{Tagged}
-use Rattle.clover_rule.specs.History.{used_by}
+use Rattle.clover_map.specs.Legal.{used_by}
 use Rattle.clover_rule.specs.Lists.{Each, nth, upd, Within}
 use Rattle.clover_rule.specs.Memory.{gen, Mem}
 use Rattle.clover_rule.specs.Server.{Ready, AtStage, Help, Serves, Whole}
 use Rattle.clover_rule.specs.Story.{Place, Chained, Stocked, Free, Worn, Taken, Loose, Story, Core}
-use Rattle.clover_rule.specs.Views.{Owned, ViewOk, Spent, Numbered, handed}
+use Rattle.clover_rule.specs.Views.{Owned, ViewOk, Spent, Numbered, batch_at}
 use Rattle.clover_rule.specs.Moves.{making, client_of}
 use Rattle.clover_rule.specs.declared.view.Role.TheVariants.{Client, Serving}
 use Rattle.clover_rule.specs.declared.view.ServerTask.{ServerTask}
@@ -25,17 +25,13 @@ use Rattle.clover_rule.proofs.Steps.{each_map, prefix_self, Grows, view_kept, nt
 use Rattle.clover_rule.proofs.GrantLaw.{away, all_there, core_handed}
 use Rattle.clover_rule.proofs.ServerTools.{tale_copy}
 
-pub each_both : {A : Type 0} (P : A → Type 0) (xs ys : List A) → Each P xs → Each P ys → Each P (xs ++ ys)
-each_both P [] ys a b = b
-each_both P (x ∷ xs) ys a b = (a.0, each_both P xs ys a.1 b)
-
 -- a batch that stood at one loose place goes to another
 module _ (l : Pool) (m0 : Tagged) (used : List ℕ) (m : Mem) (vs : List View) (st : Story) (h : List Entry) (w : Whole l m0 used m vs st h) (batch : List ℕ) (q0 : Place) (k : ℕ) (ready : Ready q0) (was : Each (λ (t : ℕ). st.place (home t) ≡ q0) batch) where
   abbrev pub q : Place
   q = Stocked k
 
   abbrev pub st' : Story
-  st' = record st { place = handed st.place batch q }
+  st' = record st { place = batch_at st.place batch q }
 
   loose0 : (p : Place) → Ready p → Loose p
   loose0 Free f = tt
@@ -58,7 +54,7 @@ module _ (l : Pool) (m0 : Tagged) (used : List ℕ) (m : Mem) (vs : List View) (
   pub hand_case : (b : ℕ) → ((st'.place b ≡ q) × (st.place b ≡ q0)) ⊎ (st'.place b ≡ st.place b)
   hand_case b = go batch was st.place (inr refl)
     where
-      go : (ts : List ℕ) → Each (λ (t : ℕ). st.place (home t) ≡ q0) ts → (f : ℕ → Place) → ((f b ≡ q) × (st.place b ≡ q0)) ⊎ (f b ≡ st.place b) → ((handed f ts q b ≡ q) × (st.place b ≡ q0)) ⊎ (handed f ts q b ≡ st.place b)
+      go : (ts : List ℕ) → Each (λ (t : ℕ). st.place (home t) ≡ q0) ts → (f : ℕ → Place) → ((f b ≡ q) × (st.place b ≡ q0)) ⊎ (f b ≡ st.place b) → ((batch_at f ts q b ≡ q) × (st.place b ≡ q0)) ⊎ (batch_at f ts q b ≡ st.place b)
       go [] e f d = d
       go (t ∷ ts) e f d = go ts e.1 (upd f (home t) q) (dite (ℕ_discrete b (home t)) (λ z. inl (ap (upd f (home t) q) z ∙ upd_same f (home t) q, ap st.place z ∙ e.0)) (λ z. ⊎_elim (λ a. inl (upd_else f (home t) b q z ∙ a.0, a.1)) (λ a. inr (upd_else f (home t) b q z ∙ a)) d))
 
@@ -116,7 +112,7 @@ module _ (l : Pool) (m0 : Tagged) (used : List ℕ) (m : Mem) (vs : List View) (
     hand_whole = let r = w.basis in record {
       basis = record {
         core = hand_core;
-        tale = tale_copy st m0 used h r.tale (handed st.place batch q) st.gone st.lead st.flead st.named st.bindings st.task st.slot_named;
+        tale = tale_copy st m0 used h r.tale (batch_at st.place batch q) st.gone st.lead st.flead st.named st.bindings st.task st.slot_named;
         bodies = r.bodies;
         spent = each_map hand_spent (used_by used h) r.spent;
         bound = r.bound;

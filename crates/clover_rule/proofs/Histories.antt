@@ -1,50 +1,67 @@
 -- Laws on histories.
-use Rattle.std.proofs.Common.{◌≡◌, ℕ, zero, suc, ◌≢◌, List, [], ◌∷◌, ◌++◌, length, Bool, true, false, cond, refl, sym, ap, ◌∙◌, subst, arith}
-use Rattle.std.specs.Prelude.{Option, Some, None}
+use Rattle.std.proofs.Common.{◌≡◌, ℕ, zero, suc, ◌≢◌, List, [], ◌∷◌, ◌++◌, length, Bool, true, false, cond, refl, sym, ap, ◌∙◌, subst, arith, ◌&&◌, true≢false}
+use Rattle.std.specs.Prelude.{filter_map, Option, Some, None}
+use Rattle.clover_map.specs.declared.call.Call.{Call}
+use Rattle.clover_map.specs.declared.call.Call.TheVariants.{Put, Delete, Swap}
+use Rattle.clover_map.specs.declared.call.Reply.{Reply}
+use Rattle.clover_map.specs.declared.call.Reply.TheVariants.{Stored, Deleted}
 use Rattle.clover_map.specs.declared.call.Entry.{Entry}
 use Rattle.clover_map.specs.declared.bytes.Held.{Held}
+use Rattle.std.specs.List.{cons_option}
 use Rattle.clover_rule.proofs.Keys.{ne_key}
 use Rattle.std.specs.Str.{bytes_eq}
-use Rattle.clover_rule.specs.History.{Version, Map, shows, entry_key, commit_of, changed, after, grown, pair_of, commits_at, ends, kept, lost_in, Silent, Unread, Last, joined, used_by, leads}
-use Rattle.clover_map.specs.Legal.{Legal}
+use Rattle.clover_rule.specs.History.{Version, entry_key, commit_of, pair_of, commits_at, ends, kept, lost_in, Silent, Unread, Last, committed}
+use Rattle.clover_map.specs.History.{commits, commits_to, is_commit}
+use Rattle.clover_map.specs.Legal.{Legal, used_by}
 use Rattle.clover_map.specs.Tagged.{Tagged}
 use Rattle.clover_map.specs.Tags.{new_tags}
 use Rattle.std.specs.FinMap.{get}
-use Rattle.std.proofs.lemmas.List.Elements.{Contains-append_left}
-use Rattle.clover_rule.proofs.TaggedMaps.{Permits, Fewer, does_permitted, permits_step, shows_step, fewer_step, fewer_append}
+use Rattle.std.proofs.lemmas.List.Elements.{Contains-append_left, filter-append, filter_map-append}
+use Rattle.clover_map.proofs.Runs.{legal_leads, leads_push}
+use Rattle.clover_rule.proofs.KeyMaps.{Map, shows, changed, after, leads}
+use Rattle.clover_rule.proofs.TaggedMaps.{Permits, Fewer, does_permitted, permits_step, shows_step, legal_history, fewer_append}
 use Rattle.clover_rule.specs.Lists.{Each, nth}
 
-ends_changed : (m : Map) (j k : List ℕ) (c : Option Version) (ws : List Version) → ends (changed m j c k) ws ≡ ends (m k) (cond (bytes_eq j k) (joined c ws) ws)
+-- what commits a version is a commit, so a reply that is none commits nothing
+commit_some : (c : Call) (r : Reply) (w : Version) → committed c r ≡ Some w → is_commit r ≡ true
+commit_some (Put k v) (Stored t) w e = refl
+commit_some (Delete k) (Deleted t) w e = refl
+commit_some (Swap k x v) (Stored t) w e = refl
+commit_some c r w e = absurd cc
+
+no_commit : (o : Option Version) (b : Bool) → ((w : Version) → o ≡ Some w → b ≡ true) → b ≡ false → o ≡ None
+no_commit None b f e = refl
+no_commit (Some w) b f e = absurd (true≢false (sym (f w refl) ∙ e))
+
+-- the commits at a key with one more entry in front
+pub commits_first : (k : List ℕ) (e : Entry) (h : List Entry) → commits_at k (e ∷ h) ≡ cond (bytes_eq (entry_key e) k) (cons_option (commit_of e) (commits_at k h)) (commits_at k h)
+commits_first k e h = go (is_commit e.reply) (bytes_eq (entry_key e) k) (no_commit (commit_of e) (is_commit e.reply) (commit_some e.call e.reply))
+  where
+    go : (r b : Bool) → (r ≡ false → commit_of e ≡ None) → filter_map commit_of (cond (r && b) (e ∷ commits h k) (commits h k)) ≡ cond b (cons_option (commit_of e) (commits_at k h)) (commits_at k h)
+    go true true f = refl
+    go true false f = refl
+    go false true f = sym (ap (λ (o : Option Version). cons_option o (commits_at k h)) (f refl))
+    go false false f = refl
+
+ends_changed : (m : Map) (j k : List ℕ) (c : Option Version) (ws : List Version) → ends (changed m j c k) ws ≡ ends (m k) (cond (bytes_eq j k) (cons_option c ws) ws)
 ends_changed m j k None ws = elim (bytes_eq j k) as (λ b. ends (m k) ws ≡ ends (m k) (cond b ws ws)) [ true ↦ refl | false ↦ refl ]
 ends_changed m j k (Some w) ws = elim (bytes_eq j k) as (λ b. ends (cond b (pair_of w) (m k)) ws ≡ ends (m k) (cond b (w ∷ ws) ws)) [ true ↦ refl | false ↦ refl ]
 
 -- what a history leads to at a key
 pub leads_commits : (m : Map) (h : List Entry) (k : List ℕ) → leads m h k ≡ ends (m k) (commits_at k h)
 leads_commits m [] k = refl
-leads_commits m (e ∷ h) k = leads_commits (after m e) h k ∙ ends_changed m (entry_key e) k (commit_of e) (commits_at k h)
+leads_commits m (e ∷ h) k = leads_commits (after m e) h k ∙ ends_changed m (entry_key e) k (commit_of e) (commits_at k h) ∙ ap (ends (m k)) (sym (commits_first k e h))
 
-pub leads_snoc : (m : Map) (h : List Entry) (e : Entry) → leads m (h ++ e ∷ []) ≡ after (leads m h) e
-leads_snoc m [] e = refl
-leads_snoc m (x ∷ h) e = leads_snoc (after m x) h e
+-- a legal history stays so with one more entry, if the map to which it leads permits it
+pub legal_snoc : (m : Tagged) (used : List ℕ) (h : List Entry) (e : Entry) → Legal m used h → Permits (leads (shows m) h (entry_key e)) (used_by used h) e.call e.reply → Legal m used (h ++ e ∷ [])
+legal_snoc m used h e l d =
+    let n = legal_history m used h l in
+    let o = does_permitted n.0 (used_by used h) (used_by used h) e.call e.reply (λ t c. c) (subst (λ (f : Map). Permits (f (entry_key e)) (used_by used h) e.call e.reply) (sym n.2) d) in
+    legal_leads m o.0 used (h ++ e ∷ []) (leads_push m n.0 o.0 used h e n.1 o.1)
 
-pub legal_snoc : (m : Tagged) (us vs : List ℕ) (h : List Entry) (e : Entry) → Fewer us vs → Legal m vs h → Permits (leads (shows m) h (entry_key e)) (used_by us h) e.call e.reply → Legal m vs (h ++ e ∷ [])
-legal_snoc m us vs [] e f l d = let n = does_permitted m us vs e.call e.reply f d in (n.0, n.1, tt)
-legal_snoc m us vs (x ∷ h) e f l d = (
-  l.0,
-  l.1,
-  legal_snoc l.0 (grown us (commit_of x)) (vs ++ new_tags x.reply) h e (fewer_step m us vs x.call x.reply l.0 l.1 f) l.2
-      (subst (λ (z : Map). Permits (leads z h (entry_key e)) (used_by (grown us (commit_of x)) h) e.call e.reply) (sym (shows_step m vs x.call x.reply l.0 l.1)) d),
-)
-
-commits_step : (c : Option Version) (b : Bool) (xs ys : List Version) → cond b (joined c (xs ++ ys)) (xs ++ ys) ≡ cond b (joined c xs) xs ++ ys
-commits_step None true xs ys = refl
-commits_step None false xs ys = refl
-commits_step (Some w) true xs ys = refl
-commits_step (Some w) false xs ys = refl
-
+-- and with one more at the end
 pub commits_snoc : (k : List ℕ) (h : List Entry) (e : Entry) → commits_at k (h ++ e ∷ []) ≡ commits_at k h ++ commits_at k (e ∷ [])
-commits_snoc k [] e = refl
-commits_snoc k (x ∷ h) e = rw (commits_snoc k h e) (commits_step (commit_of x) (bytes_eq (entry_key x) k) (commits_at k h) (commits_at k (e ∷ [])))
+commits_snoc k h e = ap (filter_map commit_of) (filter-append (commits_to k) h (e ∷ [])) ∙ filter_map-append commit_of (commits h k) (commits (e ∷ []) k)
 
 pub ends_more : (x : Option Held) (vs ws : List Version) → ends x (vs ++ ws) ≡ ends (ends x vs) ws
 ends_more x [] ws = refl
@@ -109,7 +126,7 @@ kept_legal lost (e ∷ h) m n us vs l u a f = go (lost_in lost (commit_of e)) u.
 
 silent_none : (k : List ℕ) (h : List Entry) → Silent k h → commits_at k h ≡ []
 silent_none k [] s = refl
-silent_none k (e ∷ h) s = rw (ne_key (entry_key e) k s.0) (silent_none k h s.1)
+silent_none k (e ∷ h) s = commits_first k e h ∙ ap (λ (b : Bool). cond b (cons_option (commit_of e) (commits_at k h)) (commits_at k h)) (ne_key (entry_key e) k s.0) ∙ silent_none k h s.1
 
 pub unread_last : (lost : ℕ → Bool) (h : List Entry) → Unread lost h → Last lost h
 unread_last lost [] u = tt

@@ -25,7 +25,8 @@ use Rattle.clover_map.specs.Tagged.{Tagged}
 use Rattle.clover_map.specs.declared.bytes.Value.{Value}
 use Rattle.clover_rule.specs.Changes.{linked_mem, linked_story, raised_mem}
 use Rattle.clover_rule.specs.Content.{inside, InRange, Fits}
-use Rattle.clover_rule.specs.History.{shows, committed, leads, used_by}
+use Rattle.clover_map.specs.Legal.{used_by}
+use Rattle.clover_rule.specs.History.{committed}
 use Rattle.clover_rule.specs.Knowing.{link_view, link_entry, stored_view, flushed_view, MayLink}
 use Rattle.clover_rule.specs.Lists.{Within, upd, nth, Each}
 use Rattle.clover_rule.specs.Meets.{IsCode, Meets, IsMet}
@@ -40,6 +41,7 @@ use Rattle.clover_rule.specs.Words.{next_code, root_of, next_of, mem_of}
 use Rattle.clover_rule.specs.declared.view.Link.{Link}
 use Rattle.clover_rule.specs.declared.view.View.{View}
 use Rattle.clover_map.specs.declared.bytes.Value.{Value}
+use Rattle.clover_rule.proofs.KeyMaps.{shows, leads}
 use Rattle.clover_rule.proofs.TaggedMaps.{Permits}
 use Rattle.clover_rule.proofs.Tools.{upd_same, upd_else}
 use Rattle.clover_rule.proofs.Ties.{write_next, write_fnext, write_body, write_fbody, write_short, next_again, root_again, content_side}

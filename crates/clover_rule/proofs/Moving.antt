@@ -14,7 +14,7 @@ use Rattle.clover_rule.specs.Memory.{Mem}
 use Rattle.clover_rule.specs.Moves.{MayAccept, MayGrant, MayHand, MayMake, MayNote, accepted, client_of, given, giving, grant, joined, making, note_of, noted, spent, split}
 use Rattle.clover_rule.specs.Server.{Whole, waiting_name}
 use Rattle.clover_rule.specs.Story.{Place, Stocked, Story}
-use Rattle.clover_rule.specs.Views.{handed}
+use Rattle.clover_rule.specs.Views.{batch_at}
 use Rattle.clover_rule.specs.Words.{mem_of}
 use Rattle.clover_rule.specs.declared.view.GrantRefusal.{GrantRefusal}
 use Rattle.clover_rule.specs.declared.view.Role.TheVariants.{Client, Serving}
@@ -50,7 +50,7 @@ in_front vs id v left right at same i y e = go (ℕ_discrete i id)
     go (no d) = (y, here ∙ set_away vs id i left d ∙ e, refl)
 
 -- where a buffer whose place is a stock came from
-in_hand : (f : ℕ → Place) (ts : List ℕ) (k b i : ℕ) → handed f ts (Stocked k) b ≡ Stocked i → ((t : ℕ) × Within t ts × (home t ≡ b) × (k ≡ i)) ⊎ (f b ≡ Stocked i)
+in_hand : (f : ℕ → Place) (ts : List ℕ) (k b i : ℕ) → batch_at f ts (Stocked k) b ≡ Stocked i → ((t : ℕ) × Within t ts × (home t ≡ b) × (k ≡ i)) ⊎ (f b ≡ Stocked i)
 in_hand f [] k b i e = inr e
 in_hand f (t ∷ ts) k b i e = ⊎_elim (λ a. inl (a.0, inr a.1, a.2, a.3)) (λ a. go (ℕ_discrete b (home t)) a) (in_hand (upd f (home t) (Stocked k)) ts k b i e)
   where
@@ -123,7 +123,7 @@ module _ (p : Pool) (first : Tagged) (used : List ℕ) (ws : List ℕ) (vs : Lis
   -- a batch of free tags goes to a grant
   module _ (batch : List ℕ) (position : ℕ) (names : List (ℕ × List ℕ)) (may : MayGrant p v batch position names) where
     abbrev pub granted : Story
-    granted = record st { place = handed st.place batch (Stocked (length vs)) }
+    granted = record st { place = batch_at st.place batch (Stocked (length vs)) }
 
     part : IsPart position names st.bindings
     part = subst (IsPart position names) (sym (bindings_are may.tags.server may.bindings may.directory)) may.part
@@ -159,11 +159,11 @@ module _ (p : Pool) (first : Tagged) (used : List ℕ) (ws : List ℕ) (vs : Lis
     -- a grant is taken in
     module _ (may : MayAccept v y) where
       abbrev pub taken_in : Story
-      taken_in = record st { place = handed st.place y.pass.stock (Stocked id) }
+      taken_in = record st { place = batch_at st.place y.pass.stock (Stocked id) }
 
-      at_hand : (ts : List ℕ) (t : ℕ) → Within t ts → Each (λ (u : ℕ). (handed st.place y.pass.stock (Stocked id) (home u) ≡ Stocked id) × Unit {0}) ts → handed st.place y.pass.stock (Stocked id) (home t) ≡ Stocked id
+      at_hand : (ts : List ℕ) (t : ℕ) → Within t ts → Each (λ (u : ℕ). (batch_at st.place y.pass.stock (Stocked id) (home u) ≡ Stocked id) × Unit {0}) ts → batch_at st.place y.pass.stock (Stocked id) (home t) ≡ Stocked id
       at_hand [] t w e = absurd w
-      at_hand (u ∷ ts) t w e = ⊎_elim (λ q. ap (λ (z : ℕ). handed st.place y.pass.stock (Stocked id) (home z)) (sym q) ∙ e.0.0) (λ q. at_hand ts t q e.1) w
+      at_hand (u ∷ ts) t w e = ⊎_elim (λ q. ap (λ (z : ℕ). batch_at st.place y.pass.stock (Stocked id) (home z)) (sym q) ∙ e.0.0) (λ q. at_hand ts t q e.1) w
 
       units : (ts : List ℕ) → Each (λ (u : ℕ). Unit {0}) ts
       units [] = tt
@@ -178,8 +178,8 @@ module _ (p : Pool) (first : Tagged) (used : List ℕ) (ws : List ℕ) (vs : Lis
           go : (z : View) → nth vs i ≡ Some z → (t : ℕ) → Within t z.pass.stock → home t ≡ b → Dec (i ≡ j) → Dec (i ≡ id) → (x : View) × (nth (joined vs id (accepted v y) j (spent v)) i ≡ Some x) × (u : ℕ) × Within u x.pass.stock × (home u ≡ b)
           go z q t w g (yes d) f =
               let zy : z ≡ y = let zz : Some z ≡ Some y = sym q ∙ ap (nth vs) d ∙ there in cc in
-              let now : handed st.place y.pass.stock (Stocked id) (home t) ≡ Stocked id = at_hand y.pass.stock t (subst (λ (o : View). Within t o.pass.stock) zy w) (all_there st.place y.pass.stock (Stocked id) (λ (u : ℕ). Unit {0}) (units y.pass.stock)) in
-              let same : Stocked id ≡ Stocked i = sym now ∙ ap (handed st.place y.pass.stock (Stocked id)) g ∙ e in
+              let now : batch_at st.place y.pass.stock (Stocked id) (home t) ≡ Stocked id = at_hand y.pass.stock t (subst (λ (o : View). Within t o.pass.stock) zy w) (all_there st.place y.pass.stock (Stocked id) (λ (u : ℕ). Unit {0}) (units y.pass.stock)) in
+              let same : Stocked id ≡ Stocked i = sym now ∙ ap (batch_at st.place y.pass.stock (Stocked id)) g ∙ e in
               absurd (apart (let c : id ≡ i = cc in sym d ∙ sym c))
           go z q t w g (no d) (yes f) = let zv : z ≡ v = let zz : Some z ≡ Some v = sym q ∙ ap (nth vs) f ∙ at in cc in (accepted v y, ap (nth (joined vs id (accepted v y) j (spent v))) f ∙ here (accepted v y) (spent v), t, before t v.pass.stock y.pass.stock (subst (λ (o : View). Within t o.pass.stock) zv w), g)
           go z q t w g (no d) (no f) = (z, set_away (set vs id (accepted v y)) j i (spent v) d ∙ set_away vs id i (accepted v y) f ∙ q, t, w, g)

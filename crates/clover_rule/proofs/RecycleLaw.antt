@@ -7,7 +7,7 @@ use Rattle.clover_words.specs.Tag.{home, age}
 use Rattle.clover_map.specs.declared.call.Entry.{Entry}
 use Rattle.clover_map.specs.Tagged.{Tagged}
 use Rattle.clover_rule.specs.Changes.{recycled_mem, recycled_story}
-use Rattle.clover_rule.specs.History.{used_by}
+use Rattle.clover_map.specs.Legal.{used_by}
 use Rattle.clover_rule.specs.Lists.{nth}
 use Rattle.clover_rule.specs.Memory.{word, gen, Mem}
 use Rattle.clover_rule.specs.Story.{Chained, Stocked, Taken, Story, Tale}

@@ -7,7 +7,7 @@ use Rattle.clover_words.specs.Tag.{home, age}
 use Rattle.clover_map.specs.declared.call.Entry.{Entry}
 use Rattle.clover_map.specs.Tagged.{Tagged}
 use Rattle.clover_rule.specs.Content.{inside}
-use Rattle.clover_rule.specs.History.{used_by}
+use Rattle.clover_map.specs.Legal.{used_by}
 use Rattle.clover_rule.specs.Image.{Image, IsImage}
 use Rattle.clover_rule.specs.Lists.{Each}
 use Rattle.clover_rule.specs.Memory.{Mem, Next, word, gen, link}

@@ -6,7 +6,7 @@ use Rattle.clover_map.specs.declared.bytes.Value.{Value}
 use Rattle.clover_map.specs.declared.call.Entry.{Entry}
 use Rattle.clover_map.specs.Tagged.{Tagged}
 use Rattle.clover_rule.specs.Content.{content, InRange, Spells, Fits}
-use Rattle.clover_rule.specs.History.{Version, ends, leads, kept, shows}
+use Rattle.clover_rule.specs.History.{Version, ends, kept}
 use Rattle.clover_rule.specs.Image.{Image, IsImage, Chain, missing, sift, tags}
 use Rattle.clover_rule.specs.Lists.{nth}
 use Rattle.clover_rule.specs.Memory.{gen, link, Mem}
@@ -17,6 +17,7 @@ use Rattle.clover_rule.specs.declared.view.ServerTask.{ServerTask}
 use Rattle.clover_rule.specs.declared.view.ServerTask.TheVariants.{Idle, Storing, Rooted, Waiting, Loaded, Raised, Led, Both, Exchanged}
 use Rattle.clover_rule.specs.declared.view.View.{View}
 use Rattle.clover_words.specs.declared.pool.Pool.{Pool}
+use Rattle.clover_rule.proofs.KeyMaps.{leads, shows}
 use Rattle.clover_rule.proofs.Spelling.{one_key}
 use Rattle.clover_rule.proofs.Standings.{tag_within, one_buffer}
 use Rattle.std.specs.Prelude.{drop}

@@ -7,7 +7,8 @@ use Rattle.std.specs.Prelude.{◌&&◌, Some}
 use Rattle.clover_words.specs.Tag.{home}
 use Rattle.clover_map.specs.declared.call.Entry.{Entry}
 use Rattle.clover_map.specs.Tagged.{Tagged}
-use Rattle.clover_rule.specs.History.{Version, used_by}
+use Rattle.clover_map.specs.Legal.{used_by}
+use Rattle.clover_rule.specs.History.{Version}
 use Rattle.clover_rule.specs.Knowing.{dropped, stored_view, stored_mem, flushed_view, flushed_mem}
 use Rattle.clover_rule.specs.Lists.{Each, nth, upd, Within}
 use Rattle.clover_rule.specs.Memory.{gen, Mem}

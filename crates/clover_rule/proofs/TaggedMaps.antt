@@ -1,5 +1,5 @@
--- The tagged map as a function of keys: which steps it permits, and what they and a legal history make of it.
-use Rattle.std.proofs.Common.{◌≡◌, ◌≢◌, ℕ, zero, suc, ◌<◌, ⊎_elim, List, [], ◌∷◌, ◌++◌, length, Bool, true, false, cond, refl, sym, ap, ◌∙◌, arith, subst}
+-- Steps of the tagged map: what the map shows at a key permits them, and what they and a legal history make of what it shows.
+use Rattle.std.proofs.Common.{◌≡◌, ◌≢◌, ℕ, zero, suc, ◌<◌, ⊎_elim, List, [], ◌∷◌, ◌++◌, length, Bool, true, false, cond, refl, sym, ap, ◌∙◌, arith}
 use mathlib.Core.Path.{fun_ext}
 use Rattle.std.specs.Prelude.{Option, Some, None, Contains, slice_index_or}
 use Rattle.std.specs.Ordering.{nat_cmp, eq_by_cmp}
@@ -20,8 +20,10 @@ use Rattle.clover_map.specs.Tags.{IsFresh, new_tags}
 use Rattle.clover_map.specs.Does.{held, Does}
 use Rattle.clover_map.specs.Legal.{Legal, Leads}
 use Rattle.std.specs.Str.{bytes_eq}
-use Rattle.clover_rule.specs.History.{Map, Version, at_key, leads, grown, changed, committed, tag_in, shows}
+use Rattle.clover_rule.specs.History.{Version, committed}
+use Rattle.std.proofs.lemmas.Option.{same_Some}
 use Rattle.clover_rule.specs.Lists.{Each}
+use Rattle.clover_rule.proofs.KeyMaps.{Map, shows, at_key, tag_in, changed, leads}
 use Rattle.clover_rule.proofs.Keys.{eq_key, ne_key, key_discrete}
 
 same_test : (k q : List ℕ) → eq_by_cmp (slice_cmp nat_cmp) q k ≡ bytes_eq k q
@@ -101,32 +103,25 @@ shows_step m used (Swap k e v) (Differs t) n d = ap shows d.4
 shows_step m used (Swap k e v) Absent n d = ap shows d.1
 shows_step m used c r n d = absurd d
 
--- the tags that a step hands out are that of the version that it commits
-pub new_step : (m : Tagged) (used : List ℕ) (c : Call) (r : Reply) (n : Tagged) → Does m used c r n → new_tags r ≡ grown [] (committed c r)
-new_step m used (Put k v) (Stored t) n d = refl
-new_step m used (Get k) (Found t v) n d = refl
-new_step m used (Get k) Absent n d = refl
-new_step m used (Delete k) (Deleted t) n d = refl
-new_step m used (Delete k) Absent n d = refl
-new_step m used (Swap k e v) (Stored t) n d = refl
-new_step m used (Swap k e v) (Differs t) n d = refl
-new_step m used (Swap k e v) Absent n d = refl
-new_step m used c r n d = absurd d
+-- a reply hands out the tag of the version that is committed, and none where none is
+pub new_some : (c : Call) (r : Reply) (w : Version) → committed c r ≡ Some w → new_tags r ≡ w.tag ∷ []
+new_some (Put k v) (Stored t) w e = ap (λ (x : Version). x.tag ∷ []) (same_Some (record { tag = t; value = Some v }) w e)
+new_some (Delete k) (Deleted t) w e = ap (λ (x : Version). x.tag ∷ []) (same_Some (record { tag = t; value = None }) w e)
+new_some (Swap k x v) (Stored t) w e = ap (λ (x : Version). x.tag ∷ []) (same_Some (record { tag = t; value = Some v }) w e)
+new_some c r w e = absurd cc
 
--- tags stay among those used
-pub grown_has : (used : List ℕ) (o : Option Version) → Fewer (grown used o) used
-grown_has used None t h = h
-grown_has used (Some w) t h = Contains-append_right (w.tag ∷ []) used t h
+pub new_none : (x : Option Held) (used : List ℕ) (c : Call) (r : Reply) → Permits x used c r → committed c r ≡ None → new_tags r ≡ []
+new_none x used (Get k) (Found t v) d e = refl
+new_none x used (Get k) Absent d e = refl
+new_none x used (Delete k) Absent d e = refl
+new_none x used (Swap k u v) (Differs t) d e = refl
+new_none x used (Swap k u v) Absent d e = refl
+new_none x used (Put k v) (Stored t) d e = absurd cc
+new_none x used (Delete k) (Deleted t) d e = absurd cc
+new_none x used (Swap k u v) (Stored t) d e = absurd cc
+new_none x used c r d e = absurd d
 
-grown_new : (used : List ℕ) (o : Option Version) → Fewer (grown used o) (grown [] o)
-grown_new used None t h = absurd (omega (arith, h.1))
-grown_new used (Some w) t h = Contains-append_left (w.tag ∷ []) used t h
-
--- the tags that are used after a step
-pub fewer_step : (m : Tagged) (us vs : List ℕ) (c : Call) (r : Reply) (n : Tagged) → Does m vs c r n → Fewer us vs → Fewer (grown us (committed c r)) (vs ++ new_tags r)
-fewer_step m us vs c r n d f t h = ⊎_elim (λ a. grown_has us (committed c r) t (f t a))
-    (λ b. grown_new us (committed c r) t (subst (λ (ts : List ℕ). Contains ts t) (new_step m vs c r n d) b)) (Contains-append_cases vs (new_tags r) t h)
-
+-- more tags that are used in both
 pub fewer_append : (us vs ts : List ℕ) → Fewer us vs → Fewer (us ++ ts) (vs ++ ts)
 fewer_append us vs ts f t h = ⊎_elim (λ a. Contains-append_left us ts t (f t a)) (λ b. Contains-append_right us ts t b) (Contains-append_cases vs ts t h)
 

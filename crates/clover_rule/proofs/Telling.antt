@@ -34,7 +34,7 @@ use Rattle.clover_rule.specs.declared.view.View.{View}
 use Rattle.clover_rule.specs.declared.view.ServerTask.{ServerTask}
 use Rattle.clover_rule.specs.declared.view.ServerTask.TheVariants.{Idle, Storing, Rooted, Waiting, Loaded, Raised, Led, Both, Exchanged}
 use Rattle.clover_rule.proofs.ServerTools.{free_place}
-use Rattle.clover_rule.proofs.Hands.{each_both}
+use Rattle.clover_rule.proofs.Tools.{each_both}
 use Rattle.clover_rule.proofs.Steps.{each_map, each_of, within_prefix, set_here}
 use Rattle.clover_rule.proofs.Standings.{tag_within, one_buffer}
 use Rattle.clover_rule.proofs.Derived.{current_past}

@@ -14,7 +14,8 @@ use Rattle.clover_map.specs.Tagged.{Tagged}
 use Rattle.clover_words.specs.declared.pool.Pool.{Pool}
 use Rattle.clover_map.specs.declared.bytes.Held.{Held}
 use Rattle.clover_rule.specs.Content.{content}
-use Rattle.clover_rule.specs.History.{Version, commits_at, commit_of, entry_key, leads, ends, paired, used_by, Map, shows}
+use Rattle.clover_map.specs.Legal.{used_by}
+use Rattle.clover_rule.specs.History.{Version, commits_at, commit_of, entry_key, ends, paired}
 use Rattle.clover_rule.specs.Image.{tags}
 use Rattle.clover_rule.specs.Lists.{nth, Within, Each}
 use Rattle.clover_rule.specs.Meets.{Meets}
@@ -43,6 +44,7 @@ use Rattle.clover_rule.proofs.Standings.{exchanged_tag, tag_there, tag_within, t
 use Rattle.clover_rule.proofs.Steps.{each_map, each_within}
 use Rattle.clover_rule.proofs.Histories.{leads_commits, ends_more}
 use Rattle.clover_rule.proofs.Snocs.{within_nth, within_commits, within_back}
+use Rattle.clover_rule.proofs.KeyMaps.{leads, Map, shows}
 use Rattle.clover_rule.proofs.TaggedMaps.{legal_history}
 use Rattle.clover_rule.proofs.Keys.{key_discrete}
 use Rattle.clover_rule.proofs.ServerTools.{held_out, free_place}

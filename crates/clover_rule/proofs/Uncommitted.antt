@@ -9,7 +9,9 @@ use Rattle.std.specs.Str.{bytes_eq}
 use Rattle.clover_map.specs.History.{key_of}
 use Rattle.clover_map.proofs.Parts.{own_push, own_push_other}
 use Rattle.clover_map.specs.Tagged.{Tagged}
-use Rattle.clover_rule.specs.History.{Version, used_by, commits_at, joined, entry_key, commit_of, lost_in, grown, committed, leads, shows}
+use Rattle.clover_map.specs.Legal.{used_by}
+use Rattle.std.specs.List.{cons_option}
+use Rattle.clover_rule.specs.History.{Version, commits_at, entry_key, commit_of, lost_in, committed}
 use Rattle.clover_rule.specs.Knowing.{link_entry}
 use Rattle.clover_rule.specs.Lists.{Each, nth, Within}
 use Rattle.clover_rule.specs.Memory.{word, Mem}
@@ -19,9 +21,10 @@ use Rattle.clover_rule.specs.declared.view.Role.{Role}
 use Rattle.clover_rule.specs.declared.view.Role.TheVariants.{Client}
 use Rattle.clover_rule.specs.declared.view.Shown.{Shown}
 use Rattle.clover_rule.specs.declared.view.View.{View}
-use Rattle.clover_rule.proofs.TaggedMaps.{Permits}
-use Rattle.clover_rule.proofs.Histories.{legal_snoc, commits_snoc}
-use Rattle.clover_rule.proofs.Snocs.{unread_snoc, used_snoc}
+use Rattle.clover_rule.proofs.KeyMaps.{leads, shows}
+use Rattle.clover_rule.proofs.TaggedMaps.{Permits, new_none}
+use Rattle.clover_rule.proofs.Histories.{legal_snoc, commits_snoc, commits_first}
+use Rattle.clover_rule.proofs.Snocs.{unread_snoc, each_used}
 use Rattle.clover_rule.proofs.Steps.{prefix_self, Grows, view_kept, nth_set, set_here, role_was}
 
 -- the view of a client that loaded this, and counts the call among its own the and history's
@@ -47,9 +50,9 @@ module _ (m0 : Tagged) (used : List ℕ) (m : Mem) (vs : List View) (st : Story)
   v' = answered v h n words most call reply
 
   none_more : (k1 : List ℕ) → commits_at k1 (e ∷ []) ≡ []
-  none_more k1 = ap (λ (o : Option Version). cond (bytes_eq (key_of call) k1) (joined o []) []) cm ∙ both (bytes_eq (key_of call) k1)
+  none_more k1 = commits_first k1 e [] ∙ ap (λ (o : Option Version). cond (bytes_eq (key_of call) k1) (cons_option o []) []) cm ∙ both (bytes_eq (key_of call) k1)
     where
-      both : (b : Bool) → ◌≡◌ {A = List Version} (cond b (joined None []) []) []
+      both : (b : Bool) → ◌≡◌ {A = List Version} (cond b (cons_option None []) []) []
       both true = refl
       both false = refl
 
@@ -58,7 +61,7 @@ module _ (m0 : Tagged) (used : List ℕ) (m : Mem) (vs : List View) (st : Story)
 
   tale' : Tale st m0 used h'
   tale' = record {
-    legal = legal_snoc m0 used used h e (λ x c. c) r.tale.legal (subst (λ (j : List ℕ). Permits (leads (shows m0) h j) (used_by used h) call reply) (sym nm) does);
+    legal = legal_snoc m0 used h e r.tale.legal (subst (λ (j : List ℕ). Permits (leads (shows m0) h j) (used_by used h) call reply) (sym nm) does);
     told = told';
     began = r.tale.began;
     unread = unread_snoc (unsure st) (unsure st) h e r.tale.unread (λ x1 a b. (b, λ q. unread_after x1 a b (sym nm ∙ q)));
@@ -99,7 +102,7 @@ module _ (m0 : Tagged) (used : List ℕ) (m : Mem) (vs : List View) (st : Story)
     core = r.core;
     tale = tale';
     bodies = r.bodies;
-    spent = subst (Each (Spent m st)) (sym (used_snoc used h e ∙ ap (grown (used_by used h)) cm)) r.spent;
+    spent = each_used (Spent m st) used h e r.spent (subst (Each (Spent m st)) (sym (new_none (leads (shows m0) h k) (used_by used h) call reply does cm)) tt);
     bound = r.bound;
     keyed = r.keyed;
     views = views';

@@ -1,6 +1,5 @@
--- Calls, replies, and histories of a tagged map.
-use Rattle.std.specs.Prelude.{◌≡◌, ℕ, ◌≢◌, List, [], ◌∷◌, length, Bool, true, false, leb, Option, Some, None, if◌then◌else◌}
-use Rattle.std.specs.Str.{bytes_eq}
+-- Versions, those that a history commits, and what is left of a history that lost some.
+use Rattle.std.specs.Prelude.{◌≡◌, ℕ, ◌≢◌, List, [], ◌∷◌, length, Bool, true, false, leb, Option, Some, None, if◌then◌else◌, filter_map}
 use Rattle.clover_map.specs.declared.bytes.Value.{Value}
 use Rattle.clover_map.specs.declared.bytes.Held.{Held}
 use Rattle.clover_map.specs.declared.call.Call.{Call}
@@ -9,27 +8,13 @@ use Rattle.clover_map.specs.declared.call.Reply.{Reply}
 use Rattle.clover_map.specs.declared.call.Reply.TheVariants.{Stored, Deleted}
 use Rattle.clover_map.specs.declared.call.Entry.{Entry}
 use Rattle.clover_map.specs.Does.{held}
-use Rattle.clover_map.specs.History.{key_of}
-use Rattle.clover_map.specs.Tagged.{Tagged}
-use Rattle.std.specs.FinMap.{get}
+use Rattle.clover_map.specs.History.{key_of, commits}
 use Rattle.clover_rule.specs.Lists.{Each}
 
 -- a version: its tag, and its value, or none for a tombstone
 pub record Version : Type 0 where
   pub tag : ℕ
   pub value : Option Value
-
--- what each key has: the tag and the value of its pair, or nothing
-abbrev pub Map : Type 0
-Map = List ℕ → Option Held
-
--- what the tagged map has at each key
-abbrev pub shows : Tagged → Map
-shows m = λ (k : List ℕ). get m k
-
--- a function of keys with another value at one key
-abbrev pub at_key : {A : Type 0} → (List ℕ → A) → List ℕ → A → List ℕ → A
-at_key f k a = λ (j : List ℕ). if bytes_eq k j then a else f j
 
 -- the key that an entry's call names
 abbrev pub entry_key : Entry → List ℕ
@@ -44,11 +29,6 @@ paired t (Some v) = Some (held t v)
 abbrev pub pair_of : Version → Option Held
 pair_of w = paired w.tag w.value
 
--- the tag of a pair
-abbrev pub tag_in : Option Held → Option ℕ
-tag_in None = None
-tag_in (Some p) = Some p.tag
-
 -- the version that a call with this reply commits
 abbrev pub committed : Call → Reply → Option Version
 committed (Put k v) (Stored t) = Some record { tag = t; value = Some v }
@@ -60,43 +40,13 @@ committed _ _ = None
 abbrev pub commit_of : Entry → Option Version
 commit_of e = committed e.call e.reply
 
--- the map after a commit at a key
-abbrev pub changed : Map → List ℕ → Option Version → Map
-changed m k None = m
-changed m k (Some w) = at_key m k (pair_of w)
-
--- the used tags after a commit
-abbrev pub grown : List ℕ → Option Version → List ℕ
-grown used None = used
-grown used (Some w) = w.tag ∷ used
-
--- the map after an entry
-abbrev pub after : Map → Entry → Map
-after m e = changed m (entry_key e) (commit_of e)
-
--- the map to which a history leads
-abbrev pub leads : Map → List Entry → Map
-leads m [] = m
-leads m (e ∷ h) = leads (after m e) h
-
--- the tags used by the end of a history
-abbrev pub used_by : List ℕ → List Entry → List ℕ
-used_by used [] = used
-used_by used (e ∷ h) = used_by (grown used (commit_of e)) h
-
 -- the longer of two histories
 abbrev pub longer : List Entry → List Entry → List Entry
 longer a b = if leb (length a) (length b) then b else a
 
--- a version at the front, if there is one
-abbrev pub joined : Option Version → List Version → List Version
-joined None ws = ws
-joined (Some w) ws = w ∷ ws
-
--- the versions that a history commits at a key, in order: in a legal one, one for each of the entries `commits` of clover_map
+-- the versions that a history commits at a key, in order
 abbrev pub commits_at : List ℕ → List Entry → List Version
-commits_at k [] = []
-commits_at k (e ∷ h) = if bytes_eq (entry_key e) k then joined (commit_of e) (commits_at k h) else commits_at k h
+commits_at k h = filter_map commit_of (commits h k)
 
 -- what a key has once these versions were committed behind what it had
 abbrev pub ends : Option Held → List Version → Option Held

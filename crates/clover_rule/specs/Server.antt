@@ -7,7 +7,8 @@ use Rattle.clover_map.specs.declared.call.Entry.{Entry}
 use Rattle.clover_map.specs.Key.{IsKey}
 use Rattle.clover_map.specs.Tagged.{Tagged}
 use Rattle.clover_rule.specs.Content.{inside, spelling, InRange, Spells, Fits}
-use Rattle.clover_rule.specs.History.{Version, used_by}
+use Rattle.clover_map.specs.Legal.{used_by}
+use Rattle.clover_rule.specs.History.{Version}
 use Rattle.clover_rule.specs.Lists.{Each, nth, Within}
 use Rattle.clover_rule.specs.Memory.{Mem, word, gen}
 use Rattle.clover_rule.specs.Story.{Place, Chained, Stocked, Free, Worn, Taken, Story, tag_at, Durable}

@@ -5,7 +5,8 @@ use Rattle.clover_words.specs.Tag.{home, age}
 use Rattle.clover_map.specs.declared.call.Entry.{Entry}
 use Rattle.clover_map.specs.History.{own}
 use Rattle.clover_rule.specs.Content.{content}
-use Rattle.clover_rule.specs.History.{Version, used_by}
+use Rattle.clover_map.specs.Legal.{used_by}
+use Rattle.clover_rule.specs.History.{Version}
 use Rattle.clover_rule.specs.Lists.{Within, IsPrefix, IsPart, Each, nth, upd}
 use Rattle.clover_rule.specs.Memory.{Mem, Next, word, gen, link}
 use Rattle.clover_rule.specs.Story.{Place, Chained, Stocked, Story, tag_at, Core, Tale, Durable}
@@ -141,10 +142,10 @@ without t (c ∷ cs) = if c.tag == t then without t cs else c ∷ without t cs
 abbrev pub raise_view : View → Link → View
 raise_view v l = record v { pass = record v.pass { durable = (l.slot, l.to) ∷ v.pass.durable } }
 
--- the buffers of a batch change hands
-abbrev pub handed : (ℕ → Place) → List ℕ → Place → ℕ → Place
-handed f [] q = f
-handed f (t ∷ ts) q = handed (upd f (home t) q) ts q
+-- where buffers are once those of a batch are at one place
+abbrev pub batch_at : (ℕ → Place) → List ℕ → Place → ℕ → Place
+batch_at f [] q = f
+batch_at f (t ∷ ts) q = batch_at (upd f (home t) q) ts q
 
 -- the server's part of any other actor
 abbrev pub no_server : Server
