@@ -1,6 +1,7 @@
 -- the lines of a script: the pool line, and the lines of clients
 use Rattle.std.specs.Prelude.{◌≡◌, ℕ, ◌*◌, ◌^◌, ◌<◌, ◌≤◌, ◌==◌, ◌⊎◌, if◌then◌else◌, List, [], ◌∷◌, ◌++◌, length, take, decimal, codes, IsSome}
 use Rattle.clover_words.specs.declared.setup.Setup.{Setup}
+use Rattle.clover_words.specs.Pack.{AreBytes}
 use Rattle.clover_words.specs.Range.{first_fault, first_setup_fault}
 use Rattle.clover_map.specs.declared.bytes.Value.{Value}
 use Rattle.clover_map.specs.declared.call.Call.{Call}
@@ -10,7 +11,6 @@ use Rattle.clover_script.specs.declared.line.Task.{Task}
 use Rattle.clover_script.specs.declared.line.Task.TheVariants.{Client}
 use Rattle.clover_script.specs.declared.line.Line.{Line}
 use Rattle.clover_script.specs.declared.line.Line.TheVariants as kept
-use Rattle.clover_script.specs.Coded.{AreBytes}
 use Rattle.clover_script.specs.Text.{call_text}
 
 -- the first element put in front of the first list

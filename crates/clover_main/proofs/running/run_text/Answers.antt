@@ -5,7 +5,7 @@ use Rattle.clover_script.specs.declared.line.Line.{Line}
 use Rattle.clover_main.specs.Running.{IsSaidBy, IsPartOfSaid}
 use Rattle.clover_main.proofs.Following.{lawful_at}
 use Rattle.clover_main.proofs.Pieces.{ran_nothing, fails_none}
-use Rattle.clover_main.proofs.running.run_said.Goals as goal
+use Rattle.clover_main.proofs.running.run_text.Goals as goal
 
 pub returns-in-Ok-None-clause-ok : goal.returns-in-Ok-None-clause-ok
 returns-in-Ok-None-clause-ok g c =
