@@ -66,7 +66,7 @@ module _ (s : Setup) (small : IsSmall s) where
     free = ap (λ (n : ℕ). book n Free) (sym age_next);
     buffer = inside_of s.pool (home 1048576) buffer_next;
     slot = omega arith;
-    key = record { some = omega arith; most = omega arith; bytes = letter };
+    key = (omega arith, omega arith, letter);
     unbound = λ k w. w;
     unnamed = λ n w. w;
   }

@@ -10,8 +10,8 @@ use Rattle.clover_map.specs.declared.call.Call.{Call}
 use Rattle.clover_map.specs.declared.call.Call.TheVariants.{Get as GetOf}
 use Rattle.clover_map.specs.declared.call.Entry.{Entry}
 use Rattle.clover_map.specs.declared.call.Reply.{Reply}
-use Rattle.clover_rule.specs.History.{own}
 use Rattle.clover_cache.specs.Node.{Known}
+use Rattle.clover_map.specs.History.{own}
 use Rattle.clover_port.specs.Told.{Open, Made, opened}
 use Rattle.clover_rule.specs.Knowing.{link_entry}
 use Rattle.clover_rule.specs.Learned.{next_view, next_history}
@@ -109,7 +109,7 @@ more_busy x y (inr b) = not_nothing y (inr b.1)
 -- the entry of a client's call is that client's next one
 entry_is : (pl : Pool) (v : View) (h : List Entry) (c : Call) (r : Reply) → Facts pl v h → v.pass.role ≡ Client 1 → link_entry v (client v) c r ≡ next_entry h c r
 entry_is pl v h c r f role =
-    let calls : v.pass.calls ≡ own 1 h = subst (λ (z : Role). OwnCalls z v.pass.calls h) role f.calls in
+    let calls : v.pass.calls ≡ own h 1 = subst (λ (z : Role). OwnCalls z v.pass.calls h) role f.calls in
     λ i. record { client = number_of (role i); number = suc (length (calls i)); call = c; reply = r }
 
 module _ (pl : Pool) (x y : Underway) (k k1 : Known) (room room1 : ValueBuf) (v w : View) (o o1 : Open) (found : ℕ) where

@@ -12,8 +12,8 @@ use Rattle.clover_map.specs.declared.call.Call.TheVariants.{Get as GetOf, Put as
 use Rattle.clover_map.specs.declared.call.Entry.{Entry}
 use Rattle.clover_map.specs.declared.call.Reply.{Reply}
 use Rattle.clover_map.specs.declared.call.Reply.TheVariants.{Stored as StoredAs, Found as FoundAs}
+use Rattle.clover_map.specs.History.{own}
 use Rattle.clover_rule.specs.Content.{InRange}
-use Rattle.clover_rule.specs.History.{own}
 use Rattle.clover_rule.specs.Lists.{Within}
 use Rattle.clover_rule.specs.Moves.{nobody}
 use Rattle.clover_rule.specs.Rule.{longest}

@@ -2,10 +2,10 @@
 use Prim.Native.Nat.{suc}
 use Rattle.std.specs.Prelude.{◌≡◌, ◌≢◌, ℕ, ◌≤◌, true, List, [], ◌∷◌, ◌++◌, length}
 use Rattle.clover_words.specs.declared.bytes.ValueBuf.{ValueBuf}
-use Rattle.clover_rule.specs.History.{own}
 use Rattle.clover_map.specs.declared.call.Call.{Call}
 use Rattle.clover_map.specs.declared.call.Entry.{Entry}
 use Rattle.clover_map.specs.declared.call.Reply.{Reply}
+use Rattle.clover_map.specs.History.{own}
 use Rattle.clover_rule.specs.declared.view.Role.TheVariants.{Client}
 use Rattle.clover_rule.specs.declared.view.View.{View}
 use Rattle.clover_plain.specs.Plain.{Plain, history, view_at}
@@ -38,7 +38,7 @@ asked n p = call_under n.under (view_at p 0)
 
 -- client 1's next entry behind these
 abbrev pub next_entry : List Entry → Call → Reply → Entry
-next_entry h call reply = record { client = 1; number = suc (length (own 1 h)); call = call; reply = reply }
+next_entry h call reply = record { client = 1; number = suc (length (own h 1)); call = call; reply = reply }
 
 -- what an access with this turn adds to the history: an entry where it decides the call
 abbrev pub Adds : NodeTurn → Underway → Call → ValueBuf → List Entry → List Entry → Type 0

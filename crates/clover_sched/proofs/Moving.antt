@@ -1,5 +1,5 @@
 -- What one access of a client does to the pool: it was made, and is the step that its call says, or it was refused.
-use Rattle.std.proofs.Common.{◌≡◌, ◌≢◌, ℕ, suc, ◌-◌, ◌^◌, ◌<◌, List, [], ◌∷◌, ◌++◌, length, get_or, Bool, true, false, ◌&&◌, cond, eqb, if◌then◌else◌, refl, sym, ap, ◌∙◌, subst, ◌==◌, inl, inr, arith, append-nil}
+use Rattle.std.proofs.Common.{◌≡◌, ◌≢◌, ℕ, suc, ◌-◌, ◌^◌, ◌<◌, List, [], ◌∷◌, ◌++◌, length, get_or, Bool, true, false, ◌&&◌, cond, if◌then◌else◌, refl, sym, ap, ◌∙◌, subst, ◌==◌, inl, inr, arith, append-nil}
 use Rattle.std.specs.Prelude.{Option, Some, None}
 use Rattle.std.proofs.lemmas.List.{get_or-set_other, get_or-set_same, length-set}
 use Rattle.std.proofs.lemmas.Option.{same_Some}
@@ -8,7 +8,6 @@ use Rattle.clover_map.specs.History.{own}
 use Rattle.clover_map.specs.declared.call.Entry.{Entry}
 use Rattle.clover_map.specs.declared.call.Call.{Call}
 use Rattle.clover_rule.specs.Accesses.{CameBack, words_after_act}
-use Rattle.clover_rule.specs.History.{own as own_of}
 use Rattle.clover_rule.specs.Learned.{next_view, next_history, found, words_after_step, learned, looked, seen, started, decided, missed, counts, rest_of}
 use Rattle.clover_rule.specs.Steps.{Step, LoadNext, DecideNext, LinkNext, ReadRoot, ReadShort, AbsentCount, ReadVersion, Operation, loads, stores, exchanges, raises, operation_of, act_on, act_of, word_of, client, reply_of}
 use Rattle.clover_words.specs.declared.word.Word.{Word}
@@ -32,11 +31,6 @@ use Rattle.clover_plain.specs.Plain.{Plain, Stepped, Accessed, KeptButEntries, v
 use Rattle.clover_sched.specs.Client.{access, Moved}
 use Rattle.clover_sched.specs.Run.{IsBlank}
 use Rattle.clover_sched.proofs.Places.{same_snoc}
-
--- the entries of a client, by either definition
-own_alike : (c : ℕ) (h : List Entry) → own_of c h ≡ own h c
-own_alike c [] = refl
-own_alike c (e ∷ h) = ap (λ (l : List Entry). cond (eqb e.client c) (e ∷ l) l) (own_alike c h)
 
 -- a client's names stay, and its stock but where it commits
 -- what no step but by its access alone changes: the names, the acts of the call, and how many were made
@@ -178,7 +172,7 @@ whole_listed true = refl
 whole_listed false = refl
 
 own_calls : (r : Role) (c : ℕ) (calls h : List Entry) → r ≡ ClientRole c → OwnCalls r calls h → calls ≡ own h c
-own_calls r c calls h e k = subst (λ (z : Role). OwnCalls z calls h) e k ∙ own_alike c h
+own_calls r c calls h e k = subst (λ (z : Role). OwnCalls z calls h) e k
 
 -- a view is that of no access and of one
 no_both : (v w : View) (a : Step) (b : Bool) (h : List Entry) (x : ℕ) → w ≡ next_view b a h v x → w ≡ v → ⊥

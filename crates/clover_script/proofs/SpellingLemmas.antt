@@ -2,13 +2,14 @@
 use Rattle.std.proofs.Common.{suc, ◌≡◌, ◌<◌, ◌/◌, ◌%◌, ℕ, Bool, true, false, List, [], ◌∷◌, ◌++◌, get_or, refl, sym, ap, ◌∙◌, arith, append_assoc}
 use Rattle.std.specs.Prelude.{if◌then◌else◌, codes}
 use Rattle.std.proofs.lemmas.Bool.Decides.{nat_tests}
+use Rattle.clover_map.specs.Key.{IsKey}
 use Rattle.clover_map.specs.declared.bytes.Value.{Value}
 use Rattle.clover_map.specs.declared.call.Call.{Call}
 use Rattle.clover_map.specs.declared.call.Call.TheVariants.{Get, Put, Delete, Swap}
 use Rattle.clover_words.specs.Pack.{AreBytes}
 use Rattle.clover_script.specs.Coded.{coded, is_plain, hex_digit}
 use Rattle.clover_script.specs.Split.{Lacks}
-use Rattle.clover_script.specs.Line.{IsKey, IsWritten, IsClientCall}
+use Rattle.clover_script.specs.Line.{IsWritten, IsClientCall}
 use Rattle.clover_script.specs.Text.{tag_text, value_text, call_text}
 use Rattle.clover_script.proofs.CodedLemmas.{one_text}
 use Rattle.clover_script.proofs.LineLemmas.{one_split}

@@ -3,6 +3,7 @@ use Rattle.std.specs.Prelude.{◌≡◌, ℕ, ◌*◌, ◌^◌, ◌<◌, ◌≤�
 use Rattle.clover_words.specs.declared.setup.Setup.{Setup}
 use Rattle.clover_words.specs.Pack.{AreBytes}
 use Rattle.clover_words.specs.Range.{first_fault, first_setup_fault}
+use Rattle.clover_map.specs.Key.{IsKey}
 use Rattle.clover_map.specs.declared.bytes.Value.{Value}
 use Rattle.clover_map.specs.declared.call.Call.{Call}
 use Rattle.clover_map.specs.declared.call.Call.TheVariants.{Get, Put, Delete, Swap}
@@ -63,10 +64,6 @@ HasBadNumbers n =
 -- the text is a pool line that opens no script
 abbrev pub IsBadPool : List ℕ → Type 0
 IsBadPool line = (n : PoolLine) × AreNumbers n × (line ≡ pool_line n) × HasBadNumbers n
-
--- a key as a script may have it: 1 to 250 bytes
-abbrev pub IsKey : List ℕ → Type 0
-IsKey k = (1 ≤ length k) × (length k ≤ 250) × AreBytes k
 
 -- a value as a script may have it: flags 0, and up to 65,535 bytes
 abbrev pub IsWritten : Value → Type 0

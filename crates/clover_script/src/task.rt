@@ -1,9 +1,10 @@
 // The call that a text spells, and the actor that is asked for it. Takes no memory: a value stays as it is spelled.
 ghost use Rattle.std.specs.Prelude.{◌≡◌, ◌^◌, ◌<◌, ◌++◌, ℕ, List, ◌∷◌, codes, IfSome, IfNone};
+ghost use Rattle.clover_map.specs.Key.{IsKey};
 ghost use Rattle.clover_map.specs.declared.bytes.Value.{Value};
 ghost use Rattle.clover_script.specs.Coded.{coded};
 ghost use Rattle.clover_script.specs.Text.{tag_text, value_text};
-ghost use Rattle.clover_script.specs.Line.{IsKey, IsWritten};
+ghost use Rattle.clover_script.specs.Line.{IsWritten};
 ghost use Rattle.clover_script.specs.Spelling.{value_with, IsValueText, SpellsCall, SpellsNoCall, SpellsAsked, SpellsNothingAsked};
 
 use crate::coded::{decode_into, spelled_length};
