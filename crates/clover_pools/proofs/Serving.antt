@@ -108,17 +108,17 @@ abbrev entry_at : ℕ → Call → Reply → Entry
 entry_at k c r = record { client = 1; number = k; call = c; reply = r }
 
 -- the entry that an access added is the next one behind those that were entered
-due : (h h1 es : List Entry) (call c : Call) (r r1 : Reply) (k : ℕ) → h1 ≡ h ++ next_entry h call r ∷ [] → es ≡ h → call ≡ c → r ≡ r1 → suc (length (own 1 h)) ≡ k → h1 ≡ es ++ entry_at k c r1 ∷ []
+due : (h h1 es : List Entry) (call c : Call) (r r1 : Reply) (k : ℕ) → h1 ≡ h ++ next_entry h call r ∷ [] → es ≡ h → call ≡ c → r ≡ r1 → suc (length (own h 1)) ≡ k → h1 ≡ es ++ entry_at k c r1 ∷ []
 due h h1 es call c r r1 k adds e ce re ke =
     let its : next_entry h call r ≡ entry_at k c r1 = λ i. record { client = 1; number = ke i; call = ce i; reply = re i } in
     adds ∙ ap (λ (z : Entry). h ++ z ∷ []) its ∙ ap (λ (l : List Entry). l ++ entry_at k c r1 ∷ []) (sym e)
 
-none_own : (h : List Entry) → h ≡ [] → suc (length (own 1 h)) ≡ 1
-none_own h e = ap (λ (l : List Entry). suc (length (own 1 l))) e
+none_own : (h : List Entry) → h ≡ [] → suc (length (own h 1)) ≡ 1
+none_own h e = ap (λ (l : List Entry). suc (length (own l 1))) e
 
-one_own : (h : List Entry) (e : Entry) → h ≡ e ∷ [] → e.client ≡ 1 → suc (length (own 1 h)) ≡ 2
+one_own : (h : List Entry) (e : Entry) → h ≡ e ∷ [] → e.client ≡ 1 → suc (length (own h 1)) ≡ 2
 one_own h e only its =
-    ap (λ (l : List Entry). suc (length (own 1 l))) only
+    ap (λ (l : List Entry). suc (length (own l 1))) only
     ∙ ap (λ (b : Bool). suc (length (cond b (e ∷ []) []))) (eq-eqb e.client 1 its)
 
 -- the exchange of the first put is to be entered
