@@ -71,13 +71,15 @@ stands_kept o p q i x k s =
       entered = k.entries ∙ s.entered ∙ sym (λ z. longest (k.views z ++ k.absent z));
       seat = s.seat;
       seats = ap length k.views ∙ s.seats;
-      pool = ap (λ (v : View). v.pass.pool) e ∙ s.pool;
       role = ap (λ (v : View). v.pass.role) e ∙ s.role;
       names = ap (λ (v : View). v.pass.names) e ∙ s.names;
       stock = ap (λ (v : View). v.pass.stock) e ∙ s.stock;
       number = s.number ∙ ap (λ (h : List Entry). length (own h (suc i))) (sym k.entries);
-      under = subst (λ (v : View). IsUnder o.setup.pool v x.under) (sym e) s.under;
-      cursors = subst (λ (v : View). AreCursors o.setup.pool v x.cursors) (sym e) s.cursors;
+      pool = s.pool;
+      holds = subst (λ (v : View). NodeHolds x.node v x.room) (sym e) s.holds;
+      asked = λ h. s.asked h ∙ ap (λ (v : View). Some (call_under x.node.under v)) (sym e);
+      kept = s.kept;
+      linked = subst (λ (v : View). HasLinked x.node.under v.pass.since) (sym e) s.linked;
     }
 
 moved_kept : (i : ℕ) (a : Access) (e : Option Entry) (p p1 q : Plain) → Kept p p1 → Moved i a e p1 q → Moved i a e p q
@@ -113,11 +115,11 @@ went_kept o i x y p p1 q note k w =
                 (subst (λ (ws : List ℕ). IsStep o (suc i) d ws (length (own p1.entries (suc i))) (step_record i w.access w.entry note)) k.words f.0),
             f.1,
           );
-      longer = λ n. w.longer n ∙ ap (λ (v : View). suc (length (since_of x.under v))) e;
+      longer = λ n. w.longer n ∙ ap (λ (v : View). suc (length (since_of x.node.under v))) e;
       spent = w.spent;
       cursor = w.cursor;
       calls = w.calls;
-      alone = λ n free h. w.alone n free (subst (λ (ws : List ℕ). EndsIn o.setup.pool ws n x.under) (sym k.words) h);
+      alone = λ n free h. w.alone n free (subst (λ (ws : List ℕ). EndsIn o.setup.pool ws n x.node.under x.room) (sym k.words) h);
     }
 
 -- an access leaves the room for an entry
@@ -145,61 +147,3 @@ module _ (o : Opening) (i : ℕ) (d : Doing) (ws : List ℕ) (n : ℕ) (t : Task
     unreached = λ z q r. (let k : false ≡ true = ap (λ (y : Access). y.refused) (same_Some _ _ q) ∙ r in absurd cc);
     cause = λ z q r. subst (λ (y : Access). IsCause o (suc i) d e y.act note) (same_Some _ _ q) cause;
   }
-
-module _ (o : Opening) (i : ℕ) (p : Plain) (x y : ClientState) (s : Stands o p i x) where
-  -- where the client stands behind an access that added no entry
-  pub stands_made : (q : Plain) (a : Step) (b : Bool) (n : ℕ) → MadeSo i p q a b n → IsNoLink a → next_history a (history p) (view_at p i) n ≡ history p
-      → y.taken ≡ x.taken → y.number ≡ x.number → IsUnder o.setup.pool (view_at q i) y.under → AreCursors o.setup.pool (view_at q i) y.cursors → Stands o q i y
-  stands_made q a b n m free same taken number under cursors = record {
-    setup = m.setup ∙ s.setup;
-    opened = m.opened ∙ s.opened;
-    entered = m.entries ∙ s.entered ∙ sym same ∙ sym m.history;
-    seat = s.seat;
-    seats = m.seats ∙ s.seats;
-    pool = m.pool ∙ s.pool;
-    role = ap (λ (v : View). v.pass.role) m.view ∙ role_kept a b (history p) (view_at p i) n ∙ s.role;
-    names = ap (λ (v : View). v.pass.names) m.view ∙ names_kept a b (history p) (view_at p i) n ∙ s.names;
-    stock = ap (λ (v : View). v.pass.stock) m.view ∙ stock_kept a b (history p) (view_at p i) n free ∙ s.stock ∙ ap (stock_at o.setup (suc i)) (sym taken);
-    number = number ∙ s.number ∙ ap (λ (h : List Entry). length (own h (suc i))) (sym m.entries);
-    under = under;
-    cursors = cursors;
-  }
-
-  -- where it stands behind one that decided its call, whose entry was then entered
-  pub stands_entered : (q r : Plain) (a : Step) (b : Bool) (n : ℕ) (e : Entry) → MadeSo i p q a b n → IsNoLink a → Moved i (access i (act_of a n) false) (Some e) p r → KeptButEntries q r
-      → e.client ≡ suc i → y.taken ≡ x.taken → y.number ≡ x.number + 1 → IsUnder o.setup.pool (view_at r i) y.under → AreCursors o.setup.pool (view_at r i) y.cursors → Stands o r i y
-  stands_entered q r a b n e m free moved k client taken number under cursors =
-      let there : view_at r i ≡ view_at q i = λ z. get_or (k.views z) i nobody in
-      record {
-        setup = moved.setup ∙ s.setup;
-        opened = moved.opened ∙ s.opened;
-        entered = moved.entered;
-        seat = s.seat;
-        seats = moved.seats ∙ s.seats;
-        pool = ap (λ (v : View). v.pass.pool) there ∙ m.pool ∙ s.pool;
-        role = ap (λ (v : View). v.pass.role) (there ∙ m.view) ∙ role_kept a b (history p) (view_at p i) n ∙ s.role;
-        names = ap (λ (v : View). v.pass.names) (there ∙ m.view) ∙ names_kept a b (history p) (view_at p i) n ∙ s.names;
-        stock = ap (λ (v : View). v.pass.stock) (there ∙ m.view) ∙ stock_kept a b (history p) (view_at p i) n free ∙ s.stock ∙ ap (stock_at o.setup (suc i)) (sym taken);
-        number = number ∙ ap (λ (k1 : ℕ). k1 + 1) s.number ∙ sym (own_more p.entries e (suc i) client) ∙ ap (λ (h : List Entry). length (own h (suc i))) (sym moved.entries);
-        under = under;
-        cursors = cursors;
-      }
-
-  -- where it stands behind a refused access
-  pub stands_refused : (q : Plain) → RefusedSo i p q → y.taken ≡ x.taken → y.number ≡ x.number → IsUnder o.setup.pool (view_at q i) y.under → y.cursors ≡ x.cursors → Stands o q i y
-  stands_refused q r taken number under cursors =
-      let there : view_at q i ≡ view_at p i = λ z. get_or (r.views z) i nobody in
-      record {
-        setup = r.setup ∙ s.setup;
-        opened = r.opened ∙ s.opened;
-        entered = r.entries ∙ s.entered ∙ sym r.history;
-        seat = s.seat;
-        seats = ap length r.views ∙ s.seats;
-        pool = ap (λ (v : View). v.pass.pool) there ∙ s.pool;
-        role = ap (λ (v : View). v.pass.role) there ∙ s.role;
-        names = ap (λ (v : View). v.pass.names) there ∙ s.names;
-        stock = ap (λ (v : View). v.pass.stock) there ∙ s.stock ∙ ap (stock_at o.setup (suc i)) (sym taken);
-        number = number ∙ s.number ∙ ap (λ (h : List Entry). length (own h (suc i))) (sym r.entries);
-        under = under;
-        cursors = subst (AreCursors o.setup.pool (view_at q i)) (sym cursors) (subst (λ (v : View). AreCursors o.setup.pool v x.cursors) (sym there) s.cursors);
-      }
