@@ -25,7 +25,7 @@ use Rattle.clover_sched.specs.declared.client.Underway.TheVariants.{Nothing}
 use Rattle.clover_sched.proofs.Dues.{stands_turns, under_within, more_allow}
 
 -- a walk of this pool has made no more turns than the budget, and fewer where it has not ended
-pub record IsWithin (p : Pool) (w : Walking) : Type 0 where
+record IsWithin (p : Pool) (w : Walking) : Type 0 where
   pub pool : w.pool ≡ p
   pub most : w.turns ≤ budget w.pool
   pub below : w.stand ≢ Ended → w.turns < budget w.pool
@@ -116,7 +116,7 @@ calling_most o a d h acts n c =
     let within = leads_within p c.call own (begun_call p c.slot c.cursor own c.call) n acts c.leads (begun_within p c.slot c.cursor) in
     more_allow n.walk.turns (budget p) p.words (subst (λ (q : Pool). n.walk.turns ≤ budget q) within.pool within.most)
 
--- no access is made of a call that has made as many as a call makes at most
+-- no access is made of a call that has made as many as a call makes at most, so a step of a run need not say it
 pub few_law : (o : Opening) (a : ℕ) (d : Doing) (h : List (List ℕ × ℕ)) (r : Record) → AllDue o a d h r → (x : Access) → r.access ≡ Some x → x.refused ≡ false → length d.since < most_made o.setup.pool
 few_law o a d h r dues x is free =
     let z = dues x is free in

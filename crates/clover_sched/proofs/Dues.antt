@@ -52,7 +52,7 @@ use Rattle.clover_sched.proofs.Lefts.{copied_few}
 use Rattle.clover_sched.proofs.Starting.{value_fits}
 
 -- the turns of what is under way
-abbrev pub turns_of : Underway → ℕ
+abbrev turns_of : Underway → ℕ
 turns_of Nothing = 0
 turns_of (Get g into asked) = g.walk.turns
 turns_of (Write c asked) = c.walk.turns
