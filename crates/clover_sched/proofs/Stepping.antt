@@ -4,6 +4,7 @@ use Rattle.std.specs.Prelude.{Option, Some, None, IfSome, IsSome}
 use Rattle.std.proofs.lemmas.List.Elements.{filter-append}
 use Rattle.std.proofs.lemmas.Option.{same_Some}
 use Rattle.std.proofs.Math.ListN.{length-append}
+use Rattle.clover_words.specs.declared.pool.Pool.{Pool}
 use Rattle.clover_map.specs.History.{own}
 use Rattle.clover_map.specs.declared.call.Call.{Call}
 use Rattle.clover_map.specs.declared.call.Call.TheVariants.{Get as GetOf, Put as PutOf, Delete as DeleteOf, Swap as SwapOf}
@@ -24,8 +25,8 @@ use Rattle.clover_rule.proofs.Acting.{role_kept}
 use Rattle.clover_sched.specs.declared.client.ClientState.{ClientState}
 use Rattle.clover_sched.specs.declared.event.Note.{Note}
 use Rattle.clover_sched.specs.Alone.{EndsIn}
-use Rattle.clover_node.specs.Node.{AreCursors}
-use Rattle.clover_sched.specs.Client.{access, stock_at, Stands, Moved, Went, Matches, IsUnder, since_of, step_record}
+use Rattle.clover_node.specs.Node.{NodeHolds, AreCursors, CallHolds, call_under}
+use Rattle.clover_sched.specs.Client.{access, Stands, Moved, Went, Matches, HasLinked, since_of, step_record}
 use Rattle.clover_sched.specs.Folds.{Doing, listed, words_by, made_by, takes_by}
 use Rattle.clover_sched.specs.Run.{Opening, IsStep, IsEntry, IsCause, IsCommit, Wrote}
 use Rattle.clover_sched.proofs.Moving.{MadeSo, RefusedSo, IsNoLink, names_kept, stock_kept}
@@ -58,29 +59,42 @@ one_taken n t call o is = let e : takes_by o ≡ 1 = ap takes_by is ∙ go call 
     go (DeleteOf key) = refl
     go (SwapOf key e x) = refl
 
+-- what a client that stands knows, in the pool of the run
+pub pool_of : (o : Opening) (p : Plain) (i : ℕ) (x : ClientState) → Stands o p i x → (view_at p i).pass.pool ≡ o.setup.pool
+pool_of o p i x s = s.holds.pool ∙ s.pool
+
+pub cursors_of : (o : Opening) (p : Plain) (i : ℕ) (x : ClientState) → Stands o p i x → AreCursors o.setup.pool (view_at p i) x.node.cursors
+cursors_of o p i x s = subst (λ (z : Pool). AreCursors z (view_at p i) x.node.cursors) s.pool s.holds.cursors
+
+pub held_of : (o : Opening) (p : Plain) (i : ℕ) (x : ClientState) → Stands o p i x → CallHolds o.setup.pool x.node.under (view_at p i) x.room
+held_of o p i x s = subst (λ (z : Pool). CallHolds z x.node.under (view_at p i) x.room) s.pool s.holds.call
+
+-- it stands where its view is the same, and so are the words of its entries
+pub stands_same : (o : Opening) (p q : Plain) (i : ℕ) (x : ClientState) → q.setup ≡ p.setup → q.opened ≡ p.opened → q.entries ≡ history q → length q.views ≡ length p.views → length (own q.entries (suc i)) ≡ length (own p.entries (suc i)) → view_at q i ≡ view_at p i → Stands o p i x → Stands o q i x
+stands_same o p q i x setup opened entered seats number e s = record {
+  setup = setup ∙ s.setup;
+  opened = opened ∙ s.opened;
+  entered = entered;
+  seat = s.seat;
+  seats = seats ∙ s.seats;
+  role = ap (λ (v : View). v.pass.role) e ∙ s.role;
+  names = ap (λ (v : View). v.pass.names) e ∙ s.names;
+  stock = ap (λ (v : View). v.pass.stock) e ∙ s.stock;
+  number = s.number ∙ sym number;
+  pool = s.pool;
+  holds = subst (λ (v : View). NodeHolds x.node v x.room) (sym e) s.holds;
+  asked = λ h. s.asked h ∙ ap (λ (v : View). Some (call_under x.node.under v)) (sym e);
+  kept = s.kept;
+  linked = subst (λ (v : View). HasLinked x.node.under v.pass.since) (sym e) s.linked;
+}
+
 -- room that was made changes nothing of what is said
 pub kept_view : (i : ℕ) (p q : Plain) → Kept p q → view_at q i ≡ view_at p i
 kept_view i p q k = λ z. get_or (k.views z) i nobody
 
 pub stands_kept : (o : Opening) (p q : Plain) (i : ℕ) (x : ClientState) → Kept p q → Stands o p i x → Stands o q i x
 stands_kept o p q i x k s =
-    let e = kept_view i p q k in
-    record {
-      setup = k.setup ∙ s.setup;
-      opened = k.opened ∙ s.opened;
-      entered = k.entries ∙ s.entered ∙ sym (λ z. longest (k.views z ++ k.absent z));
-      seat = s.seat;
-      seats = ap length k.views ∙ s.seats;
-      role = ap (λ (v : View). v.pass.role) e ∙ s.role;
-      names = ap (λ (v : View). v.pass.names) e ∙ s.names;
-      stock = ap (λ (v : View). v.pass.stock) e ∙ s.stock;
-      number = s.number ∙ ap (λ (h : List Entry). length (own h (suc i))) (sym k.entries);
-      pool = s.pool;
-      holds = subst (λ (v : View). NodeHolds x.node v x.room) (sym e) s.holds;
-      asked = λ h. s.asked h ∙ ap (λ (v : View). Some (call_under x.node.under v)) (sym e);
-      kept = s.kept;
-      linked = subst (λ (v : View). HasLinked x.node.under v.pass.since) (sym e) s.linked;
-    }
+    stands_same o p q i x k.setup k.opened (k.entries ∙ s.entered ∙ sym (λ z. longest (k.views z ++ k.absent z))) (ap length k.views) (ap (λ (h : List Entry). length (own h (suc i))) k.entries) (kept_view i p q k) s
 
 moved_kept : (i : ℕ) (a : Access) (e : Option Entry) (p p1 q : Plain) → Kept p p1 → Moved i a e p1 q → Moved i a e p q
 moved_kept i a e p p1 q k m = record {

@@ -68,6 +68,11 @@ apart Nothing b h = b
 apart (Get g) b h = h
 apart (Write c) b h = both c.stage b h
 
+pub not_busy : (u : Underway) → ((u ≢ Nothing) → ⊥) → u ≡ Nothing
+not_busy Nothing h = refl
+not_busy (Get g) h = absurd (h (λ e. cc))
+not_busy (Write c) h = absurd (h (λ e. cc))
+
 pub busy_before : (u : Underway) → IsUncommitted u → u ≢ Nothing
 busy_before u b e = subst IsUncommitted e b
 
