@@ -1,39 +1,32 @@
 -- What each access of a client's node comes to: a step of the run, behind which the client stands where that leads.
 use Prim.Native.Nat.{suc}
-use Rattle.std.proofs.Common.{◌≡◌, ◌≢◌, ℕ, ◌+◌, ◌-◌, ◌^◌, ◌<◌, ◌≤◌, List, [], ◌∷◌, ◌++◌, length, get_or, Bool, true, false, cond, refl, sym, ap, ◌∙◌, inl, inr, subst, arith, eq-eqb}
+use Rattle.std.proofs.Common.{◌≡◌, ◌≢◌, ℕ, ◌+◌, ◌-◌, ◌^◌, ◌<◌, ◌≤◌, List, [], ◌∷◌, ◌++◌, length, Bool, true, false, refl, sym, ap, ◌∙◌, subst, arith}
 use Rattle.std.specs.Prelude.{Option, Some, None}
-use Rattle.std.proofs.lemmas.Option.{same_Some}
 use Rattle.clover_words.specs.declared.bytes.ValueBuf.{ValueBuf}
 use Rattle.clover_words.specs.declared.pool.Pool.{Pool}
 use Rattle.clover_words.specs.declared.setup.Setup.{Setup}
 use Rattle.clover_words.specs.Tag.{TagParts, tag_number}
-use Rattle.clover_words.specs.Version.{unlinked}
-use Rattle.clover_map.specs.History.{own, key_of}
+use Rattle.clover_map.specs.History.{own}
 use Rattle.clover_map.specs.declared.call.Call.{Call}
 use Rattle.clover_map.specs.declared.call.Entry.{Entry}
-use Rattle.clover_map.specs.declared.call.Reply.{Reply}
 use Rattle.clover_script.specs.declared.line.Task.TheVariants.{Client as ClientTask}
-use Rattle.clover_rule.specs.Accesses.{CameBack, Decides, wrote_link}
-use Rattle.clover_rule.specs.Knowing.{link_entry}
-use Rattle.clover_rule.specs.Learned.{found, words_after_step, next_history, next_view}
-use Rattle.clover_rule.specs.Lists.{Within}
-use Rattle.clover_rule.specs.Moves.{nobody}
-use Rattle.clover_rule.specs.Steps.{Step, DecideNext, LinkNext, StoreShort, act_of, client, number_of, reply_of}
+use Rattle.clover_rule.specs.Accesses.{CameBack}
+use Rattle.clover_rule.specs.Learned.{found, words_after_step, next_history}
+use Rattle.clover_rule.specs.Steps.{Step, act_of, reply_of}
 use Rattle.clover_rule.specs.declared.access.Act.{Act}
 use Rattle.clover_rule.specs.declared.view.View.{View}
 use Rattle.clover_rule.proofs.Acting.{role_kept}
 use Rattle.clover_rule.proofs.Tools.{length_snoc}
-use Rattle.clover_port.specs.Told.{Open, Made, opened}
-use Rattle.clover_plain.specs.Plain.{Plain, Accessed, KeptButEntries, view_at, history, open_of}
+use Rattle.clover_port.specs.Told.{Made}
+use Rattle.clover_plain.specs.Plain.{Plain, Accessed, view_at, history, open_of}
 use Rattle.clover_walk.specs.Walking.{budget}
 use Rattle.clover_node.specs.Calling.{Calling, after}
-use Rattle.clover_node.specs.Going.{GoesOn, IsDue, IsQuiet, Stays, EndsAt}
-use Rattle.clover_node.specs.Node.{CallHolds, NodeHolds, HasCommitted, IsUncommitted, call_under, is_first, new_tag, next_step, slot_of}
-use Rattle.clover_node.specs.Turning.{Tells as NodeTells, reply_in}
-use Rattle.clover_node.specs.declared.answer.Answer.{Answer}
+use Rattle.clover_node.specs.Going.{IsDue, IsQuiet}
+use Rattle.clover_node.specs.Node.{CallHolds, NodeHolds, HasCommitted, IsUncommitted, call_under, is_first, new_tag, next_step}
+use Rattle.clover_node.specs.Turning.{Tells as NodeTells}
 use Rattle.clover_node.specs.declared.answer.NodeRefusal.TheVariants as node
 use Rattle.clover_node.specs.declared.answer.NodeTurn.{NodeTurn}
-use Rattle.clover_node.specs.declared.answer.NodeTurn.TheVariants.{More, Decided, Done, Refused as RefusedTurn}
+use Rattle.clover_node.specs.declared.answer.NodeTurn.TheVariants.{More, Refused as RefusedTurn}
 use Rattle.clover_node.specs.declared.under.Underway.{Underway}
 use Rattle.clover_node.specs.declared.under.Underway.TheVariants.{Nothing}
 use Rattle.clover_node.proofs.Staying.{turned}
@@ -41,19 +34,17 @@ use Rattle.clover_sched.specs.declared.client.ClientState.{ClientState}
 use Rattle.clover_sched.specs.declared.event.CallRefusal.{CallRefusal}
 use Rattle.clover_sched.specs.declared.event.CallRefusal.TheVariants as why
 use Rattle.clover_sched.specs.declared.event.Note.{Note}
-use Rattle.clover_sched.specs.declared.event.Note.TheVariants.{Quiet, Answered, Refused}
-use Rattle.clover_sched.specs.Client.{access, Stands, Moved, MakesDue, Matches, IsDoing, Went, HasLinked, SetsCursor, stock_at, step_record, since_of, spent_by}
+use Rattle.clover_sched.specs.declared.event.Note.TheVariants.{Quiet, Refused}
+use Rattle.clover_sched.specs.Client.{access, Stands, Moved, MakesDue, Matches, IsDoing, Went, HasLinked, stock_at, since_of, spent_by}
 use Rattle.clover_sched.specs.Folds.{Doing, rested}
-use Rattle.clover_sched.specs.Run.{Opening, IsCommit, Shortens, Tells, Wrote, lost}
-use Rattle.clover_sched.specs.Stepping.{Accesses, Enters, next_entry}
-use Rattle.clover_sched.proofs.Advancing.{IsMade, goes_on, answers, stays_ahead}
-use Rattle.clover_sched.proofs.Cursoring.{seen_dead}
-use Rattle.clover_sched.proofs.Going.{step_refused, seat_below, number_same, number_more}
-use Rattle.clover_sched.proofs.Linking.{linked_more, linked_now, link_act, ends_commit, answers_commit, lost_commit}
-use Rattle.clover_sched.proofs.Moving.{MadeSo, made_so, RefusedSo, refused_so, names_kept, stock_kept, moved_quiet, moved_entered, moved_refused}
-use Rattle.clover_sched.proofs.Places.{same_snoc}
+use Rattle.clover_sched.specs.Run.{Opening, Tells, lost}
+use Rattle.clover_sched.specs.Stepping.{Accesses}
+use Rattle.clover_sched.proofs.Advancing.{IsMade, goes_on, stays_ahead}
+use Rattle.clover_sched.proofs.Going.{step_refused, seat_below, number_same}
+use Rattle.clover_sched.proofs.Linking.{linked_more, lost_commit}
+use Rattle.clover_sched.proofs.Moving.{MadeSo, made_so, RefusedSo, refused_so, names_kept, moved_quiet, moved_refused}
 use Rattle.clover_sched.proofs.Stepping.{held_of, none_taken, one_taken, made_step}
-use Rattle.clover_sched.proofs.Turns.{quiet_history, quiet_stock, quiet_act, apart, busy_before, busy_behind, more_busy, more_before, more_behind, since_more, spent_least, spent_more, spent_link, commit_tag, answer_tag, commits_always, commits_nothing}
+use Rattle.clover_sched.proofs.Turns.{quiet_history, quiet_stock, quiet_act, busy_before, busy_behind, more_busy, more_before, more_behind, since_more, spent_least, spent_more}
 
 -- a client at rest is where the records say
 pub matches_rested : (z : ClientState) (v : View) (n : ℕ) → z.node.under ≡ Nothing → z.refusing ≡ false → z.taken ≡ n → Matches z v (rested n)

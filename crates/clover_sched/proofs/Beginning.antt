@@ -27,8 +27,8 @@ use Rattle.clover_plain.proofs.Dealing.{tag_young, tag_inside}
 use Rattle.clover_cache.specs.Node.{cursor_at}
 use Rattle.clover_walk.specs.Standing.{number_of}
 use Rattle.clover_walk.specs.Walking.{Walking, made_walk, key_at}
-use Rattle.clover_node.specs.Beginning.{HasTag, IsBegun, IsGiven, IsNext, MayStart, Starts as NodeStarts, given_number, size_of}
-use Rattle.clover_node.specs.Node.{NodeHolds, HasCommitted, IsUncommitted, call_under}
+use Rattle.clover_node.specs.Beginning.{IsBegun, IsGiven, IsNext, MayStart, Starts as NodeStarts, given_number, size_of}
+use Rattle.clover_node.specs.Node.{NodeHolds, IsUncommitted, call_under}
 use Rattle.clover_node.specs.declared.under.Underway.{Underway}
 use Rattle.clover_node.specs.declared.under.Underway.TheVariants.{Nothing}
 use Rattle.clover_node.proofs.Begins.{made_first}
@@ -86,18 +86,12 @@ begun_own w own own1 (PutOf key value) u same is = subst (λ (t : ℕ). IsBegun 
 begun_own w own own1 (DeleteOf key) u same is = subst (λ (t : ℕ). IsBegun w t (DeleteOf key) u) (same refl) is
 begun_own w own own1 (SwapOf key expected value) u same is = subst (λ (t : ℕ). IsBegun w t (SwapOf key expected value) u) (same refl) is
 
--- a call that writes was given a tag, which is the next one
+-- a call that writes takes the next tag of the stock
 next_own : (v : View) (own : ℕ) (call : Call) → (takes call ≡ 1 → (rest : List ℕ) × (v.pass.stock ≡ own ∷ rest)) → IsNext v own call
 next_own v own (GetOf key) h = tt
 next_own v own (PutOf key value) h = h refl
 next_own v own (DeleteOf key) h = h refl
 next_own v own (SwapOf key expected value) h = h refl
-
-pub given_own : (p : Pool) (own : Option TagParts) (call : Call) → (takes call ≡ 1 → IsGiven p own) → HasTag p own call
-given_own p own (GetOf key) h = tt
-given_own p own (PutOf key value) h = h refl
-given_own p own (DeleteOf key) h = h refl
-given_own p own (SwapOf key expected value) h = h refl
 
 -- The client of seat i has its node start this call, with a tag that is the next one of its stock where the call writes.
 module _ (o : Opening) (p : Plain) (i slot own : ℕ) (x y : ClientState) (st : Stands o p i x) (call : Call) (idle : x.node.under ≡ Nothing) (is : y ≡ record x { node = y.node; asked = Some call }) (starts : NodeStarts x.node slot own call y.node) (own_is : takes call ≡ 1 → own ≡ own_of o.setup (suc i) x.taken)

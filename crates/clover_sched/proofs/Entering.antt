@@ -4,8 +4,7 @@ use Rattle.std.proofs.Common.{◌≡◌, ◌≢◌, ℕ, ◌==◌, ◌-◌, ◌^
 use Rattle.std.specs.Prelude.{◌⊎◌, Option, Some, None}
 use Rattle.std.proofs.lemmas.Option.{same_Some}
 use Rattle.clover_words.specs.declared.pool.Pool.{Pool}
-use Rattle.clover_words.specs.declared.setup.Setup.{Setup}
-use Rattle.clover_words.specs.Tag.{TagParts, tag_number}
+use Rattle.clover_words.specs.Tag.{tag_number}
 use Rattle.clover_words.specs.Version.{unlinked}
 use Rattle.clover_map.specs.History.{own}
 use Rattle.clover_map.specs.declared.call.Call.{Call}
@@ -20,11 +19,10 @@ use Rattle.clover_rule.specs.Steps.{Step, DecideNext, LinkNext, StoreShort, act_
 use Rattle.clover_rule.specs.declared.access.Act.{Act}
 use Rattle.clover_rule.specs.declared.view.View.{View}
 use Rattle.clover_rule.proofs.Tools.{length_snoc}
-use Rattle.clover_port.specs.Told.{Open, Made, Tells as PortTells, opened}
+use Rattle.clover_port.specs.Told.{Open, Made, opened}
 use Rattle.clover_plain.specs.Plain.{Plain, Accessed, KeptButEntries, view_at, history, open_of}
-use Rattle.clover_node.specs.Going.{EndsAt}
 use Rattle.clover_node.specs.Node.{CallHolds, HasCommitted, IsUncommitted, call_under, is_first, new_tag, next_step, slot_of}
-use Rattle.clover_node.specs.Turning.{CommitsNothing, reply_in}
+use Rattle.clover_node.specs.Turning.{reply_in}
 use Rattle.clover_node.specs.declared.answer.Answer.{Answer}
 use Rattle.clover_node.specs.declared.answer.NodeTurn.TheVariants.{Decided, Done}
 use Rattle.clover_node.specs.declared.under.Underway.{Underway}
@@ -32,7 +30,7 @@ use Rattle.clover_node.specs.declared.under.Underway.TheVariants.{Nothing}
 use Rattle.clover_sched.specs.declared.client.ClientState.{ClientState}
 use Rattle.clover_sched.specs.declared.event.Note.{Note}
 use Rattle.clover_sched.specs.declared.event.Note.TheVariants.{Quiet, Answered}
-use Rattle.clover_sched.specs.Client.{access, Stands, Moved, Matches, IsDoing, Went, SetsCursor, stock_at, step_record, since_of, spent_by}
+use Rattle.clover_sched.specs.Client.{access, Stands, Moved, Matches, IsDoing, Went, stock_at, step_record, since_of, spent_by}
 use Rattle.clover_sched.specs.Alone.{Advances}
 use Rattle.clover_sched.specs.Ends.{end_tag, seen_tag}
 use Rattle.clover_sched.specs.Folds.{Doing, stepped}
@@ -40,13 +38,12 @@ use Rattle.clover_sched.specs.Run.{Opening, IsAnswer, IsCause, IsCommit, IsStep,
 use Rattle.clover_sched.specs.Stepping.{Accesses, Enters, next_entry}
 use Rattle.clover_sched.proofs.Accessing.{matches_rested, due_so, held, stands_by, stands_over, so, names_so, role_so, came_so, alone_so, moved_so, number_so}
 use Rattle.clover_sched.proofs.Advancing.{goes_on, answers}
-use Rattle.clover_sched.proofs.Cursoring.{seen_dead}
 use Rattle.clover_sched.proofs.Going.{number_more}
 use Rattle.clover_sched.proofs.Linking.{linked_now, link_act, ends_commit, answers_commit, stock_rest}
 use Rattle.clover_sched.proofs.Moving.{stock_kept, moved_entered}
 use Rattle.clover_sched.proofs.Places.{same_snoc}
 use Rattle.clover_sched.proofs.Stepping.{plain_taken, one_taken, made_step}
-use Rattle.clover_sched.proofs.Turns.{apart, busy_before, busy_behind, since_busy, since_more, spent_least, spent_link, commit_tag, answer_tag, commits_always, commits_nothing}
+use Rattle.clover_sched.proofs.Turns.{apart, busy_before, busy_behind, since_busy, since_more, spent_least, spent_link, commit_tag, answer_tag, commits_always, commits_nothing, seen_dead}
 
 -- a step that decided with this entry told of it
 told_more : (p : Pool) (a : Step) (v : View) (n : ℕ) (e : Entry) (o : Open) (w : View) (o1 : Open) → Made p a false v (Some o) n w (Some o1) → ((h : List Entry) → next_history a h v n ≡ h ++ e ∷ []) → o1.history ≡ o.history ++ e ∷ []
@@ -283,9 +280,11 @@ module _ (o : Opening) (i : ℕ) (x : ClientState) (p q : Plain) (st : Stands o 
               (stock ∙ st.stock ∙ ap (stock_at o.setup (suc i)) (sym (taken_so f))) (number_so o i x p q st few n made f.accessed still new (ap (λ (k : ClientState). k.number) f.rest)) over;
           follows = λ d h.
               let g = h.busy busy in let b = g.behind behind in (
-                made_step o i d p.words (length (own p.entries (suc i))) (ClientTask call g.written) g.task act None (Answered (suc i) reply) (sym h.refusing ∙ f.asked) (came_so o i x p q st few n made f.accessed) tt (λ wrote. absurd (subst (λ (k : Step). Wrote (act_of k n)) short wrote))
-                    (refl, subst (λ (r : Reply). IsAnswer o d None act r) (sym own_is.1) (answers_commit o d act (new_tag u) call b.0
-                    (ends_commit o.setup.pool u y.node.under v w x.room y.room n o d u a g.written st.names (held o i x p q st few) go behind st.linked short g.task (g.since ∙ since_busy u v busy)))),
+                made_step o i d p.words (length (own p.entries (suc i))) (ClientTask call g.written) g.task act None (Answered (suc i) reply) (sym h.refusing ∙ f.asked) (came_so o i x p q st few n made f.accessed) tt (λ wrote. absurd (subst (λ (k : Step). Wrote (act_of k n)) short wrote)) (
+                  refl,
+                  subst (λ (r : Reply). IsAnswer o d None act r) (sym own_is.1) (answers_commit o d act (new_tag u) call b.0
+                      (ends_commit o.setup.pool u y.node.under v w x.room y.room n o d u a g.written st.names (held o i x p q st few) go behind st.linked short g.task (g.since ∙ since_busy u v busy))),
+                ),
                 matches_rested new w _ over (ap (λ (k : ClientState). k.refusing) f.rest) (taken_so f ∙ b.1 ∙ one_taken d.taken (new_tag u) call d.decided b.0),
               );
           longer = λ b. absurd (b over);

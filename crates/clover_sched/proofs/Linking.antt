@@ -1,30 +1,27 @@
 -- What the acts of a call that writes show at its commit and behind it: it has written its link, raises that, and stores its shortcut.
 use Prim.Native.Nat.{zero, suc}
 use Rattle.std.proofs.Common.{◌≡◌, ℕ, nat_lt, ◌+◌, ◌-◌, ◌<◌, List, [], ◌∷◌, ◌++◌, length, Bool, true, false, cond, refl, sym, ap, ◌∙◌, inl, inr, subst, arith, eq-eqb}
-use Rattle.std.specs.Prelude.{Option, Some, None}
+use Rattle.std.specs.Prelude.{Some, None}
 use Rattle.clover_words.specs.declared.bytes.ValueBuf.{ValueBuf}
 use Rattle.clover_words.specs.declared.pool.Pool.{Pool}
 use Rattle.clover_words.specs.declared.setup.Setup.{Setup}
 use Rattle.clover_words.specs.Preset.{buffers_total, dealt_number}
 use Rattle.clover_words.specs.Version.{unlinked}
 use Rattle.clover_map.specs.History.{key_of}
-use Rattle.clover_map.specs.declared.bytes.Value.{Value}
 use Rattle.clover_map.specs.declared.call.Call.{Call}
 use Rattle.clover_map.specs.declared.call.Call.TheVariants.{Get as GetOf, Put as PutOf, Delete as DeleteOf, Swap as SwapOf}
 use Rattle.clover_plain.specs.Preset.{dealt_from, tag_at}
 use Rattle.clover_rule.specs.Accesses.{wrote_link}
 use Rattle.clover_rule.specs.Learned.{rest_of}
 use Rattle.clover_rule.specs.Lists.{Within}
-use Rattle.clover_rule.specs.Steps.{Step, RaiseNext, LinkNext, StoreShort, act_of, reply_of}
+use Rattle.clover_rule.specs.Steps.{Step, StoreShort, act_of, reply_of}
 use Rattle.clover_rule.specs.declared.access.Act.{Act}
 use Rattle.clover_rule.specs.declared.view.View.{View}
 use Rattle.clover_rule.proofs.Steps.{within_last}
 use Rattle.clover_walk.specs.Walking.{key_at}
 use Rattle.clover_put.specs.Answering.{IsBefore}
 use Rattle.clover_put.specs.Holding.{Fills}
-use Rattle.clover_put.specs.Putting.{Putting, Stage, Storing, Flushing, Seeking, AtMeta, AtLink, Deciding, AtBad, AtRaise, AtShort, Over, call_of, put_step, put_on, staged, walked}
-use Rattle.clover_put.specs.declared.job.Job.{Job}
-use Rattle.clover_put.specs.declared.job.Job.TheVariants.{Put, Delete, Swap}
+use Rattle.clover_put.specs.Putting.{Putting, Stage, Storing, Flushing, Seeking, AtMeta, AtLink, Deciding, AtBad, AtRaise, AtShort, Over, put_step, put_on, staged, walked}
 use Rattle.clover_walk.specs.Walking.{goes_on}
 use Rattle.clover_node.specs.Going.{GoesOn, Turns}
 use Rattle.clover_node.specs.Node.{CallHolds, HasCommitted, IsUncommitted, call_under, is_first, new_tag, next_step, slot_of}
@@ -34,9 +31,9 @@ use Rattle.clover_node.specs.declared.under.Underway.{Underway}
 use Rattle.clover_node.specs.declared.under.Underway.TheVariants.{Nothing, Get, Write}
 use Rattle.clover_node.proofs.Staying.{raises_at, shortens_at}
 use Rattle.clover_sched.specs.declared.event.CallRefusal.TheVariants as why
-use Rattle.clover_sched.specs.Client.{HasLinked, IsDoing, LinkedAt, stock_at}
+use Rattle.clover_sched.specs.Client.{HasLinked, LinkedAt, stock_at}
 use Rattle.clover_sched.specs.Folds.{Doing}
-use Rattle.clover_sched.specs.Run.{Opening, EndsCommit, Flushes, IsAnswer, Shortens, Wrote, lost}
+use Rattle.clover_sched.specs.Run.{Opening, EndsCommit, Flushes, IsAnswer, Shortens, lost}
 use Rattle.clover_sched.proofs.Remembering.{key_of_call}
 
 unlinked_before : (s : Stage) (t : ℕ) (acts : List Act) → IsBefore s → LinkedAt s t acts

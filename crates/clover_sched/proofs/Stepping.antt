@@ -1,5 +1,5 @@
 -- What one access of a client is in a run, and where the client stands behind it.
-use Rattle.std.proofs.Common.{◌≡◌, inl, inr, ℕ, suc, ◌+◌, ◌==◌, List, [], ◌∷◌, ◌++◌, length, get_or, Bool, true, false, cond, if◌then◌else◌, refl, sym, ap, ◌∙◌, subst, arith, eq-eqb}
+use Rattle.std.proofs.Common.{◌≡◌, ℕ, suc, ◌+◌, ◌==◌, List, [], ◌∷◌, ◌++◌, length, get_or, Bool, true, false, cond, if◌then◌else◌, refl, sym, ap, ◌∙◌, subst, arith, eq-eqb}
 use Rattle.std.specs.Prelude.{Option, Some, None, IfSome, IsSome}
 use Rattle.std.proofs.lemmas.List.Elements.{filter-append}
 use Rattle.std.proofs.lemmas.Option.{same_Some}
@@ -14,14 +14,12 @@ use Rattle.clover_map.specs.declared.call.Reply.TheVariants.{Stored, Deleted, Fo
 use Rattle.clover_script.specs.declared.line.Task.{Task}
 use Rattle.clover_rule.specs.Accesses.{CameBack}
 use Rattle.clover_rule.specs.Rule.{longest}
-use Rattle.clover_rule.specs.Learned.{next_history}
-use Rattle.clover_rule.specs.Steps.{Step, act_of, reply_of}
+use Rattle.clover_rule.specs.Steps.{reply_of}
 use Rattle.clover_rule.specs.declared.access.Access.{Access}
 use Rattle.clover_rule.specs.declared.access.Act.{Act}
 use Rattle.clover_rule.specs.declared.view.View.{View}
 use Rattle.clover_rule.specs.Moves.{nobody}
-use Rattle.clover_plain.specs.Plain.{Plain, Accessed, Kept, KeptButEntries, view_at, history}
-use Rattle.clover_rule.proofs.Acting.{role_kept}
+use Rattle.clover_plain.specs.Plain.{Plain, Kept, view_at, history}
 use Rattle.clover_sched.specs.declared.client.ClientState.{ClientState}
 use Rattle.clover_sched.specs.declared.event.Note.{Note}
 use Rattle.clover_sched.specs.Alone.{EndsIn}
@@ -29,15 +27,10 @@ use Rattle.clover_node.specs.Node.{NodeHolds, AreCursors, CallHolds, call_under}
 use Rattle.clover_sched.specs.Client.{access, Stands, Moved, Went, Matches, HasLinked, since_of, step_record}
 use Rattle.clover_sched.specs.Folds.{Doing, listed, words_by, made_by, takes_by}
 use Rattle.clover_sched.specs.Run.{Opening, IsStep, IsEntry, IsCause, IsCommit, Wrote}
-use Rattle.clover_sched.proofs.Moving.{MadeSo, RefusedSo, IsNoLink, names_kept, stock_kept}
 
 -- a call under way is none at rest
 pub task_there : (o : Option Task) (t : Task) → o ≡ Some t → o ≡ None → ⊥
 task_there o t e f = let g : Some t ≡ None = sym e ∙ f in cc
-
--- a history with one entry more is another
-pub no_more : (h : List Entry) (e : Entry) → h ++ e ∷ [] ≡ h → ⊥
-no_more h e same = let l = length-append h (e ∷ []) in let k = ap length same in absurd (omega arith)
 
 -- how many buffers are taken where a call ends: none without a commit, one with it
 pub none_taken : (n : ℕ) (o : Option Reply) → o ≡ None → n ≡ n + takes_by o
@@ -60,9 +53,6 @@ one_taken n t call o is = let e : takes_by o ≡ 1 = ap takes_by is ∙ go call 
     go (SwapOf key e x) = refl
 
 -- what a client that stands knows, in the pool of the run
-pub pool_of : (o : Opening) (p : Plain) (i : ℕ) (x : ClientState) → Stands o p i x → (view_at p i).pass.pool ≡ o.setup.pool
-pool_of o p i x s = s.holds.pool ∙ s.pool
-
 pub cursors_of : (o : Opening) (p : Plain) (i : ℕ) (x : ClientState) → Stands o p i x → AreCursors o.setup.pool (view_at p i) x.node.cursors
 cursors_of o p i x s = subst (λ (z : Pool). AreCursors z (view_at p i) x.node.cursors) s.pool s.holds.cursors
 
@@ -135,11 +125,6 @@ went_kept o i x y p p1 q note k w =
       calls = w.calls;
       alone = λ n free h. w.alone n free (subst (λ (ws : List ℕ). EndsIn o.setup.pool ws n x.node.under x.room) (sym k.words) h);
     }
-
--- an access leaves the room for an entry
-pub room_left : (i : ℕ) (p q : Plain) → Accessed i true p q → (q.entry_room ≡ p.entry_room) × (q.opened ≡ p.opened)
-room_left i p q (inl (a, b, x, s)) = (s.same.entry_room, s.same.opened)
-room_left i p q (inr (a, r)) = (r.same.entry_room, r.same.opened)
 
 -- one entry more of a client
 pub own_more : (h : List Entry) (e : Entry) (c : ℕ) → e.client ≡ c → length (own (h ++ e ∷ []) c) ≡ length (own h c) + 1

@@ -1,20 +1,24 @@
 -- What each turn of a node tells of its client's call: whether it had committed and has, what its step did, and the acts since its start.
 use Prim.Native.Nat.{zero, suc}
-use Rattle.std.proofs.Common.{◌≡◌, ◌≢◌, ℕ, ◌==◌, ◌≤◌, List, [], ◌∷◌, ◌++◌, Bool, true, false, cond, refl, sym, ap, ◌∙◌, inl, inr, subst, arith, eq-eqb}
+use Rattle.std.proofs.Common.{◌≡◌, ◌≢◌, ℕ, ◌/◌, ◌%◌, ◌≤◌, List, [], ◌∷◌, ◌++◌, Bool, true, false, cond, refl, sym, ap, ◌∙◌, inl, inr, subst, arith, eq-eqb}
 use Rattle.clover_words.specs.declared.bytes.ValueBuf.{ValueBuf}
 use Rattle.clover_words.specs.declared.word.Side.{Side}
 use Rattle.clover_words.specs.declared.word.Side.TheVariants.{Current, Flushed}
-use Rattle.clover_words.specs.Tag.{TagParts, tag_number, home}
-use Rattle.clover_words.specs.Version.{unlinked, content_at}
+use Rattle.std.specs.Prelude.{None}
+use Rattle.clover_words.specs.declared.word.Word.TheVariants.{Next as NextOf}
+use Rattle.clover_words.specs.Tag.{TagParts, tag_number, home, age}
+use Rattle.clover_words.specs.Version.{unlinked, buffer_at, content_at}
 use Rattle.clover_map.specs.declared.call.Call.{Call}
 use Rattle.clover_map.specs.declared.call.Call.TheVariants.{Get as GetOf, Put as PutOf, Delete as DeleteOf, Swap as SwapOf}
 use Rattle.clover_map.specs.declared.call.Entry.{Entry}
-use Rattle.clover_map.specs.declared.call.Reply.{Reply}
 use Rattle.clover_rule.specs.Knowing.{link_entry}
 use Rattle.clover_rule.specs.Learned.{next_history, next_view}
 use Rattle.clover_rule.specs.Steps.{Step, LoadNext, DecideNext, RaiseNext, LinkNext, StoreContent, FlushContent, LoadContent, ReadRoot, ReadShort, AbsentCount, act_of, client, reply_of}
+use Rattle.clover_rule.specs.Memory.{Next, word, gen}
+use Rattle.clover_rule.specs.Words.{next_of}
+use Rattle.clover_rule.proofs.Ties.{next_again}
 use Rattle.clover_rule.specs.declared.access.Act.{Act}
-use Rattle.clover_rule.specs.declared.access.Act.TheVariants.{Store}
+use Rattle.clover_rule.specs.declared.access.Act.TheVariants.{Load, Store}
 use Rattle.clover_rule.specs.declared.view.View.{View}
 use Rattle.clover_put.specs.Answering.{IsBefore, IsBehind}
 use Rattle.clover_put.specs.Putting.{Stage, Storing, Flushing, Seeking, AtMeta, AtLink, Deciding, AtBad, AtRaise, AtShort, Over, put_on}
@@ -168,6 +172,13 @@ answer_tag (Found u f) t room act is seen = ap tag_number is
 answer_tag Absent t room act is seen = seen
 answer_tag (Deleted u) t room act is seen = ap tag_number is
 answer_tag (Differs u) t room act is seen = ap tag_number is
+
+-- the load that shows a tag unlinked shows that tag
+pub seen_dead : (t : ℕ) → seen_tag (Load (NextOf (buffer_at (home t))) (unlinked t)) ≡ t
+unfolding home age
+seen_dead t =
+    let e : next_of (unlinked t) ≡ word (age t) None = next_again (age t) None (omega arith) in
+    ap (λ (n : Next). tag_number (record { node = home t / 65536; index = home t % 65536; generation = gen n })) e ∙ (omega arith)
 
 -- whether a reply is a commit's
 pub commits_always : (t : ℕ) (call : Call) → IsCommit (reply_of t call) ≡ true

@@ -1,6 +1,6 @@
 -- One step of a client: what the access of its node told, what the run makes of the turn, and the entry that it enters.
 use Prim.Native.Nat.{suc}
-use Rattle.std.specs.Prelude.{◌≡◌, ℕ, List, [], ◌∷◌, ◌++◌, false, true, Option, Some, None}
+use Rattle.std.specs.Prelude.{◌≡◌, ℕ, [], ◌∷◌, ◌++◌, false, true, Option, Some, None}
 use Rattle.clover_words.specs.declared.bytes.ValueBuf.{ValueBuf}
 use Rattle.clover_words.specs.Tag.{tag_number}
 use Rattle.clover_map.specs.declared.bytes.Value.{Value}

@@ -49,11 +49,7 @@ impl Model for Machine {
 }
 
 // So many clients of this pool that have done nothing.
-fn idle_clients(
-    alloc: Global,
-    pool: Pool,
-    count: u32,
-) -> Result<Vec<ClientState>, OutOfMemory>
+fn idle_clients(alloc: Global, pool: Pool, count: u32) -> Result<Vec<ClientState>, OutOfMemory>
     ensures { IfOk result (λ clients. (length clients.items ≡ count) × All (IsIdle pool) clients.items) }
 {
     let mut clients = Vec::new(alloc);

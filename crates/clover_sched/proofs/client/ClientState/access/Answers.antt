@@ -1,8 +1,7 @@
-use Rattle.std.proofs.Common.{◌≡◌, ℕ, Bool, rules, sym, ap, ◌∙◌, inl, inr, subst, arith}
+use Rattle.std.proofs.Common.{◌≡◌, Bool, rules, sym, ap, ◌∙◌, inl, inr, subst, arith}
 use Rattle.clover_plain.specs.Plain.{Accessed}
 use Rattle.clover_plain.specs.Ports.{refused_view}
 use Rattle.clover_node.proofs.Holds.{by_turn}
-use Rattle.clover_sched.specs.declared.client.ClientState.{ClientState}
 use Rattle.clover_sched.proofs.Reaching.{reached, where_made, where_refused}
 use Rattle.clover_sched.proofs.client.ClientState.access.Goals as goal
 
