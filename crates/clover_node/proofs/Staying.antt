@@ -1,14 +1,16 @@
 -- What an access leaves of the call under way: the same call where it goes on; and what its step was, by the turn.
 use Rattle.std.proofs.Common.{◌≡◌, ◌≢◌, ℕ, ◌==◌, List, ◌∷◌, Bool, true, false, cond, refl, sym, ap, ◌∙◌, inl, inr, subst, arith, eq-eqb}
-use Rattle.std.specs.Prelude.{Option}
+use Rattle.std.specs.Prelude.{◌⊎◌, Option, Some, None}
 use Rattle.clover_words.specs.declared.bytes.ValueBuf.{ValueBuf}
 use Rattle.clover_words.specs.declared.pool.Pool.{Pool}
 use Rattle.clover_words.specs.Version.{unlinked}
 use Rattle.clover_map.specs.declared.call.Call.TheVariants.{Get as GetOf}
+use Rattle.clover_map.specs.declared.call.Entry.{Entry}
+use Rattle.clover_rule.specs.Memory.{Next, word}
 use Rattle.clover_rule.specs.Knowing.{link_view}
-use Rattle.clover_rule.specs.Learned.{rest_of, seen, turn_of}
-use Rattle.clover_rule.specs.Steps.{Step, LoadNext, DecideNext, LinkNext, StoreShort, client, reply_of}
-use Rattle.clover_rule.specs.Words.{next_of}
+use Rattle.clover_rule.specs.Learned.{decided, learned, next_view, rest_of, seen, started, turn_of}
+use Rattle.clover_rule.specs.Steps.{Step, LoadNext, DecideNext, RaiseNext, LinkNext, StoreContent, FlushContent, LoadContent, ReadRoot, ReadShort, StoreShort, client, reply_of}
+use Rattle.clover_rule.specs.Words.{next_of, root_of}
 use Rattle.clover_rule.specs.declared.view.View.{View}
 use Rattle.clover_port.specs.Told.{Open, Made}
 use Rattle.clover_cache.specs.Node.{Known}
@@ -23,7 +25,8 @@ use Rattle.clover_put.specs.Holding.{PutHolds, Fills, Owns}
 use Rattle.clover_put.specs.Putting.{Putting, Stage, Storing, Flushing, Seeking, AtMeta, AtLink, Deciding, AtBad, AtRaise, AtShort, Over, call_of, put_step, put_on, staged, walked, unless_left}
 use Rattle.clover_node.specs.Going.{GoesOn, IsQuiet, IsSameCall, Stays, Turns, Went}
 use Rattle.clover_node.specs.Node.{CallHolds, HasCommitted, IsUncommitted, is_first, new_tag, next_step, slot_of, call_under}
-use Rattle.clover_node.specs.Turning.{OnMade, left_by}
+use Rattle.clover_node.specs.Turning.{OnMade, left_by, reply_in}
+use Rattle.clover_node.specs.declared.answer.Answer.{Answer}
 use Rattle.clover_node.specs.declared.answer.NodeRefusal.TheVariants.{Unreached, Behind, Linked, TooLong}
 use Rattle.clover_node.specs.declared.answer.NodeTurn.{NodeTurn}
 use Rattle.clover_node.specs.declared.answer.NodeTurn.TheVariants.{More, Decided, Done, Refused}
@@ -70,6 +73,27 @@ turn_quiet (LoadNext s t) x h = tt
 turn_quiet (DecideNext s t c r) x h = turn_misses (x == unlinked t) _ refl h
 turn_quiet (LinkNext s t u c) x h = turn_misses (x == unlinked t) _ refl h
 turn_quiet a x h = absurd (h refl)
+
+stock_seen : (s t : ℕ) (v : View) (k : Next) → (seen s t v k).pass.stock ≡ v.pass.stock
+stock_seen s t v (word a None) = refl
+stock_seen s t v (word a (Some u)) = refl
+
+stock_started : (s : ℕ) (v : View) (o : Option ℕ) → (started s v o).pass.stock ≡ v.pass.stock
+stock_started s v None = refl
+stock_started s v (Some t) = refl
+
+-- it takes nothing from the stock
+quiet_stock : (a : Step) (h : List Entry) (v : View) (x : ℕ) → IsQuiet a x → (learned a h v x).pass.stock ≡ v.pass.stock
+quiet_stock (LoadNext s t) h v x q = stock_seen s t v (next_of x)
+quiet_stock (ReadRoot s) h v x q = stock_started s v (root_of x)
+quiet_stock (ReadShort s) h v x q = stock_started s v (root_of x)
+quiet_stock (DecideNext s t c r) h v x q = ap (λ (k : Bool). (cond k (decided v h t c r) (seen s t v (next_of x))).pass.stock) q ∙ stock_seen s t v (next_of x)
+quiet_stock (LinkNext s t u c) h v x q = ap (λ (k : Bool). (cond k (link_view v h (client v) s t u c (reply_of u c) (rest_of v.pass.stock)) (seen s t v (next_of x))).pass.stock) q ∙ stock_seen s t v (next_of x)
+quiet_stock (RaiseNext l) h v x q = refl
+quiet_stock (LoadContent s t j) h v x q = refl
+quiet_stock (StoreContent t j y) h v x q = refl
+quiet_stock (FlushContent t j y) h v x q = refl
+quiet_stock a h v x q = absurd q
 
 walked_later : (c : Putting) (x : ℕ) → c.walk.first ≡ false → (walked c (goes_on c.walk x)).walk.first ≡ false
 walked_later c x e = (on_walk c.walk.stand c.walk x).first (λ q. e)
@@ -183,12 +207,27 @@ module _ (p : Pool) (v : View) (o : Option Open) (n : ℕ) (w : View) (o1 : Opti
   done_short (Get g) y a go h = absurd h
   done_short (Write c) y a go h = ap (λ (s : Stage). put_step (record c { stage = s }) v) (shortens_at c n h go.2)
 
+  -- nor does the load that ends a call at its tail
+  done_stock : (x y : Underway) (k k1 : Known) (a : Answer) → Made p (next_step x v room) (is_first x) v o n w o1 → GoesOn x room n (Done a) y room1 → Went p x y k k1 room1 v o w o1 (Done a) → IsUncommitted x ⊎ HasCommitted x → w.pass.stock ≡ v.pass.stock
+  done_stock x y k k1 a made go g (inl before) =
+      let e = (g.done.1.tail before).0 in
+      ap (λ (z : View). z.pass.stock) e.made.told.next
+      ∙ ap (λ (b : Bool). (cond b (decided v e.made.now.history e.tag (call_under x v) (reply_in a room1)) (seen e.slot e.tag v (next_of (unlinked e.tag)))).pass.stock) (eq-eqb (unlinked e.tag) (unlinked e.tag) refl)
+  done_stock x y k k1 a made go g (inr behind) = ap (λ (z : View). z.pass.stock) made.told.next ∙ ap (λ (b : Step). (next_view (is_first x) b made.now.history v n).pass.stock) (done_short x y a go behind)
+
+  quiet_so : (x : Underway) → Made p (next_step x v room) (is_first x) v o n w o1 → IsQuiet (next_step x v room) n → w.pass.stock ≡ v.pass.stock
+  quiet_so x made quiet = ap (λ (z : View). z.pass.stock) made.told.next ∙ quiet_stock (next_step x v room) made.now.history v n quiet
+
   pub stays : (x y : Underway) (k k1 : Known) (r : NodeTurn) → CallHolds p x v room → Made p (next_step x v room) (is_first x) v o n w o1 → GoesOn x room n r y room1 → Went p x y k k1 room1 v o w o1 r → OnMade r (Stays x v (next_step x v room) n y w r)
-  stays x y k k1 More held made go g = record { same = same_on More (λ u. refl) x y (stepped p _ _ v o n w o1 made).names held go; quiet = more_quiet x y g.holds go g.turns; stock = tt; shortens = tt }
+  stays x y k k1 More held made go g =
+      let quiet = more_quiet x y g.holds go g.turns in
+      record { same = same_on More (λ u. refl) x y (stepped p _ _ v o n w o1 made).names held go; quiet = quiet; stock = quiet_so x made quiet; shortens = tt }
   stays x y k k1 (Decided a) held made go g = record { same = same_on (Decided a) (λ u. refl) x y (stepped p _ _ v o n w o1 made).names held go; quiet = tt; stock = stock_goes x y a held go g.turns.0 g.turns.1 g.decided.0; shortens = tt }
-  stays x y k k1 (Done a) held made go g = record { same = tt; quiet = tt; stock = tt; shortens = done_short x y a go }
+  stays x y k k1 (Done a) held made go g = record { same = tt; quiet = tt; stock = done_stock x y k k1 a made go g g.turns.0; shortens = done_short x y a go }
   stays x y k k1 (Refused Unreached) held made go g = tt
-  stays x y k k1 (Refused (Behind turns)) held made go g = record { same = tt; quiet = turn_quiet (next_step x v room) n (turned x (λ e. subst IsUncommitted e g.turns.0) held made g.behind.1); stock = tt; shortens = tt }
+  stays x y k k1 (Refused (Behind turns)) held made go g =
+      let quiet = turn_quiet (next_step x v room) n (turned x (λ e. subst IsUncommitted e g.turns.0) held made g.behind.1) in
+      record { same = tt; quiet = quiet; stock = quiet_so x made quiet; shortens = tt }
   stays x y k k1 (Refused (Linked t)) held made go g = tt
   stays x y k k1 (Refused (TooLong length room)) held made go g = absurd g.turns
 

@@ -70,11 +70,16 @@ pub record IsSameCall (x : Underway) (v : View) (y : Underway) (w : View) : Type
   pub tag : new_tag y ≡ new_tag x
   pub later : is_first y ≡ false
 
--- What an access leaves of the call x, and what its step was: where the call goes on it is the same; the step commits and ends nothing but at an answer; at the commit the new tag leaves the client's stock; and a call that has committed is answered at the store of its slot's shortcut.
+-- the new tag leaves the client's stock at the commit, and nothing else does
+abbrev pub Takes : NodeTurn → ℕ → View → View → Type 0
+Takes (Decided a) t v w = v.pass.stock ≡ t ∷ w.pass.stock
+Takes r t v w = w.pass.stock ≡ v.pass.stock
+
+-- What an access leaves of the call x, and what its step was: where the call goes on it is the same; the step commits and ends nothing but at an answer; and a call that has committed is answered at the store of its slot's shortcut.
 pub record Stays (x : Underway) (v : View) (step : Step) (n : ℕ) (y : Underway) (w : View) (r : NodeTurn) : Type 0 where
   pub same : OnGoing r (IsSameCall x v y w)
   pub quiet : OnNothing r (IsQuiet step n)
-  pub stock : IfDecided r (λ a. v.pass.stock ≡ new_tag x ∷ w.pass.stock)
+  pub stock : Takes r (new_tag x) v w
   pub shortens : IfDone r (λ a. HasCommitted x → step ≡ StoreShort (slot_of x) (new_tag x))
 
 -- the turn says whether the call had committed and has

@@ -1,6 +1,6 @@
 -- What each access of a client's node comes to: a step of the run, behind which the client stands where that leads.
 use Prim.Native.Nat.{suc}
-use Rattle.std.proofs.Common.{◌≡◌, ◌≢◌, ℕ, ◌+◌, ◌-◌, ◌^◌, ◌<◌, ◌≤◌, List, [], ◌∷◌, ◌++◌, length, Bool, true, false, refl, sym, ap, ◌∙◌, subst, arith}
+use Rattle.std.proofs.Common.{◌≡◌, ◌≢◌, ℕ, ◌+◌, ◌-◌, ◌^◌, ◌<◌, ◌≤◌, List, [], ◌∷◌, ◌++◌, length, get_or, Bool, true, false, refl, sym, ap, ◌∙◌, subst, arith}
 use Rattle.std.specs.Prelude.{Option, Some, None}
 use Rattle.clover_words.specs.declared.bytes.ValueBuf.{ValueBuf}
 use Rattle.clover_words.specs.declared.pool.Pool.{Pool}
@@ -13,15 +13,15 @@ use Rattle.clover_script.specs.declared.line.Task.TheVariants.{Client as ClientT
 use Rattle.clover_rule.specs.Accesses.{CameBack}
 use Rattle.clover_rule.specs.Learned.{found, words_after_step, next_history}
 use Rattle.clover_rule.specs.Steps.{Step, act_of, reply_of}
+use Rattle.clover_rule.specs.Moves.{nobody}
 use Rattle.clover_rule.specs.declared.access.Act.{Act}
 use Rattle.clover_rule.specs.declared.view.View.{View}
-use Rattle.clover_rule.proofs.Acting.{role_kept}
 use Rattle.clover_rule.proofs.Tools.{length_snoc}
 use Rattle.clover_port.specs.Told.{Made}
-use Rattle.clover_plain.specs.Plain.{Plain, Accessed, view_at, history, open_of}
+use Rattle.clover_plain.specs.Plain.{Plain, Refused as RefusedAt, Stepped, view_at, history, open_of}
 use Rattle.clover_walk.specs.Walking.{budget}
 use Rattle.clover_node.specs.Calling.{Calling, after}
-use Rattle.clover_node.specs.Going.{IsDue, IsQuiet}
+use Rattle.clover_node.specs.Going.{IsDue}
 use Rattle.clover_node.specs.Node.{CallHolds, NodeHolds, HasCommitted, IsUncommitted, call_under, is_first, new_tag, next_step}
 use Rattle.clover_node.specs.Turning.{Tells as NodeTells}
 use Rattle.clover_node.specs.declared.answer.NodeRefusal.TheVariants as node
@@ -42,9 +42,9 @@ use Rattle.clover_sched.specs.Stepping.{Accesses}
 use Rattle.clover_sched.proofs.Advancing.{IsMade, goes_on, stays_ahead}
 use Rattle.clover_sched.proofs.Going.{step_refused, seat_below, number_same}
 use Rattle.clover_sched.proofs.Linking.{linked_more, lost_commit}
-use Rattle.clover_sched.proofs.Moving.{MadeSo, made_so, RefusedSo, refused_so, names_kept, moved_quiet, moved_refused}
+use Rattle.clover_sched.proofs.Moving.{MadeSo, made_so, RefusedSo, refused_so, moved_quiet, moved_refused}
 use Rattle.clover_sched.proofs.Stepping.{held_of, none_taken, one_taken, made_step}
-use Rattle.clover_sched.proofs.Turns.{quiet_history, quiet_stock, quiet_act, busy_before, busy_behind, more_busy, more_before, more_behind, since_more, spent_least, spent_more}
+use Rattle.clover_sched.proofs.Turns.{quiet_history, quiet_act, busy_before, busy_behind, more_busy, more_before, more_behind, since_more, spent_least, spent_more}
 
 -- a client at rest is where the records say
 pub matches_rested : (z : ClientState) (v : View) (n : ℕ) → z.node.under ≡ Nothing → z.refusing ≡ false → z.taken ≡ n → Matches z v (rested n)
@@ -98,15 +98,9 @@ module _ (o : Opening) (i : ℕ) (x : ClientState) (p q : Plain) (st : Stands o 
     stands_over act b e m stock number is = stands_by act b e m stock number (λ h. absurd (subst IsUncommitted is h)) (λ h. absurd (subst HasCommitted is h)) (subst (λ (k : Underway). HasLinked k w.pass.since) (sym is) tt)
 
   -- an access that was made
-  module _ (n : ℕ) (made : Made p.setup.pool step (is_first u) v (Some (open_of p)) n w (Some (open_of q))) (acc : Accessed i true p q) where
+  module _ (n : ℕ) (made : Made p.setup.pool step (is_first u) v (Some (open_of p)) n w (Some (open_of q))) (acc : Stepped step (is_first u) true i n p q) where
     pub so : MadeSo i p q step (is_first u) n
     so = made_so i p q step (is_first u) n few (seat_below o p i x st) st.role st.entered made acc
-
-    pub names_so : w.pass.names ≡ v.pass.names
-    names_so = ap (λ (k : View). k.pass.names) so.view ∙ names_kept step (is_first u) (history p) v n
-
-    pub role_so : w.pass.role ≡ v.pass.role
-    role_so = ap (λ (k : View). k.pass.role) so.view ∙ role_kept step (is_first u) (history p) v n
 
     pub came_so : CameBack o.setup.pool p.words (act_of step n)
     came_so = subst (λ (k : Setup). CameBack k.pool p.words (act_of step n)) st.setup so.came
@@ -122,22 +116,14 @@ module _ (o : Opening) (i : ℕ) (x : ClientState) (p q : Plain) (st : Stands o 
       pub number_so : (z : ClientState) → z.number ≡ x.number → z.number ≡ length (own q.entries (suc i))
       number_so z e = e ∙ number_same x.number (suc i) p.entries q.entries st.number moved_so.entries
 
-    -- or is quiet
-    module _ (quiet : IsQuiet step n) where
-      same_so : next_history step (history p) v n ≡ history p
-      same_so = quiet_history step (history p) v n quiet
-
-      stock_so : w.pass.stock ≡ stock_at o.setup (suc i) x.taken
-      stock_so = ap (λ (k : View). k.pass.stock) so.view ∙ quiet_stock step (is_first u) (history p) v n quiet ∙ st.stock
-
   pub went_more : (y : ClientState) → Accesses i x y p q More → Went o i x y p q Quiet
   went_more y a =
-      let n = a.made.0 in let made = a.made.1 in let go = a.made.2 in let stays = a.made.4 in
+      let n = a.made.0 in let acc = a.made.1 in let made = a.made.2 in let go = a.made.3 in let stays = a.made.5 in
       let turns = a.went.turns in
-      let s = so n made a.accessed in
+      let s = so n made acc in
       let act : Act = act_of step n in
       let same = stays.same in
-      let still = same_so n made a.accessed stays.quiet in
+      let still = quiet_history step (history p) v n stays.quiet in
       let busy = more_busy u y.node.under turns in
       let since = since_more u y.node.under v w act busy.0 busy.1 same.later s.since in
       let quiet = quiet_act step n stays.quiet in
@@ -145,15 +131,15 @@ module _ (o : Opening) (i : ℕ) (x : ClientState) (p q : Plain) (st : Stands o 
       record {
         access = access i act false;
         entry = None;
-        moved = moved_so n made a.accessed still;
-        stands = stands_by q y refl (names_so n made a.accessed) (role_so n made a.accessed) a.pool a.holds act false None (moved_so n made a.accessed still) (stock_so n made a.accessed stays.quiet ∙ ap (stock_at o.setup (suc i)) (sym taken))
-            (number_so n made a.accessed still y (ap (λ (z : ClientState). z.number) a.rest))
+        moved = moved_so n made acc still;
+        stands = stands_by q y refl s.names s.role a.pool a.holds act false None (moved_so n made acc still) (stays.stock ∙ st.stock ∙ ap (stock_at o.setup (suc i)) (sym taken))
+            (number_so n made acc still y (ap (λ (z : ClientState). z.number) a.rest))
             (λ h. ap (λ (z : ClientState). z.asked) a.rest ∙ st.asked (more_before u y.node.under turns h) ∙ ap (λ (c : Call). Some c) (sym same.call))
             (λ h. ap (λ (z : ClientState). z.asked) a.rest ∙ st.kept (more_behind u y.node.under turns h))
             (linked_more o.setup.pool u y.node.under v w x.room y.room n held go turns st.linked s.since);
         follows = λ d h.
             let g = h.busy busy.0 in (
-              made_step o i d p.words (length (own p.entries (suc i))) (ClientTask (call_under u v) g.written) g.task act None Quiet (sym h.refusing ∙ a.asked) (came_so n made a.accessed) tt (λ b. absurd (quiet.0 b)) (tt, quiet.1),
+              made_step o i d p.words (length (own p.entries (suc i))) (ClientTask (call_under u v) g.written) g.task act None Quiet (sym h.refusing ∙ a.asked) (came_so n made acc) tt (λ b. absurd (quiet.0 b)) (tt, quiet.1),
               record {
                 refusing = ap (λ (z : ClientState). z.refusing) a.rest;
                 idle = λ e. absurd (busy.1 e);
@@ -169,16 +155,17 @@ module _ (o : Opening) (i : ℕ) (x : ClientState) (p q : Plain) (st : Stands o 
         longer = λ b. ap length since ∙ length_snoc act (since_of u v);
         spent = subst (λ (k : ℕ). spent_by y.node.under k ≤ spent_by u x.taken) (sym taken) (spent_more u y.node.under x.room y.room n x.taken go turns);
         cursor = a.went.cursors;
-        calls = λ free. due_so x y step n More Quiet a.made.3 (λ call own c k t. t.0);
-        alone = λ m free h. goes_on (suc i) o.setup.pool m v p.words q.words x.room y.room n u y.node.under More w (λ k. refl) (alone_so n made a.accessed (suc i) m y.room) held (subst (λ (k : Pool). CallHolds k y.node.under w y.room) (a.pool ∙ st.pool) a.holds.call) go h;
+        calls = λ free. due_so x y step n More Quiet a.made.4 (λ call own c k t. t.0);
+        alone = λ m free h. goes_on (suc i) o.setup.pool m v p.words q.words x.room y.room n u y.node.under More w (λ k. refl) (alone_so n made acc (suc i) m y.room) held (subst (λ (k : Pool). CallHolds k y.node.under w y.room) (a.pool ∙ st.pool) a.holds.call) go h;
       }
 
   -- the turns of the call have reached the budget
   pub went_behind : (y z : ClientState) (turns : ℕ) → Accesses i x y p q (RefusedTurn (node.Behind turns)) → z ≡ record y { asked = None } → Went o i x z p q (Refused (suc i) (why.Behind turns))
   went_behind y z turns a is = subst (λ (k : ClientState). Went o i x k p q (Refused (suc i) (why.Behind turns))) (sym is) (
-      let n = a.made.0 in let made = a.made.1 in let go = a.made.2 in let stays = a.made.4 in
+      let n = a.made.0 in let acc = a.made.1 in let made = a.made.2 in let go = a.made.3 in let stays = a.made.5 in
+      let s = so n made acc in
       let act : Act = act_of step n in
-      let still = same_so n made a.accessed stays.quiet in
+      let still = quiet_history step (history p) v n stays.quiet in
       let before = a.went.turns.0 in
       let over : y.node.under ≡ Nothing = a.went.turns.1 in
       let quiet = quiet_act step n stays.quiet in
@@ -187,28 +174,29 @@ module _ (o : Opening) (i : ℕ) (x : ClientState) (p q : Plain) (st : Stands o 
       record {
         access = access i act false;
         entry = None;
-        moved = moved_so n made a.accessed still;
-        stands = stands_over q (record y { asked = None }) refl (names_so n made a.accessed) (role_so n made a.accessed) a.pool a.holds act false None (moved_so n made a.accessed still) (stock_so n made a.accessed stays.quiet ∙ ap (stock_at o.setup (suc i)) (sym taken))
-            (number_so n made a.accessed still (record y { asked = None }) (ap (λ (k : ClientState). k.number) a.rest)) over;
+        moved = moved_so n made acc still;
+        stands = stands_over q (record y { asked = None }) refl s.names s.role a.pool a.holds act false None (moved_so n made acc still) (stays.stock ∙ st.stock ∙ ap (stock_at o.setup (suc i)) (sym taken))
+            (number_so n made acc still (record y { asked = None }) (ap (λ (k : ClientState). k.number) a.rest)) over;
         follows = λ d h.
             let g = h.busy (busy_before u before) in
             let none = (g.before before).0 in (
-              made_step o i d p.words (length (own p.entries (suc i))) (ClientTask (call_under u v) g.written) g.task act None (Refused (suc i) (why.Behind turns)) (sym h.refusing ∙ a.asked) (came_so n made a.accessed) tt (λ b. absurd (quiet.0 b)) (refl, a.went.behind.0 ∙ ap budget st.pool, refl, none, quiet.1),
+              made_step o i d p.words (length (own p.entries (suc i))) (ClientTask (call_under u v) g.written) g.task act None (Refused (suc i) (why.Behind turns)) (sym h.refusing ∙ a.asked) (came_so n made acc) tt (λ b. absurd (quiet.0 b)) (refl, a.went.behind.0 ∙ ap budget st.pool, refl, none, quiet.1),
               matches_rested (record y { asked = None }) w _ over (ap (λ (k : ClientState). k.refusing) a.rest) (taken ∙ (g.before before).1 ∙ none_taken d.taken d.decided none),
             );
         longer = λ b. absurd (b over);
         spent = let e = ap (λ (k : Underway). spent_by k y.taken) over in let l = spent_least u x.taken in let f = taken in omega arith;
         cursor = a.went.cursors;
-        calls = λ free. due_so x y step n (RefusedTurn (node.Behind turns)) (Refused (suc i) (why.Behind turns)) a.made.3 (λ call own c k t. t);
-        alone = λ m free h. absurd (stays_ahead (suc i) o.setup.pool m v p.words q.words x.room y.room n u y.node.under turns (alone_so n made a.accessed (suc i) m y.room) held go h
+        calls = λ free. due_so x y step n (RefusedTurn (node.Behind turns)) (Refused (suc i) (why.Behind turns)) a.made.4 (λ call own c k t. t);
+        alone = λ m free h. absurd (stays_ahead (suc i) o.setup.pool m v p.words q.words x.room y.room n u y.node.under turns (alone_so n made acc (suc i) m y.room) held go h
             (turned x.node.pool v (Some (open_of p)) n w (Some (open_of q)) x.room y.room u (busy_before u before) st.holds.call (subst (λ (k : Pool). Made k step (is_first u) v (Some (open_of p)) n w (Some (open_of q))) (sym pool) made) a.went.behind.1));
       })
 
   -- the access was refused, which the call is answered by why
-  went_refused : (y z : ClientState) (r : NodeTurn) (fault : CallRefusal) → (a : Accesses i x y p q r) → w ≡ v → x.refusing ≡ true → y.node.under ≡ Nothing → y.node.cursors ≡ x.node.cursors → z ≡ record y { asked = None } → u ≢ Nothing
+  went_refused : (y z : ClientState) (r : NodeTurn) (fault : CallRefusal) → Accesses i x y p q r → (a : Step) × RefusedAt (act_of a 0) i p q → x.refusing ≡ true → y.node.under ≡ Nothing → y.node.cursors ≡ x.node.cursors → z ≡ record y { asked = None } → u ≢ Nothing
       → ((d : Doing) → IsDoing x v d → (fault ≡ lost d.decided) × (x.taken ≡ d.taken + Rattle.clover_sched.specs.Folds.takes_by d.decided)) → Went o i x z p q (Refused (suc i) fault)
-  went_refused y z r fault a same forced over cursors is busy told = subst (λ (k : ClientState). Went o i x k p q (Refused (suc i) fault)) (sym is) (
-      let f : RefusedSo i p q = refused_so i p q (seat_below o p i x st) same a.accessed in
+  went_refused y z r fault a refused forced over cursors is busy told = subst (λ (k : ClientState). Went o i x k p q (Refused (suc i) fault)) (sym is) (
+      let f : RefusedSo i p q = refused_so i p q refused.0 (seat_below o p i x st) refused.1 in
+      let same : w ≡ v = λ j. get_or (f.views j) i nobody in
       let m = moved_refused i p q f st.entered in
       let taken : y.taken ≡ x.taken = ap (λ (k : ClientState). k.taken) a.rest in
       record {

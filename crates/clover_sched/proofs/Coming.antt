@@ -68,7 +68,7 @@ module _ (i : ℕ) (x y : ClientState) (p q : Plain) (value : Option Value) (fou
   value_so (Decided (Deleted t)) a = tt
   value_so (Decided (Differs t)) a = tt
   value_so (Done (Stored t)) a = tt
-  value_so (Done (Found t f)) a = let e = a.went.done.1.flags in found f e ∙ ap (λ (b : ValueBuf). Some (value_in f b)) (sym (room_kept x.node.under y.node.under (Done (Found t f)) f a.made.0 x.room y.room e a.made.2))
+  value_so (Done (Found t f)) a = let e = a.went.done.1.flags in found f e ∙ ap (λ (b : ValueBuf). Some (value_in f b)) (sym (room_kept x.node.under y.node.under (Done (Found t f)) f a.made.0 x.room y.room e a.made.3))
   value_so (Done Absent) a = tt
   value_so (Done (Deleted t)) a = tt
   value_so (Done (Differs t)) a = tt

@@ -12,7 +12,7 @@ use Rattle.clover_map.specs.declared.call.Call.{Call}
 use Rattle.clover_map.specs.declared.call.Call.TheVariants.{Get as GetOf, Put as PutOf, Delete as DeleteOf, Swap as SwapOf}
 use Rattle.clover_map.specs.declared.call.Entry.{Entry}
 use Rattle.clover_rule.specs.Knowing.{link_entry}
-use Rattle.clover_rule.specs.Learned.{next_history, next_view}
+use Rattle.clover_rule.specs.Learned.{next_history}
 use Rattle.clover_rule.specs.Steps.{Step, LoadNext, DecideNext, RaiseNext, LinkNext, StoreContent, FlushContent, LoadContent, ReadRoot, ReadShort, AbsentCount, act_of, client, reply_of}
 use Rattle.clover_rule.specs.Memory.{Next, word, gen}
 use Rattle.clover_rule.specs.Words.{next_of}
@@ -35,7 +35,6 @@ use Rattle.clover_node.proofs.PutStep.{both}
 use Rattle.clover_sched.specs.Client.{since_of, spent_at, spent_by}
 use Rattle.clover_sched.specs.Ends.{end_tag, seen_tag}
 use Rattle.clover_sched.specs.Run.{IsCommit, Shortens, Wrote}
-use Rattle.clover_sched.proofs.Moving.{stock_kept, stock_missed}
 
 -- a quiet step adds no entry
 pub quiet_history : (a : Step) (h : List Entry) (v : View) (x : ℕ) → IsQuiet a x → next_history a h v x ≡ h
@@ -43,11 +42,6 @@ quiet_history (DecideNext s t c r) h v x q = ap (λ (b : Bool). cond b (h ++ lin
 quiet_history (LinkNext s u t c) h v x q = ap (λ (b : Bool). cond b (h ++ link_entry v (client v) c (reply_of t c) ∷ []) h) q
 quiet_history (AbsentCount c) h v x q = absurd q
 quiet_history a h v x q = refl
-
--- and takes nothing from the stock
-pub quiet_stock : (a : Step) (b : Bool) (h : List Entry) (v : View) (x : ℕ) → IsQuiet a x → (next_view b a h v x).pass.stock ≡ v.pass.stock
-quiet_stock (LinkNext s u t c) b h v x q = stock_missed s u t c b h v x q
-quiet_stock a b h v x q = stock_kept a b h v x tt
 
 content_shortens : (b j y : ℕ) (side : Side) → Shortens (Store (content_at b j) side y) → ⊥
 content_shortens b zero y side h = h

@@ -7,8 +7,9 @@ use Rattle.clover_map.specs.declared.bytes.Value.{Value}
 use Rattle.clover_map.specs.declared.call.Call.{Call}
 use Rattle.clover_map.specs.declared.call.Entry.{Entry}
 use Rattle.clover_map.specs.declared.call.Reply.{Reply}
+use Rattle.clover_rule.specs.Steps.{Step, act_of}
 use Rattle.clover_port.specs.Told.{Made}
-use Rattle.clover_plain.specs.Plain.{Plain, Accessed, KeptButEntries, open_of, view_at}
+use Rattle.clover_plain.specs.Plain.{Plain, KeptButEntries, Refused as RefusedAt, Same, Stepped, open_of, view_at}
 use Rattle.clover_get.specs.Getting.{value_in}
 use Rattle.clover_node.specs.declared.answer.Answer.{Answer}
 use Rattle.clover_node.specs.declared.answer.Answer.TheVariants.{Found}
@@ -55,14 +56,15 @@ IsCame r room (came.Refused y) = (z : NodeRefusal) × (r ≡ Refused z) × (y �
 
 -- The node of the client of seat i made the next access of its call, or had it refused where that was asked for, and left the client as y.
 pub record Accesses (i : ℕ) (x y : ClientState) (p q : Plain) (r : NodeTurn) : Type 0 where
-  pub made : OnMade r ((n : ℕ) × Made p.setup.pool (next_step x.node.under (view_at p i) x.room) (is_first x.node.under) (view_at p i) (Some (open_of p)) n (view_at q i) (Some (open_of q))
+  pub made : OnMade r ((n : ℕ) × Stepped (next_step x.node.under (view_at p i) x.room) (is_first x.node.under) true i n p q
+      × Made p.setup.pool (next_step x.node.under (view_at p i) x.room) (is_first x.node.under) (view_at p i) (Some (open_of p)) n (view_at q i) (Some (open_of q))
       × GoesOn x.node.under x.room n r y.node.under y.room × IsDue x.node.under x.room (next_step x.node.under (view_at p i) x.room) n y.node.under y.room r
       × Stays x.node.under (view_at p i) (next_step x.node.under (view_at p i) x.room) n y.node.under (view_at q i) r)
   pub went : Went x.node.pool x.node.under y.node.under x.node.cursors y.node.cursors y.room (view_at p i) (Some (open_of p)) (view_at q i) (Some (open_of q)) r
-  pub refused : OnRefused r (view_at q i ≡ view_at p i)
+  pub refused : OnRefused r ((a : Step) × RefusedAt (act_of a 0) i p q)
   pub asked : OnMade r (x.refusing ≡ false)
   pub forced : OnRefused r (x.refusing ≡ true)
-  pub accessed : Accessed i true p q
+  pub same : Same p q
   pub pool : y.node.pool ≡ x.node.pool
   pub holds : NodeHolds y.node (view_at q i) y.room
   pub rest : y ≡ record x { node = y.node; room = y.room; refusing = false }
