@@ -1,5 +1,5 @@
 -- One step of a node: how its call goes on, and what the turn says of the call, the cursors, the room and what the client knows.
-use Rattle.std.specs.Prelude.{◌≡◌, ◌⊎◌, ℕ, ◌<◌, ◌≤◌, List, [], ◌∷◌, ◌++◌, length, Option, Some}
+use Rattle.std.specs.Prelude.{◌≡◌, ◌⊎◌, ℕ, ◌<◌, ◌≤◌, ◌==◌, List, [], ◌∷◌, ◌++◌, length, false, Option, Some}
 use Rattle.clover_words.specs.declared.bytes.ValueBuf.{ValueBuf}
 use Rattle.clover_words.specs.declared.pool.Pool.{Pool}
 use Rattle.clover_words.specs.declared.word.Word.TheVariants.{Next as NextOf}
@@ -8,7 +8,7 @@ use Rattle.clover_words.specs.Version.{buffer_at, unlinked}
 use Rattle.clover_map.specs.declared.call.Call.{Call}
 use Rattle.clover_rule.specs.Content.{InRange}
 use Rattle.clover_rule.specs.Lists.{Within}
-use Rattle.clover_rule.specs.Steps.{Step, act_of, reply_of}
+use Rattle.clover_rule.specs.Steps.{Step, ReadShort, ReadRoot, LoadNext, RaiseNext, LoadContent, StoreContent, FlushContent, DecideNext, LinkNext, StoreShort, act_of, reply_of}
 use Rattle.clover_rule.specs.declared.access.Act.{Act}
 use Rattle.clover_rule.specs.declared.access.Act.TheVariants.{Load}
 use Rattle.clover_rule.specs.declared.view.View.{View}
@@ -16,8 +16,8 @@ use Rattle.clover_port.specs.Told.{Open}
 use Rattle.clover_cache.specs.Node.{Known, IsSet}
 use Rattle.clover_walk.specs.Ending.{Ended, Commits}
 use Rattle.clover_walk.specs.Walking.{budget, most_accesses}
-use Rattle.clover_get.specs.Getting.{Getting, FillsFrom, GoesOn as GetGoesOn}
-use Rattle.clover_put.specs.Putting.{put_on}
+use Rattle.clover_get.specs.Getting.{Getting, FillsFrom, Over as GetOver, GoesOn as GetGoesOn}
+use Rattle.clover_put.specs.Putting.{Stage, AtLink, Over as PutOver, put_on}
 use Rattle.clover_node.specs.declared.answer.Answer.{Answer}
 use Rattle.clover_node.specs.declared.answer.NodeRefusal.TheVariants.{Unreached, Behind, Linked, TooLong}
 use Rattle.clover_node.specs.declared.answer.NodeTurn.{NodeTurn}
@@ -26,14 +26,19 @@ use Rattle.clover_node.specs.declared.under.Underway.{Underway}
 use Rattle.clover_node.specs.declared.under.Underway.TheVariants.{Nothing, Get, Write}
 use Rattle.clover_node.specs.Calling.{Calling, due, after}
 use Rattle.clover_node.specs.Mirroring.{Mirrors}
-use Rattle.clover_node.specs.Node.{slot_of, new_tag, call_under, HasCommitted, IsUncommitted, CallHolds}
-use Rattle.clover_node.specs.Turning.{reply_in, IsTagOf, OnMade, OnAhead, IfDecided, IfDone, UnlessDone, IfBehind, left_by, Tells}
+use Rattle.clover_node.specs.Node.{slot_of, new_tag, call_under, copied_flags, is_first, HasCommitted, IsUncommitted, CallHolds}
+use Rattle.clover_node.specs.Turning.{reply_in, CommitsNothing, IsTagOf, IsFlagged, OnMade, OnGoing, OnOver, OnNothing, OnAhead, IfDecided, IfDone, UnlessDone, IfBehind, left_by, Tells}
+
+-- at the commit the call was to link its version, and its exchange found the tail unlinked
+abbrev pub Links : NodeTurn → Stage → ℕ → Type 0
+Links (Decided a) s n = (t : ℕ) × (s ≡ AtLink t) × (n ≡ unlinked t)
+Links r s n = Unit {0}
 
 -- what was under way, x, goes on to y where its access found this number, and fills the room by it
 abbrev pub GoesOn : Underway → ValueBuf → ℕ → NodeTurn → Underway → ValueBuf → Type 0
 GoesOn Nothing room n r y room1 = ⊥
-GoesOn (Get g) room n r y room1 = (g1 : Getting) × GetGoesOn g room1.length n g1 × FillsFrom g.stage n room room1 × (y ≡ left_by r (Get g1))
-GoesOn (Write c) room n r y room1 = (y ≡ left_by r (Write (put_on c n))) × (room1 ≡ room)
+GoesOn (Get g) room n r y room1 = (g1 : Getting) × GetGoesOn g room1.length n g1 × FillsFrom g.stage n room room1 × (y ≡ left_by r (Get g1)) × OnOver r (g1.stage ≡ GetOver)
+GoesOn (Write c) room n r y room1 = (y ≡ left_by r (Write (put_on c n))) × (room1 ≡ room) × OnOver r ((put_on c n).stage ≡ PutOver) × Links r c.stage n
 
 -- By the definition of what a call does: the step of this access is the one that is due of the call where it was, what it found leads the call to where it is, and the turn tells where that is.
 pub record IsDueAt (x : Underway) (step : Step) (n : ℕ) (y : Underway) (room1 : ValueBuf) (r : NodeTurn) (call : Call) (own : ℕ) (c : Calling) : Type 0 where
@@ -45,6 +50,37 @@ pub record IsDueAt (x : Underway) (step : Step) (n : ℕ) (y : Underway) (room1 
 
 abbrev pub IsDue : Underway → ValueBuf → Step → ℕ → Underway → ValueBuf → NodeTurn → Type 0
 IsDue x room step n y room1 r = (call : Call) (own : ℕ) (c : Calling) → Mirrors x room call own c → IsDueAt x step n y room1 r call own c
+
+-- a step of a call that commits and ends nothing: of a walk, of content, or a last load or exchange that found another number than the tail's
+abbrev pub IsQuiet : Step → ℕ → Type 0
+IsQuiet (ReadShort s) n = Unit {0}
+IsQuiet (ReadRoot s) n = Unit {0}
+IsQuiet (LoadNext s t) n = Unit {0}
+IsQuiet (RaiseNext l) n = Unit {0}
+IsQuiet (LoadContent s t j) n = Unit {0}
+IsQuiet (StoreContent t j w) n = Unit {0}
+IsQuiet (FlushContent t j w) n = Unit {0}
+IsQuiet (DecideNext s t c r) n = (n == unlinked t) ≡ false
+IsQuiet (LinkNext s t u c) n = (n == unlinked t) ≡ false
+IsQuiet a n = ⊥
+
+-- what is under way is the same call, and has made an access
+pub record IsSameCall (x : Underway) (v : View) (y : Underway) (w : View) : Type 0 where
+  pub call : call_under y w ≡ call_under x v
+  pub tag : new_tag y ≡ new_tag x
+  pub later : is_first y ≡ false
+
+-- the new tag leaves the client's stock at the commit, and nothing else does
+abbrev pub Takes : NodeTurn → ℕ → View → View → Type 0
+Takes (Decided a) t v w = v.pass.stock ≡ t ∷ w.pass.stock
+Takes r t v w = w.pass.stock ≡ v.pass.stock
+
+-- What an access leaves of the call x, and what its step was: where the call goes on it is the same; the step commits and ends nothing but at an answer; and a call that has committed is answered at the store of its slot's shortcut.
+pub record Stays (x : Underway) (v : View) (step : Step) (n : ℕ) (y : Underway) (w : View) (r : NodeTurn) : Type 0 where
+  pub same : OnGoing r (IsSameCall x v y w)
+  pub quiet : OnNothing r (IsQuiet step n)
+  pub stock : Takes r (new_tag x) v w
+  pub shortens : IfDone r (λ a. HasCommitted x → step ≡ StoreShort (slot_of x) (new_tag x))
 
 -- the turn says whether the call had committed and has
 abbrev pub Turns : NodeTurn → Underway → Underway → Type 0
@@ -65,8 +101,9 @@ pub record EndsAt (p : Pool) (x : Underway) (room1 : ValueBuf) (v : View) (o : O
   pub range : InRange p (tag_number t)
   pub durable : Within (slot_of x, tag_number t) w.pass.durable
   pub tag : IsTagOf a t
+  pub flags : IsFlagged a (copied_flags x)
   pub own : HasCommitted x → (tag_number t ≡ new_tag x) × (reply_in a room1 ≡ reply_of (new_tag x) (call_under x v))
-  pub tail : IsUncommitted x → Ended p (call_under x v) (reply_in a room1) v o w o1 × ShowsLast (tag_number t) w.pass.since
+  pub tail : IsUncommitted x → Ended p (call_under x v) (reply_in a room1) v o w o1 × ShowsLast (tag_number t) w.pass.since × CommitsNothing a
 
 -- What a step that came to this turn says of the call x under way before it and of y behind it, of the cursors k and k1, of the room behind it, and of what the client knew and knows. The answer to a commit is decided at its exchange; any other at the access that ends the call. A call that ends with an answer sets its slot's cursor to the tag at which it ended, and nothing else sets one.
 pub record Went (p : Pool) (x y : Underway) (k k1 : Known) (room1 : ValueBuf) (v : View) (o : Option Open) (w : View) (o1 : Option Open) (r : NodeTurn) : Type 0 where

@@ -1,10 +1,9 @@
 // The node: it starts a call, and makes the call's accesses one at a time.
 ghost use Rattle.std.specs.Prelude.{◌≡◌, ◌≢◌, ◌<◌, ◌*◌, ◌↔◌, ℕ, IsTrue, IsErr, IfOk, IfErr, OnOk};
 ghost use Rattle.clover_rule.specs.declared.view.View.{View};
-ghost use Rattle.clover_cache.specs.Node.{asked};
 ghost use Rattle.clover_node.specs.Beginning.{Starts, HasTag, ExpectsTag, size_of, given_number};
-ghost use Rattle.clover_node.specs.Going.{GoesOn, IsDue, Went};
-ghost use Rattle.clover_node.specs.Node.{NodeHolds, AreCursors, next_step, is_first, first_node};
+ghost use Rattle.clover_node.specs.Going.{GoesOn, IsDue, Stays, Went};
+ghost use Rattle.clover_node.specs.Node.{NodeHolds, AreCursors, copied_flags, next_step, is_first, first_node};
 ghost use Rattle.clover_node.specs.Turning.{OnMade, OnRefused, left_by};
 ghost use Rattle.clover_node.specs.declared.answer.NodeRefusal.TheVariants.{TooLong as IsTooLong};
 ghost use Rattle.clover_node.specs.declared.under.Underway.TheVariants.{Nothing as IsNothing};
@@ -64,7 +63,7 @@ impl Node {
     /// one of the client's stock. It makes no access, copies no key and takes no memory.
     ///
     /// The call goes on from the cursor that the node has for the slot. `TooLong`, exactly where the value has more
-    /// bytes than a buffer has room for; then nothing is under way.
+    /// bytes than a buffer has room for; the node is as it was then.
     pub fn start(&mut self, slot: u32, own: Option<Tag>, call: &Call) -> Result<(), NodeRefusal>
         requires idle { self.old.under ≡ IsNothing }
         requires slot { slot < self.old.pool.slots }
@@ -72,12 +71,28 @@ impl Node {
         requires own { HasTag self.old.pool own call.now }
         requires expects { ExpectsTag call.now }
         ensures started { OnOk result (Starts self.old slot (given_number own) call.now self.new) }
-        ensures refused { IfErr result (λ refusal. (refusal ≡ IsTooLong (size_of call.now) (8 * self.old.pool.words)) × (self.new ≡ record self.old { cursors = asked slot self.old.cursors })) }
+        ensures refused { IfErr result (λ refusal. (refusal ≡ IsTooLong (size_of call.now) (8 * self.old.pool.words)) × (self.new ≡ self.old)) }
         ensures when { IsErr result ↔ (8 * self.old.pool.words < size_of call.now) }
     {
+        let length = start::length_of(call);
+        let room = 8 * self.pool.words as usize;
+        if length > room {
+            return Err(NodeRefusal::TooLong { length, room });
+        }
         let walk = Walk::make(self.pool, slot, self.cursors.find(slot));
-        self.under = start::call_on(walk, own, call)?;
+        self.under = start::call_on(walk, own, call);
         Ok(())
+    }
+
+    /// The flags of the value that stands in the room, where the next access is the last load for it. Only such an
+    /// access may be answered with `Found`.
+    pub fn copied(&self) -> Option<u32>
+        ensures { result ≡ copied_flags self.now.under }
+    {
+        match &self.under {
+            Underway::Get(call) => call.copied(),
+            Underway::Nothing | Underway::Write(_) => None,
+        }
     }
 
     /// Makes the next access of the call under way, and goes on by what it found.
@@ -92,7 +107,7 @@ impl Node {
         requires busy { self.old.under ≢ IsNothing }
         requires pool { P.pool port.old ≡ self.old.pool }
         requires holds { NodeHolds self.old (P.view port.old) into.old }
-        ensures made { OnMade result ((x : ℕ) × P.made port.old (next_step self.old.under (P.view port.old) into.old) (is_first self.old.under) x port.new × GoesOn self.old.under into.old x result self.new.under into.new × IsDue self.old.under into.old (next_step self.old.under (P.view port.old) into.old) x self.new.under into.new result) }
+        ensures made { OnMade result ((x : ℕ) × P.made port.old (next_step self.old.under (P.view port.old) into.old) (is_first self.old.under) x port.new × GoesOn self.old.under into.old x result self.new.under into.new × IsDue self.old.under into.old (next_step self.old.under (P.view port.old) into.old) x self.new.under into.new result × Stays self.old.under (P.view port.old) (next_step self.old.under (P.view port.old) into.old) x self.new.under (P.view port.new) result) }
         ensures went { Went self.old.pool self.old.under self.new.under self.old.cursors self.new.cursors into.new (P.view port.old) (P.told port.old) (P.view port.new) (P.told port.new) result }
         ensures refused { OnRefused result (P.failed port.old port.new × (into.new ≡ into.old)) }
         ensures pool { self.new.pool ≡ self.old.pool }

@@ -23,5 +23,5 @@ returns-clause-started c =
     let e = c.find.ensures.answer ∙ ap (λ (z : NodeState). cursor_at c.args.slot z.cursors) c.self.view_is in
     let w = c.make-walk.ensures.value ∙ ap (λ (z : NodeState). made_walk z.pool c.args.slot (number_of c.find.result)) c.self.view_is in
     let k = c.find.ensures.value ∙ ap (λ (z : NodeState). asked c.args.slot z.cursors) c.self.view_is in
-    subst (λ (z : NodeState). Starts n c.args.slot (given_number c.args.own) c.args.call.now (record { pool = z.pool; cursors = c.find.new.self; under = c.in_ok-self-inside.field-0 })) (sym c.self.view_is)
-    (starts n c.args.slot (given_number c.args.own) c.args.call.now c.find.result c.make-walk.result c.find.new.self c.in_ok-self-inside.field-0 e w k c.in_ok-self-inside.ensures.made)
+    subst (λ (z : NodeState). Starts n c.args.slot (given_number c.args.own) c.args.call.now (record { pool = z.pool; cursors = c.find.new.self; under = c.call_on-self-inside.result })) (sym c.self.view_is)
+    (starts n c.args.slot (given_number c.args.own) c.args.call.now c.find.result c.make-walk.result c.find.new.self c.call_on-self-inside.result e w k c.call_on-self-inside.ensures)
