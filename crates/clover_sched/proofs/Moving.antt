@@ -1,12 +1,11 @@
 -- What one access of a client does to the pool: it was made, and is the step that its call says, or it was refused.
-use Rattle.std.proofs.Common.{◌≡◌, ◌≢◌, ℕ, suc, ◌-◌, ◌^◌, ◌<◌, List, [], ◌∷◌, ◌++◌, length, get_or, Bool, true, false, ◌&&◌, cond, eqb, if◌then◌else◌, refl, sym, ap, ◌∙◌, subst, arith, append-nil}
+use Rattle.std.proofs.Common.{◌≡◌, ◌≢◌, ℕ, suc, ◌-◌, ◌^◌, ◌<◌, List, [], ◌∷◌, ◌++◌, length, get_or, Bool, true, false, ◌&&◌, cond, if◌then◌else◌, refl, sym, ap, ◌∙◌, subst, arith, append-nil}
 use Rattle.std.specs.Prelude.{Some, None}
 use Rattle.std.proofs.lemmas.List.{get_or-set_other, length-set}
 use Rattle.std.proofs.lemmas.Option.{same_Some}
 use Rattle.clover_map.specs.History.{own}
 use Rattle.clover_map.specs.declared.call.Entry.{Entry}
 use Rattle.clover_rule.specs.Accesses.{CameBack, words_after_act}
-use Rattle.clover_rule.specs.History.{own as own_of}
 use Rattle.clover_rule.specs.Learned.{next_history, found, words_after_step}
 use Rattle.clover_rule.specs.Steps.{Step, Operation, loads, stores, exchanges, raises, operation_of, act_on, act_of, word_of}
 use Rattle.clover_words.specs.declared.word.Word.{Word}
@@ -26,11 +25,6 @@ use Rattle.clover_rule.specs.Moves.{nobody}
 use Rattle.clover_plain.specs.Plain.{Plain, Stepped, Refused as RefusedAt, KeptButEntries, view_at, history, open_of, grown, access as listed_access}
 use Rattle.clover_sched.specs.Client.{access, Moved}
 use Rattle.clover_sched.specs.Run.{IsBlank}
-
--- the entries of a client, by either definition
-own_alike : (c : ℕ) (h : List Entry) → own_of c h ≡ own h c
-own_alike c [] = refl
-own_alike c (e ∷ h) = ap (λ (l : List Entry). cond (eqb e.client c) (e ∷ l) l) (own_alike c h)
 
 -- the seat is a client's
 abbrev pub IsSeated : ℕ → Plain → Type 0
@@ -94,7 +88,7 @@ whole_listed true = refl
 whole_listed false = refl
 
 own_calls : (r : Role) (c : ℕ) (calls h : List Entry) → r ≡ ClientRole c → OwnCalls r calls h → calls ≡ own h c
-own_calls r c calls h e k = subst (λ (z : Role). OwnCalls z calls h) e k ∙ own_alike c h
+own_calls r c calls h e k = subst (λ (z : Role). OwnCalls z calls h) e k
 
 module _ (i : ℕ) (p q : Plain) (a : Step) (b : Bool) (x : ℕ) (few : p.made < 2 ^ 64 - 1) (here : IsSeated i p) (role : (view_at p i).pass.role ≡ ClientRole (suc i)) (entered : p.entries ≡ history p)
     (m : Made p.setup.pool a b (view_at p i) (Some (open_of p)) x (view_at q i) (Some (open_of q))) (s : Stepped a b true i x p q) where
