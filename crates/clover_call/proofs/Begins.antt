@@ -1,5 +1,5 @@
 -- A call as a caller starts it: it is where the call of the definition begins, and its client holds what it needs.
-use Rattle.std.proofs.Common.{◌≡◌, ℕ, ◌∷◌, List, true, refl, sym, ap, ◌∙◌, subst}
+use Rattle.std.proofs.Common.{◌≡◌, ℕ, [], ◌∷◌, List, true, refl, sym, ap, ◌∙◌, subst}
 use Rattle.std.specs.Prelude.{Option, Some, None, IfSome}
 use Rattle.std.proofs.lemmas.List.Elements.{All-nil}
 use Rattle.clover_words.specs.declared.bytes.ValueBuf.{ValueBuf}
@@ -97,19 +97,24 @@ module _ (n : CallerState) (slot own : ℕ) (v : View) (room : ValueBuf) (h : Ca
       (write_call (SwapOf key expected value) may (Swap t) value may.next, write_key (SwapOf key expected value) may (Swap t) value (ap (λ (x : ℕ). SwapOf key x value) (sym same)))
 
 -- the caller has started the call
-pub starts : (n : CallerState) (slot own : ℕ) (call : Call) (o : Option TagParts) (w : Walking) (k1 : Known) (u : Underway) → o ≡ cursor_at slot n.cursors → w ≡ made_walk n.pool slot (number_of o) → k1 ≡ asked slot n.cursors → IsBegun w own call u
-    → Starts n slot own call (record { pool = n.pool; cursors = k1; under = u })
-starts n slot own call o w k1 u found made asks begun =
-    let is : IsBegun (made_walk n.pool slot (number_of (cursor_at slot n.cursors))) own call u = subst (λ (z : Walking). IsBegun z own call u) (made ∙ ap (λ (z : Option TagParts). made_walk n.pool slot (number_of z)) found) begun in
-    record {
+pub starts : (n z : CallerState) (slot own : ℕ) (call : Call) (w : Walking) (u : Underway) → w ≡ made_walk n.pool slot (number_of (cursor_at slot n.cursors)) → z ≡ record n { cursors = asked slot n.cursors } → IsBegun w own call u → Starts n slot own call (record z { under = u })
+starts n z slot own call w u made asks begun =
+    let is : IsBegun (made_walk n.pool slot (number_of (cursor_at slot n.cursors))) own call u = subst (λ (y : Walking). IsBegun y own call u) made begun in
+    subst (λ (y : CallerState). Starts n slot own call (record y { under = u })) (sym asks) (record {
       pool = refl;
-      cursors = asks;
+      cursors = refl;
       begun = is;
       mirrors = λ room. mirrors n.pool slot (number_of (cursor_at slot n.cursors)) own call u room is;
       holds = λ v room h may.
           let all = call_holds n slot own v room h call u may is in
-          (record { pool = h.pool; client = h.client; cursors = subst (AreCursors n.pool v) (sym asks) (cursors_asked n.pool v slot n.cursors h.cursors); call = all.0 }, all.1);
-    }
+          (record { pool = h.pool; client = h.client; cursors = cursors_asked n.pool v slot n.cursors h.cursors; call = all.0 }, all.1);
+    })
+
+-- a call that writes as its job, its flags and its bytes say
+pub begun_write : (w : Walking) (j : Job) (own : ℕ) (key : List ℕ) (value : Value) (u : Underway) → (j ≡ Delete → (value.flags ≡ 0) × (value.bytes ≡ [])) → u ≡ Write (made_put w j own value) → IsBegun w own (call_of j key value) u
+begun_write w Put own key value u bare e = e
+begun_write w Delete own key value u bare e = let b = bare refl in e ∙ (λ i. Write (made_put w Delete own (record { flags = b.0 i; bytes = b.1 i })))
+begun_write w (Swap t) own key value u bare e = (t, refl, e)
 
 -- a caller that has answered no call has no cursor that its client would have to know
 pub first_cursors : (p : Pool) (v : View) → AreCursors p v (first_caller p).cursors

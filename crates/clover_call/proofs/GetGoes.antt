@@ -68,7 +68,7 @@ going_misses (AtDead t) w size x g1 e h = open_misses (x == unlinked t) w x g1 e
 going_misses (AtBad t) w size x g1 e h = tt
 going_misses Over w size x g1 e h = tt
 
-turn_misses : (b : Bool) (n : ℕ) → n ≡ cond b 0 1 → n ≢ 0 → b ≡ false
+pub turn_misses : (b : Bool) (n : ℕ) → n ≡ cond b 0 1 → n ≢ 0 → b ≡ false
 turn_misses true n e h = absurd (h e)
 turn_misses false n e h = refl
 

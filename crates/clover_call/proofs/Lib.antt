@@ -9,3 +9,4 @@ pub mod GetStep
 pub mod PutStep
 pub mod Begins
 pub mod Holds
+pub mod Staying

@@ -1,5 +1,5 @@
 -- One step of a caller: how its call goes on, and what the turn says of the call, the cursors, the room and what the client knows.
-use Rattle.std.specs.Prelude.{◌≡◌, ◌⊎◌, ℕ, ◌<◌, ◌≤◌, List, [], ◌∷◌, ◌++◌, length, Option, Some}
+use Rattle.std.specs.Prelude.{◌≡◌, ◌⊎◌, ℕ, ◌<◌, ◌≤◌, List, [], ◌∷◌, ◌++◌, length, false, Option, Some}
 use Rattle.clover_words.specs.declared.bytes.ValueBuf.{ValueBuf}
 use Rattle.clover_words.specs.declared.pool.Pool.{Pool}
 use Rattle.clover_words.specs.declared.word.Word.TheVariants.{Next as NextOf}
@@ -26,7 +26,7 @@ use Rattle.clover_call.specs.declared.under.Underway.{Underway}
 use Rattle.clover_call.specs.declared.under.Underway.TheVariants.{Nothing, Get, Write}
 use Rattle.clover_call.specs.Calling.{Calling, due, after}
 use Rattle.clover_call.specs.Mirroring.{Mirrors}
-use Rattle.clover_call.specs.Caller.{slot_of, new_tag, call_under, HasCommitted, IsUncommitted, CallHolds}
+use Rattle.clover_call.specs.Caller.{slot_of, new_tag, call_under, HasCommitted, IsUncommitted, CallHolds, is_first}
 use Rattle.clover_call.specs.Turning.{reply_in, IsTagOf, OnMade, OnAhead, IfDecided, IfDone, UnlessDone, IfBehind, left_by, Tells}
 
 -- what was under way, x, goes on to y where its access found this number, and fills the room by it
@@ -78,3 +78,23 @@ pub record Went (p : Pool) (x y : Underway) (k k1 : Known) (room1 : ValueBuf) (v
   pub ahead : OnAhead r (w.pass.turns < budget p)
   pub bound : OnMade r (length w.pass.since ≤ most_accesses p w.pass.turns)
   pub holds : CallHolds p y w room1
+
+-- the stock of a client behind a turn: the call's new tag has left it where this access committed the call, and else it is the same
+abbrev pub Takes : CallerTurn → ℕ → List ℕ → List ℕ → Type 0
+Takes (Decided a) own stock stock1 = stock ≡ own ∷ stock1
+Takes r own stock stock1 = stock1 ≡ stock
+
+-- where the call goes on
+abbrev pub IfOn : CallerTurn → Type 0 → Type 0
+IfOn More A = A
+IfOn (Decided a) A = A
+IfOn r A = Unit {0}
+
+-- What a step that came to this turn leaves of the client, whose view was v and is w, and of its call, which was x and is y: its role and its names stay, and its stock but for the tag of a commit; the call that goes on is the same one, and has made an access.
+pub record Stays (x y : Underway) (v w : View) (r : CallerTurn) : Type 0 where
+  pub role : w.pass.role ≡ v.pass.role
+  pub names : w.pass.names ≡ v.pass.names
+  pub stock : Takes r (new_tag x) v.pass.stock w.pass.stock
+  pub call : IfOn r (call_under y w ≡ call_under x v)
+  pub tag : IfOn r (new_tag y ≡ new_tag x)
+  pub later : IfOn r (is_first y ≡ false)

@@ -1,9 +1,16 @@
 // The caller: it starts a call, and makes the call's accesses one at a time.
-ghost use Rattle.std.specs.Prelude.{◌≡◌, ◌≢◌, ◌<◌, ◌*◌, ◌↔◌, ℕ, IsTrue, IsErr, IfOk, IfErr, OnOk};
+ghost use Rattle.std.specs.Prelude.{◌≡◌, ◌≢◌, ◌<◌, ◌≤◌, ◌*◌, ◌↔◌, ℕ, List, [], length, IsTrue, IsErr, IfOk, IfErr, OnOk};
+ghost use Rattle.clover_words.specs.Tag.{tag_number};
+ghost use Rattle.clover_map.specs.declared.call.Call.TheVariants.{Get as GetOf};
+ghost use Rattle.clover_rule.specs.Content.{InRange};
+ghost use Rattle.clover_put.specs.Putting.{call_of};
+ghost use Rattle.clover_put.specs.declared.job.Job.TheVariants.{Delete as IsDelete};
 ghost use Rattle.clover_rule.specs.declared.view.View.{View};
-ghost use Rattle.clover_cache.specs.Node.{asked};
+ghost use Rattle.clover_cache.specs.Node.{asked, cursor_at};
+ghost use Rattle.clover_walk.specs.Standing.{number_of};
+ghost use Rattle.clover_walk.specs.Walking.{made_walk};
 ghost use Rattle.clover_call.specs.Beginning.{Starts, HasTag, ExpectsTag, size_of, given_number};
-ghost use Rattle.clover_call.specs.Going.{GoesOn, IsDue, Went};
+ghost use Rattle.clover_call.specs.Going.{GoesOn, IsDue, Stays, Went};
 ghost use Rattle.clover_call.specs.Caller.{CallerHolds, AreCursors, next_step, is_first, first_caller};
 ghost use Rattle.clover_call.specs.Turning.{OnMade, OnRefused, left_by};
 ghost use Rattle.clover_call.specs.declared.answer.CallerRefusal.TheVariants.{TooLong as IsTooLong};
@@ -17,9 +24,11 @@ mod tests;
 use crate::answer::{CallerRefusal, CallerTurn};
 use crate::under::Underway;
 use clover_cache::NodeCursors;
+use clover_get::GetCall;
 use clover_list::OutOfMemory;
 use clover_map::Call;
 use clover_port::Port;
+use clover_put::{Job, PutCall};
 use clover_walk::Walk;
 use clover_words::{Pool, Tag, ValueBuf};
 use std::alloc::Global;
@@ -75,9 +84,55 @@ impl Caller {
         ensures refused { IfErr result (λ refusal. (refusal ≡ IsTooLong (size_of call.now) (8 * self.old.pool.words)) × (self.new ≡ record self.old { cursors = asked slot self.old.cursors })) }
         ensures when { IsErr result ↔ (8 * self.old.pool.words < size_of call.now) }
     {
-        let walk = Walk::make(self.pool, slot, self.cursors.find(slot));
+        let walk = self.walk(slot);
         self.under = start::call_on(walk, own, call)?;
         Ok(())
+    }
+
+    // The walk of a call that begins on the slot: from the cursor that the caller has for it.
+    fn walk(&mut self, slot: u32) -> Walk
+        requires slot { slot < self.old.pool.slots }
+        requires cursors { (v : View) × AreCursors self.old.pool v self.old.cursors }
+        ensures walk { result ≡ made_walk self.old.pool slot (number_of (cursor_at slot self.old.cursors)) }
+        ensures asked { self.new ≡ record self.old { cursors = asked slot self.old.cursors } }
+    {
+        Walk::make(self.pool, slot, self.cursors.find(slot))
+    }
+
+    /// Starts a get of the key that the slot binds, as `start` does.
+    pub fn start_get(&mut self, slot: u32)
+        requires idle { self.old.under ≡ IsNothing }
+        requires slot { slot < self.old.pool.slots }
+        requires cursors { (v : View) × AreCursors self.old.pool v self.old.cursors }
+        ensures { (key : List ℕ) → Starts self.old slot 0 (GetOf key) self.new }
+    {
+        let walk = self.walk(slot);
+        self.under = Underway::Get(GetCall::make(walk));
+    }
+
+    /// Starts a call that writes these flags and bytes, as `start` does. The bytes have room in a buffer; a delete has no
+    /// flags and no bytes.
+    pub fn start_write(&mut self, slot: u32, own: Tag, job: Job, flags: u32, bytes: &[u8])
+        requires idle { self.old.under ≡ IsNothing }
+        requires slot { slot < self.old.pool.slots }
+        requires cursors { (v : View) × AreCursors self.old.pool v self.old.cursors }
+        requires own { InRange self.old.pool (tag_number own) }
+        requires room { length bytes.now ≤ 8 * self.old.pool.words }
+        requires delete { job ≡ IsDelete → (flags ≡ 0) × (bytes.now ≡ []) }
+        ensures { (key : List ℕ) → Starts self.old slot (tag_number own) (call_of job key (record { flags = flags; bytes = bytes.now })) self.new }
+    {
+        let walk = self.walk(slot);
+        match PutCall::make(walk, job, own, flags, bytes) {
+            Ok(call) => self.under = Underway::Write(call),
+            Err(_) => unreachable!(),
+        }
+    }
+
+    /// How many bytes a value may have: eight for each value word of a buffer.
+    pub fn room(&self) -> usize
+        ensures { result ≡ 8 * self.now.pool.words }
+    {
+        8 * self.pool.words as usize
     }
 
     /// Makes the next access of the call under way, and goes on by what it found.
@@ -94,6 +149,7 @@ impl Caller {
         requires holds { CallerHolds self.old (P.view port.old) into.old }
         ensures made { OnMade result ((x : ℕ) × P.made port.old (next_step self.old.under (P.view port.old) into.old) (is_first self.old.under) x port.new × GoesOn self.old.under into.old x result self.new.under into.new × IsDue self.old.under into.old (next_step self.old.under (P.view port.old) into.old) x self.new.under into.new result) }
         ensures went { Went self.old.pool self.old.under self.new.under self.old.cursors self.new.cursors into.new (P.view port.old) (P.told port.old) (P.view port.new) (P.told port.new) result }
+        ensures stays { Stays self.old.under self.new.under (P.view port.old) (P.view port.new) result }
         ensures refused { OnRefused result (P.failed port.old port.new × (into.new ≡ into.old)) }
         ensures pool { self.new.pool ≡ self.old.pool }
         ensures holds { CallerHolds self.new (P.view port.new) into.new }
