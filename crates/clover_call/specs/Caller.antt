@@ -1,5 +1,5 @@
--- A compute node: the call that it has under way, the cursors that it keeps, and what its client knows while that is so.
-use Rattle.std.specs.Prelude.{◌≡◌, ℕ, [], Bool, false, All, None, IfSome}
+-- A caller: the call that it has under way, the cursors that it keeps, and what its client knows while that is so.
+use Rattle.std.specs.Prelude.{◌≡◌, ℕ, [], Bool, false, All, Option, Some, None, IfSome}
 use Rattle.clover_words.specs.declared.bytes.ValueBuf.{ValueBuf}
 use Rattle.clover_words.specs.declared.pool.Pool.{Pool}
 use Rattle.clover_words.specs.Tag.{TagParts, tag_number}
@@ -10,7 +10,7 @@ use Rattle.clover_rule.specs.Lists.{Within}
 use Rattle.clover_rule.specs.Steps.{Step, ReadRoot, IsClient}
 use Rattle.clover_rule.specs.declared.view.View.{View}
 use Rattle.clover_cache.specs.Node.{Known}
-use Rattle.clover_get.specs.Getting.{get_step}
+use Rattle.clover_get.specs.Getting.{Stage as GetStage, AtFound, get_step}
 use Rattle.clover_get.specs.Going.{key_of}
 use Rattle.clover_get.specs.Holding.{GetHolds}
 use Rattle.clover_put.specs.Answering.{IsBefore, IsBehind}
@@ -28,6 +28,15 @@ pub record CallerState : Type 0 where
 -- a caller that has answered no call yet
 abbrev pub first_caller : Pool → CallerState
 first_caller p = record { pool = p; cursors = record { last = None; list = [] }; under = Nothing }
+
+-- the flags of the value in the room, where a get is at the last load for it
+abbrev pub flags_at : GetStage → Option ℕ
+flags_at (AtFound t flags) = Some flags
+flags_at s = None
+
+abbrev pub copied_flags : Underway → Option ℕ
+copied_flags (Get g) = flags_at g.stage
+copied_flags u = None
 
 -- the slot of the call under way
 abbrev pub slot_of : Underway → ℕ

@@ -1,5 +1,5 @@
 -- One step of a caller: how its call goes on, and what the turn says of the call, the cursors, the room and what the client knows.
-use Rattle.std.specs.Prelude.{◌≡◌, ◌⊎◌, ℕ, ◌<◌, ◌≤◌, List, [], ◌∷◌, ◌++◌, length, false, Option, Some}
+use Rattle.std.specs.Prelude.{◌≡◌, ◌⊎◌, ℕ, ◌<◌, ◌≤◌, ◌==◌, List, [], ◌∷◌, ◌++◌, length, false, Option, Some}
 use Rattle.clover_words.specs.declared.bytes.ValueBuf.{ValueBuf}
 use Rattle.clover_words.specs.declared.pool.Pool.{Pool}
 use Rattle.clover_words.specs.declared.word.Word.TheVariants.{Next as NextOf}
@@ -8,7 +8,7 @@ use Rattle.clover_words.specs.Version.{buffer_at, unlinked}
 use Rattle.clover_map.specs.declared.call.Call.{Call}
 use Rattle.clover_rule.specs.Content.{InRange}
 use Rattle.clover_rule.specs.Lists.{Within}
-use Rattle.clover_rule.specs.Steps.{Step, act_of, reply_of}
+use Rattle.clover_rule.specs.Steps.{Step, ReadShort, ReadRoot, LoadNext, RaiseNext, LoadContent, StoreContent, FlushContent, DecideNext, LinkNext, StoreShort, act_of, reply_of}
 use Rattle.clover_rule.specs.declared.access.Act.{Act}
 use Rattle.clover_rule.specs.declared.access.Act.TheVariants.{Load}
 use Rattle.clover_rule.specs.declared.view.View.{View}
@@ -16,8 +16,8 @@ use Rattle.clover_port.specs.Told.{Open}
 use Rattle.clover_cache.specs.Node.{Known, IsSet}
 use Rattle.clover_walk.specs.Ending.{Ended, Commits}
 use Rattle.clover_walk.specs.Walking.{budget, most_accesses}
-use Rattle.clover_get.specs.Getting.{Getting, FillsFrom, GoesOn as GetGoesOn}
-use Rattle.clover_put.specs.Putting.{put_on}
+use Rattle.clover_get.specs.Getting.{Getting, FillsFrom, Over as GetOver, GoesOn as GetGoesOn}
+use Rattle.clover_put.specs.Putting.{put_on, Over as PutOver}
 use Rattle.clover_call.specs.declared.answer.Answer.{Answer}
 use Rattle.clover_call.specs.declared.answer.CallerRefusal.TheVariants.{Unreached, Behind, Linked, TooLong}
 use Rattle.clover_call.specs.declared.answer.CallerTurn.{CallerTurn}
@@ -26,14 +26,14 @@ use Rattle.clover_call.specs.declared.under.Underway.{Underway}
 use Rattle.clover_call.specs.declared.under.Underway.TheVariants.{Nothing, Get, Write}
 use Rattle.clover_call.specs.Calling.{Calling, due, after}
 use Rattle.clover_call.specs.Mirroring.{Mirrors}
-use Rattle.clover_call.specs.Caller.{slot_of, new_tag, call_under, HasCommitted, IsUncommitted, CallHolds, is_first}
-use Rattle.clover_call.specs.Turning.{reply_in, IsTagOf, OnMade, OnAhead, IfDecided, IfDone, UnlessDone, IfBehind, left_by, Tells}
+use Rattle.clover_call.specs.Caller.{slot_of, new_tag, call_under, copied_flags, is_first, HasCommitted, IsUncommitted, CallHolds}
+use Rattle.clover_call.specs.Turning.{reply_in, IsTagOf, IsFlagged, OnMade, OnGoing, OnOver, OnNothing, OnAhead, IfDecided, IfDone, UnlessDone, IfBehind, left_by, Tells}
 
 -- what was under way, x, goes on to y where its access found this number, and fills the room by it
 abbrev pub GoesOn : Underway → ValueBuf → ℕ → CallerTurn → Underway → ValueBuf → Type 0
 GoesOn Nothing room n r y room1 = ⊥
-GoesOn (Get g) room n r y room1 = (g1 : Getting) × GetGoesOn g room1.length n g1 × FillsFrom g.stage n room room1 × (y ≡ left_by r (Get g1))
-GoesOn (Write c) room n r y room1 = (y ≡ left_by r (Write (put_on c n))) × (room1 ≡ room)
+GoesOn (Get g) room n r y room1 = (g1 : Getting) × GetGoesOn g room1.length n g1 × FillsFrom g.stage n room room1 × (y ≡ left_by r (Get g1)) × OnOver r (g1.stage ≡ GetOver)
+GoesOn (Write c) room n r y room1 = (y ≡ left_by r (Write (put_on c n))) × (room1 ≡ room) × OnOver r ((put_on c n).stage ≡ PutOver)
 
 -- By the definition of what a call does: the step of this access is the one that is due of the call where it was, what it found leads the call to where it is, and the turn tells where that is.
 pub record IsDueAt (x : Underway) (step : Step) (n : ℕ) (y : Underway) (room1 : ValueBuf) (r : CallerTurn) (call : Call) (own : ℕ) (c : Calling) : Type 0 where
@@ -45,6 +45,32 @@ pub record IsDueAt (x : Underway) (step : Step) (n : ℕ) (y : Underway) (room1 
 
 abbrev pub IsDue : Underway → ValueBuf → Step → ℕ → Underway → ValueBuf → CallerTurn → Type 0
 IsDue x room step n y room1 r = (call : Call) (own : ℕ) (c : Calling) → Mirrors x room call own c → IsDueAt x step n y room1 r call own c
+
+-- a step of a call that commits and ends nothing: of a walk, of content, or a last load or exchange that found another number than the tail's
+abbrev pub IsQuiet : Step → ℕ → Type 0
+IsQuiet (ReadShort s) n = Unit {0}
+IsQuiet (ReadRoot s) n = Unit {0}
+IsQuiet (LoadNext s t) n = Unit {0}
+IsQuiet (RaiseNext l) n = Unit {0}
+IsQuiet (LoadContent s t j) n = Unit {0}
+IsQuiet (StoreContent t j w) n = Unit {0}
+IsQuiet (FlushContent t j w) n = Unit {0}
+IsQuiet (DecideNext s t c r) n = (n == unlinked t) ≡ false
+IsQuiet (LinkNext s t u c) n = (n == unlinked t) ≡ false
+IsQuiet a n = ⊥
+
+-- what is under way is the same call, and has made an access
+pub record IsSameCall (x : Underway) (v : View) (y : Underway) (w : View) : Type 0 where
+  pub call : call_under y w ≡ call_under x v
+  pub tag : new_tag y ≡ new_tag x
+  pub later : is_first y ≡ false
+
+-- What an access leaves of the call x, and what its step was: where the call goes on it is the same; the step commits and ends nothing but at an answer; at the commit the new tag leaves the client's stock; and a call that has committed is answered at the store of its slot's shortcut.
+pub record Stays (x : Underway) (v : View) (step : Step) (n : ℕ) (y : Underway) (w : View) (r : CallerTurn) : Type 0 where
+  pub same : OnGoing r (IsSameCall x v y w)
+  pub quiet : OnNothing r (IsQuiet step n)
+  pub stock : IfDecided r (λ a. v.pass.stock ≡ new_tag x ∷ w.pass.stock)
+  pub shortens : IfDone r (λ a. HasCommitted x → step ≡ StoreShort (slot_of x) (new_tag x))
 
 -- the turn says whether the call had committed and has
 abbrev pub Turns : CallerTurn → Underway → Underway → Type 0
@@ -65,6 +91,7 @@ pub record EndsAt (p : Pool) (x : Underway) (room1 : ValueBuf) (v : View) (o : O
   pub range : InRange p (tag_number t)
   pub durable : Within (slot_of x, tag_number t) w.pass.durable
   pub tag : IsTagOf a t
+  pub flags : IsFlagged a (copied_flags x)
   pub own : HasCommitted x → (tag_number t ≡ new_tag x) × (reply_in a room1 ≡ reply_of (new_tag x) (call_under x v))
   pub tail : IsUncommitted x → Ended p (call_under x v) (reply_in a room1) v o w o1 × ShowsLast (tag_number t) w.pass.since
 
@@ -78,23 +105,3 @@ pub record Went (p : Pool) (x y : Underway) (k k1 : Known) (room1 : ValueBuf) (v
   pub ahead : OnAhead r (w.pass.turns < budget p)
   pub bound : OnMade r (length w.pass.since ≤ most_accesses p w.pass.turns)
   pub holds : CallHolds p y w room1
-
--- the stock of a client behind a turn: the call's new tag has left it where this access committed the call, and else it is the same
-abbrev pub Takes : CallerTurn → ℕ → List ℕ → List ℕ → Type 0
-Takes (Decided a) own stock stock1 = stock ≡ own ∷ stock1
-Takes r own stock stock1 = stock1 ≡ stock
-
--- where the call goes on
-abbrev pub IfOn : CallerTurn → Type 0 → Type 0
-IfOn More A = A
-IfOn (Decided a) A = A
-IfOn r A = Unit {0}
-
--- What a step that came to this turn leaves of the client, whose view was v and is w, and of its call, which was x and is y: its role and its names stay, and its stock but for the tag of a commit; the call that goes on is the same one, and has made an access.
-pub record Stays (x y : Underway) (v w : View) (r : CallerTurn) : Type 0 where
-  pub role : w.pass.role ≡ v.pass.role
-  pub names : w.pass.names ≡ v.pass.names
-  pub stock : Takes r (new_tag x) v.pass.stock w.pass.stock
-  pub call : IfOn r (call_under y w ≡ call_under x v)
-  pub tag : IfOn r (new_tag y ≡ new_tag x)
-  pub later : IfOn r (is_first y ≡ false)

@@ -1,5 +1,5 @@
 -- What the turn of a caller's step says.
-use Rattle.std.specs.Prelude.{◌≡◌, ℕ, [], Bool, false, true, IsSome}
+use Rattle.std.specs.Prelude.{◌≡◌, ℕ, [], Bool, false, true, Option, Some, IsSome}
 use Rattle.clover_words.specs.declared.bytes.ValueBuf.{ValueBuf}
 use Rattle.clover_words.specs.Tag.{TagParts, tag_number}
 use Rattle.clover_map.specs.declared.call.Call.{Call}
@@ -40,6 +40,11 @@ IsTagOf Absent t = Unit {0}
 IsTagOf (Deleted u) t = u ≡ t
 IsTagOf (Differs u) t = u ≡ t
 
+-- where a value was found, these are its flags
+abbrev pub IsFlagged : Answer → Option ℕ → Type 0
+IsFlagged (Found u flags) o = o ≡ Some flags
+IsFlagged a o = Unit {0}
+
 -- where the access was made
 abbrev pub OnMade : CallerTurn → Type 0 → Type 0
 OnMade (Refused Unreached) A = Unit {0}
@@ -51,6 +56,24 @@ abbrev pub OnRefused : CallerTurn → Type 0 → Type 0
 OnRefused (Refused Unreached) A = A
 OnRefused (Refused (Linked t)) A = A
 OnRefused r A = Unit {0}
+
+-- where the call goes on
+abbrev pub OnGoing : CallerTurn → Type 0 → Type 0
+OnGoing More A = A
+OnGoing (Decided a) A = A
+OnGoing r A = Unit {0}
+
+-- where it is over
+abbrev pub OnOver : CallerTurn → Type 0 → Type 0
+OnOver (Done a) A = A
+OnOver (Refused y) A = A
+OnOver r A = Unit {0}
+
+-- where it goes on without a commit, or has fallen behind
+abbrev pub OnNothing : CallerTurn → Type 0 → Type 0
+OnNothing More A = A
+OnNothing (Refused (Behind turns)) A = A
+OnNothing r A = Unit {0}
 
 -- where the access was made and the call has not fallen behind
 abbrev pub OnAhead : CallerTurn → Type 0 → Type 0

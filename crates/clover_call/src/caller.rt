@@ -3,15 +3,15 @@ ghost use Rattle.std.specs.Prelude.{◌≡◌, ◌≢◌, ◌<◌, ◌≤◌, �
 ghost use Rattle.clover_words.specs.Tag.{tag_number};
 ghost use Rattle.clover_map.specs.declared.call.Call.TheVariants.{Get as GetOf};
 ghost use Rattle.clover_rule.specs.Content.{InRange};
-ghost use Rattle.clover_put.specs.Putting.{call_of};
-ghost use Rattle.clover_put.specs.declared.job.Job.TheVariants.{Delete as IsDelete};
-ghost use Rattle.clover_rule.specs.declared.view.View.{View};
 ghost use Rattle.clover_cache.specs.Node.{asked, cursor_at};
 ghost use Rattle.clover_walk.specs.Standing.{number_of};
 ghost use Rattle.clover_walk.specs.Walking.{made_walk};
+ghost use Rattle.clover_put.specs.Putting.{call_of};
+ghost use Rattle.clover_put.specs.declared.job.Job.TheVariants.{Delete as IsDelete};
+ghost use Rattle.clover_rule.specs.declared.view.View.{View};
 ghost use Rattle.clover_call.specs.Beginning.{Starts, HasTag, ExpectsTag, size_of, given_number};
 ghost use Rattle.clover_call.specs.Going.{GoesOn, IsDue, Stays, Went};
-ghost use Rattle.clover_call.specs.Caller.{CallerHolds, AreCursors, next_step, is_first, first_caller};
+ghost use Rattle.clover_call.specs.Caller.{CallerHolds, AreCursors, copied_flags, next_step, is_first, first_caller};
 ghost use Rattle.clover_call.specs.Turning.{OnMade, OnRefused, left_by};
 ghost use Rattle.clover_call.specs.declared.answer.CallerRefusal.TheVariants.{TooLong as IsTooLong};
 ghost use Rattle.clover_call.specs.declared.under.Underway.TheVariants.{Nothing as IsNothing};
@@ -34,7 +34,7 @@ use clover_words::{Pool, Tag, ValueBuf};
 use std::alloc::Global;
 use std::marker::Model;
 
-/// The compute node of one client, with at most one call under way.
+/// One client's calls over any port, with at most one call under way.
 #[derive(Drop)]
 pub struct Caller {
     pool: Pool,
@@ -73,7 +73,7 @@ impl Caller {
     /// one of the client's stock. It makes no access, copies no key and takes no memory.
     ///
     /// The call goes on from the cursor that the caller has for the slot. `TooLong`, exactly where the value has more
-    /// bytes than a buffer has room for; then nothing is under way.
+    /// bytes than a buffer has room for; the caller is as it was then.
     pub fn start(&mut self, slot: u32, own: Option<Tag>, call: &Call) -> Result<(), CallerRefusal>
         requires idle { self.old.under ≡ IsNothing }
         requires slot { slot < self.old.pool.slots }
@@ -81,11 +81,16 @@ impl Caller {
         requires own { HasTag self.old.pool own call.now }
         requires expects { ExpectsTag call.now }
         ensures started { OnOk result (Starts self.old slot (given_number own) call.now self.new) }
-        ensures refused { IfErr result (λ refusal. (refusal ≡ IsTooLong (size_of call.now) (8 * self.old.pool.words)) × (self.new ≡ record self.old { cursors = asked slot self.old.cursors })) }
+        ensures refused { IfErr result (λ refusal. (refusal ≡ IsTooLong (size_of call.now) (8 * self.old.pool.words)) × (self.new ≡ self.old)) }
         ensures when { IsErr result ↔ (8 * self.old.pool.words < size_of call.now) }
     {
+        let length = start::length_of(call);
+        let room = self.room();
+        if length > room {
+            return Err(CallerRefusal::TooLong { length, room });
+        }
         let walk = self.walk(slot);
-        self.under = start::call_on(walk, own, call)?;
+        self.under = start::call_on(walk, own, call);
         Ok(())
     }
 
@@ -135,6 +140,17 @@ impl Caller {
         8 * self.pool.words as usize
     }
 
+    /// The flags of the value that stands in the room, where the next access is the last load for it. Only such an
+    /// access may be answered with `Found`.
+    pub fn copied(&self) -> Option<u32>
+        ensures { result ≡ copied_flags self.now.under }
+    {
+        match &self.under {
+            Underway::Get(call) => call.copied(),
+            Underway::Nothing | Underway::Write(_) => None,
+        }
+    }
+
     /// Makes the next access of the call under way, and goes on by what it found.
     ///
     /// The port is of the caller's pool, and of the one client for which the caller makes all its calls; and the same room
@@ -147,9 +163,8 @@ impl Caller {
         requires busy { self.old.under ≢ IsNothing }
         requires pool { P.pool port.old ≡ self.old.pool }
         requires holds { CallerHolds self.old (P.view port.old) into.old }
-        ensures made { OnMade result ((x : ℕ) × P.made port.old (next_step self.old.under (P.view port.old) into.old) (is_first self.old.under) x port.new × GoesOn self.old.under into.old x result self.new.under into.new × IsDue self.old.under into.old (next_step self.old.under (P.view port.old) into.old) x self.new.under into.new result) }
+        ensures made { OnMade result ((x : ℕ) × P.made port.old (next_step self.old.under (P.view port.old) into.old) (is_first self.old.under) x port.new × GoesOn self.old.under into.old x result self.new.under into.new × IsDue self.old.under into.old (next_step self.old.under (P.view port.old) into.old) x self.new.under into.new result × Stays self.old.under (P.view port.old) (next_step self.old.under (P.view port.old) into.old) x self.new.under (P.view port.new) result) }
         ensures went { Went self.old.pool self.old.under self.new.under self.old.cursors self.new.cursors into.new (P.view port.old) (P.told port.old) (P.view port.new) (P.told port.new) result }
-        ensures stays { Stays self.old.under self.new.under (P.view port.old) (P.view port.new) result }
         ensures refused { OnRefused result (P.failed port.old port.new × (into.new ≡ into.old)) }
         ensures pool { self.new.pool ≡ self.old.pool }
         ensures holds { CallerHolds self.new (P.view port.new) into.new }

@@ -146,8 +146,10 @@ impl Machine {
         self.clients[seat].begin(&self.setup, slot, actor, task)
     }
 
-    // Makes the next access of an actor's call.
-    fn step(&mut self, actor: u32) -> Result<Note, OutOfMemory>
+    /// Makes the next access of an actor's call; nothing happens where it has none.
+    ///
+    /// `OutOfMemory` for want of memory, before anything has changed.
+    pub(crate) fn step(&mut self, actor: u32) -> Result<Note, OutOfMemory>
         requires { 1 ≤ actor }
         ensures happened { IfOk result (Happens self.old self.new (StepOf actor)) }
         ensures parts { IfOk result (λ note. (self.new.setup ≡ self.old.setup) × (self.new.names ≡ self.old.names) × (self.new.pool.traced ≡ self.old.pool.traced)) }
