@@ -59,7 +59,7 @@ way_plain s (OnTail t) x = tt
 way_plain s StandEnded x = tt
 
 -- a number that a test tells from another is not that
-differs : (x u : ℕ) → (x == u) ≡ false → x ≢ u
+pub differs : (x u : ℕ) → (x == u) ≡ false → x ≢ u
 differs x u e same = let hit : (x == u) ≡ true = eq-eqb x u same in let no : true ≡ false = sym hit ∙ e in cc
 
 -- an access that does not end the get adds no call of the client's
@@ -78,7 +78,7 @@ module _ (p : Pool) (c : Call) (r : Reply) (v : View) (o : Option Open) (w : Vie
   shows_last = (v.pass.since, (stepped p (DecideNext e.slot e.tag c r) false v o (unlinked e.tag) w o1 e.made).since)
 
   -- and added the call to the client's
-  ended_calls : w.pass.calls ≡ v.pass.calls ++ link_entry v (client v) c r ∷ []
+  pub ended_calls : w.pass.calls ≡ v.pass.calls ++ link_entry v (client v) c r ∷ []
   ended_calls =
       ap (λ (u : View). u.pass.calls) e.made.told.next
       ∙ ap (λ (b : Bool). (cond b (decided v e.made.now.history e.tag c r) (seen e.slot e.tag v (next_of (unlinked e.tag)))).pass.calls) (eq-eqb (unlinked e.tag) (unlinked e.tag) refl)

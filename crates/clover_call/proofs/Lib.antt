@@ -10,4 +10,4 @@ pub mod PutStep
 pub mod Begins
 pub mod Holds
 pub mod Staying
-pub mod Stock
+pub mod Owned

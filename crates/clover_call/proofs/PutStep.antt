@@ -64,7 +64,7 @@ side_of AtShort c v f = inr tt
 side_of Over c v f = absurd f
 
 -- and not both
-both : (s : Stage) → IsBefore s → IsBehind s → ⊥
+pub both : (s : Stage) → IsBefore s → IsBehind s → ⊥
 both (Storing j) b h = h
 both (Flushing j) b h = h
 both Seeking b h = h

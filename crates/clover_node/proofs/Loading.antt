@@ -1,0 +1,341 @@
+-- The load of the count by a call whose key the node does not know: that it may be made, and what it says and leaves.
+use Rattle.std.proofs.Common.{◌≡◌, ◌≢◌, ℕ, ◌==◌, ◌<◌, ◌≤◌, ◌⊎◌, List, [], ◌∷◌, ◌++◌, length, map, Bool, true, false, cond, eqb, inl, inr, refl, sym, ap, ◌∙◌, subst, arith, eqb-true, eq-eqb, ne_eqb}
+use Rattle.std.specs.Prelude.{Option}
+use Rattle.clover_words.specs.declared.bytes.ValueBuf.{ValueBuf}
+use Rattle.clover_words.specs.declared.pool.Pool.{Pool}
+use Rattle.clover_words.specs.declared.word.Word.TheVariants.{Count}
+use Rattle.clover_words.specs.Tag.{TagParts, tag_number}
+use Rattle.clover_map.specs.History.{key_of}
+use Rattle.clover_map.specs.declared.call.Call.{Call}
+use Rattle.clover_map.specs.declared.call.Call.TheVariants.{Get, Put, Delete, Swap}
+use Rattle.clover_map.specs.declared.call.Entry.{Entry}
+use Rattle.clover_map.specs.declared.call.Reply.TheVariants.{Absent as AbsentReply}
+use Rattle.clover_rule.specs.Accesses.{Decides, NoBinding}
+use Rattle.clover_rule.specs.Asks.{Asks, MayMiss}
+use Rattle.clover_rule.specs.History.{named}
+use Rattle.clover_rule.specs.Learned.{counts, missed}
+use Rattle.clover_rule.specs.Lists.{Within}
+use Rattle.clover_rule.specs.Steps.{Step, ReadCount, AbsentCount, IsClient, act_of, number_of}
+use Rattle.clover_rule.specs.declared.access.Act.{Act}
+use Rattle.clover_rule.specs.declared.access.Act.TheVariants.{Load}
+use Rattle.clover_rule.specs.declared.view.Role.{Role}
+use Rattle.clover_rule.specs.declared.view.Role.TheVariants.{Client}
+use Rattle.clover_rule.specs.declared.view.View.{View}
+use Rattle.clover_port.specs.Told.{Open, Made}
+use Rattle.clover_walk.proofs.Endings.{stepped}
+use Rattle.clover_dir.specs.Names.{IsNew}
+use Rattle.clover_call.proofs.Knowing.{KnowsMore, cursors_kept, knows_more}
+use Rattle.clover_call.specs.Caller.{CallHolds, HasCommitted}
+use Rattle.clover_call.specs.declared.answer.Answer.TheVariants.{Absent}
+use Rattle.clover_call.specs.declared.under.Underway.{Underway}
+use Rattle.clover_call.specs.declared.under.Underway.TheVariants.{Nothing}
+use Rattle.clover_node.specs.Asking.{Asking, Counts as ToCount, Misses, Lacks, counted, count_step, due_asking}
+use Rattle.clover_node.specs.Going.{CountSays, Enters, GoesAt, IsDueAt, Missed, NodeGoesOn, NodeIsDue, NodeWent, SaysAt, stock_behind}
+use Rattle.clover_node.specs.Mirroring.{AskMirrors, TellsOf, UnderMirrors}
+use Rattle.clover_node.specs.Node.{NodeState, NodeHolds, Counts, IsAsked, IsCounting, IsIdle, IsUnder, count_of, first_of, node_first, node_step, step_of}
+use Rattle.clover_node.specs.Turning.{OnMade, OnOver, OnRefused, count_turn}
+use Rattle.clover_node.specs.declared.answer.NodeRefusal.{NodeRefusal}
+use Rattle.clover_node.specs.declared.answer.NodeRefusal.TheVariants.{Unreached, Behind, Linked, TooLong, NeedsStock, NeedsNames}
+use Rattle.clover_node.specs.declared.answer.NodeTurn.{NodeTurn}
+use Rattle.clover_node.specs.declared.answer.NodeTurn.TheVariants.{More, Decided, Done, Refused}
+use Rattle.clover_node.specs.declared.counting.Counting.{Counting}
+use Rattle.clover_node.specs.declared.counting.Counting.TheVariants.{No, Names, Absence}
+
+-- both say the key of a call
+pub named_key : (c : Call) → named c ≡ key_of c
+named_key (Get k) = refl
+named_key (Put k x) = refl
+named_key (Delete k) = refl
+named_key (Swap k e x) = refl
+
+-- a client's role says its number
+pub is_client : (v : View) (k : ℕ) → v.pass.role ≡ Client k → IsClient v
+is_client v k e = subst (λ (r : Role). r ≡ Client (number_of r)) (sym e) refl
+
+-- a key that no pair of the names has
+unnamed : (c : Call) (names view : List (ℕ × List ℕ)) → view ≡ names → IsNew (key_of c) names → (s : ℕ) → Within (s, named c) view → ⊥
+unnamed c names view e new s w = new s (subst (λ (k : List ℕ). Within (s, k) names) (named_key c) (subst (λ (l : List (ℕ × List ℕ)). Within (s, named c) l) e w))
+
+-- the load may be made
+pub count_asks : (p : Pool) (c : Counting) (call : Call) (v : View) (names : List (ℕ × List ℕ)) → IsClient v → v.pass.names ≡ names → IsNew (key_of call) names → Counts c call → Asks p (count_of c call) v
+count_asks p No call v names client e new h = absurd h
+count_asks p Names call v names client e new h = (tt, client)
+count_asks p Absence call v names client e new h = (tt, (client, h, unnamed call names v.pass.names e new))
+
+-- the count is at least the number of the names, and at most that of the slots
+pub count_bounds : (p : Pool) (c : Counting) (call : Call) (v : View) (o : Option Open) (x : ℕ) (w : View) (o1 : Option Open) → Made p (count_of c call) true v o x w o1 → (length v.pass.names ≤ x) × (x ≤ p.slots)
+count_bounds p No call v o x w o1 made = made.told.says
+count_bounds p Names call v o x w o1 made = made.told.says
+count_bounds p Absence call v o x w o1 made = made.told.says
+
+-- that there is no such binding decides the call
+missed_decides : (p : Pool) (ws : List ℕ) (names : List (ℕ × List ℕ)) (acts : List Act) (call : Call) → MayMiss call → NoBinding names call acts → Decides p ws names acts call AbsentReply
+missed_decides p ws names acts (Get k) may h = inr h
+missed_decides p ws names acts (Put k x) may h = absurd may
+missed_decides p ws names acts (Delete k) may h = inr h
+missed_decides p ws names acts (Swap k e x) may h = inr h
+
+module _ (p : Pool) (n : NodeState) (call : Call) (v : View) (o : Option Open) (x : ℕ) (w : View) (o1 : Option Open) (names : v.pass.names ≡ n.names) (asks : IsCounting n call) where
+  known : length v.pass.names ≡ length n.names
+  known = ap length names
+
+  missed_by : Made p (AbsentCount call) true v o x w o1 → MayMiss call → x ≡ length n.names → Missed p call v o w o1
+  missed_by made may e =
+      let m = subst (λ (y : ℕ). Made p (AbsentCount call) true v o y w o1) (e ∙ sym known) made in
+      record {
+        made = m;
+        decides = missed_decides p m.now.words v.pass.names w.pass.since call may ([], (stepped p (AbsentCount call) true v o (length v.pass.names) w o1 m).since, unnamed call n.names v.pass.names names asks.unnamed);
+      }
+
+  -- what the load says
+  says_at : (c : Counting) → Counts c call → Made p (count_of c call) true v o x w o1 → CountSays p n call v o w o1 (count_turn c (length n.names) x)
+  says_at No h made = absurd h
+  says_at Names h made = let b = count_bounds p Names call v o x w o1 made in (refl, inl made, subst (λ (y : ℕ). y ≤ x) known b.0, inr h)
+  says_at Absence h made = by (eqb x (length n.names)) refl
+    where
+      by : (b : Bool) → eqb x (length n.names) ≡ b → CountSays p n call v o w o1 (cond b (Done Absent) (Refused (NeedsNames (length n.names) x)))
+      by true e = missed_by made h (eqb-true x (length n.names) e)
+      by false e =
+          let b = count_bounds p Absence call v o x w o1 made in
+          let le : length n.names ≤ x = subst (λ (y : ℕ). y ≤ x) known b.0 in
+          let ne : x ≢ length n.names = λ f. let z : true ≡ false = sym (eq-eqb x (length n.names) f) ∙ e in cc in
+          (refl, inr made, le, inl (omega arith))
+
+  -- what it leaves of the stock and of the own calls
+  enters_at : (c : Counting) → Counts c call → (u : Underway) → u ≡ Nothing → (room : ValueBuf) → Made p (count_of c call) true v o x w o1 → (w.pass.stock ≡ v.pass.stock) × Enters (count_turn c (length n.names) x) u call room v w
+  enters_at No h u idle room made = absurd h
+  enters_at Names h u idle room made = (ap (λ (z : View). z.pass.stock) made.told.next, ap (λ (z : View). z.pass.calls) made.told.next)
+  enters_at Absence h u idle room made = by (eqb x (length n.names)) refl
+    where
+      left : (w.pass.stock ≡ v.pass.stock)
+      left = ap (λ (z : View). z.pass.stock) made.told.next ∙ by_test (x == length v.pass.names)
+        where
+          by_test : (b : Bool) → (cond b (missed v made.now.history call x) (counts v x)).pass.stock ≡ v.pass.stock
+          by_test true = refl
+          by_test false = refl
+
+      calls_are : (b : Bool) → (x == length v.pass.names) ≡ b → w.pass.calls ≡ (cond b (missed v made.now.history call x) (counts v x)).pass.calls
+      calls_are b e = ap (λ (z : View). z.pass.calls) made.told.next ∙ ap (λ (k : Bool). (cond k (missed v made.now.history call x) (counts v x)).pass.calls) e
+
+      by : (b : Bool) → eqb x (length n.names) ≡ b → (w.pass.stock ≡ v.pass.stock) × Enters (cond b (Done Absent) (Refused (NeedsNames (length n.names) x))) u call room v w
+      by true e = (left, ((λ had. absurd (subst HasCommitted idle had)), (λ unset. calls_are true (ap (λ (y : ℕ). x == y) known ∙ e))))
+      by false e = (left, calls_are false (ap (λ (y : ℕ). x == y) known ∙ e))
+
+  over_at : (c : Counting) (A : Type 0) → A → OnOver (count_turn c (length n.names) x) A
+  over_at No A a = a
+  over_at Names A a = a
+  over_at Absence A a = by (eqb x (length n.names))
+    where
+      by : (b : Bool) → OnOver (cond b (Done Absent) (Refused (NeedsNames (length n.names) x))) A
+      by true = a
+      by false = a
+
+  same_stock : (c : Counting) → stock_behind (count_turn c (length n.names) x) n.stock ≡ n.stock
+  same_stock No = refl
+  same_stock Names = refl
+  same_stock Absence = by (eqb x (length n.names))
+    where
+      by : (b : Bool) → stock_behind (cond b (Done Absent) (Refused (NeedsNames (length n.names) x))) n.stock ≡ n.stock
+      by true = refl
+      by false = refl
+
+-- what the count says is what the step says
+says_count : (c : Counting) (p : Pool) (n : NodeState) (call : Call) (room : ValueBuf) (v : View) (o : Option Open) (n1 : NodeState) (w : View) (o1 : Option Open) (t : NodeTurn) → Counts c call → CountSays p n call v o w o1 t → SaysAt c p n call room v o n1 w o1 t
+says_count No p n call room v o n1 w o1 t h s = absurd h
+says_count Names p n call room v o n1 w o1 t h s = s
+says_count Absence p n call room v o n1 w o1 t h s = s
+
+-- the count was loaded for the call, and the node goes on without
+abbrev pub uncounted : NodeState → NodeState
+uncounted n = record n { counting = No }
+
+module _ (n : NodeState) (call : Call) (room : ValueBuf) (v : View) (holds : NodeHolds n call v room) (asks : IsCounting n call) where
+  no_call : IsIdle (uncounted n)
+  no_call = record { counts = refl; calls = asks.idle }
+
+  module _ (w : View) (role : w.pass.role ≡ v.pass.role) (pool : w.pass.pool ≡ v.pass.pool) (names : w.pass.names ≡ v.pass.names) (stock : w.pass.stock ≡ v.pass.stock) (more : KnowsMore v w) where
+    -- it holds again, of no call
+    holds_again : NodeHolds (uncounted n) call w room
+    holds_again = record {
+      role = role ∙ holds.role;
+      stock = stock ∙ holds.stock;
+      names = names ∙ holds.names;
+      tags = holds.tags;
+      slots = holds.slots;
+      once = holds.once;
+      caller = record {
+        pool = pool ∙ holds.caller.pool;
+        client = is_client w n.client (role ∙ holds.role);
+        cursors = cursors_kept n.caller.pool v w n.caller.cursors more holds.caller.cursors;
+        call = subst (λ (u : Underway). CallHolds n.caller.pool u w room) (sym asks.idle) tt;
+      };
+      asked = subst (λ (u : Underway). IsUnder u w call) (sym asks.idle) tt;
+    }
+
+  module _ (o : Option Open) (w : View) (o1 : Option Open) (same : w ≡ v) where
+    -- where the access was refused
+    refused_holds : NodeHolds (uncounted n) call w room
+    refused_holds = subst (λ (z : View). NodeHolds (uncounted n) call z room) (sym same) (holds_again v refl refl refl refl (λ q h. h))
+
+    refused_went : (y : NodeRefusal) → CountSays n.caller.pool n call v o w o1 (Refused y) → NodeWent n call room v o (uncounted n) w o1 (Refused y)
+    refused_went y says = record {
+      kept = refl;
+      pool = refl;
+      over = no_call;
+      says = says_count n.counting n.caller.pool n call room v o (uncounted n) w o1 (Refused y) asks.counts says;
+      enters = ap (λ (z : View). z.pass.calls) same;
+    }
+
+  module _ (o : Option Open) (x : ℕ) (w : View) (o1 : Option Open) (made : Made n.caller.pool (count_of n.counting call) true v o x w o1) where
+    abbrev turn : NodeTurn
+    turn = count_turn n.counting (length n.names) x
+
+    -- where it was made
+    loaded_holds : NodeHolds (uncounted n) call w room
+    loaded_holds =
+        let p = n.caller.pool in
+        let s = stepped p (count_of n.counting call) true v o x w o1 made in
+        let e = enters_at p n call v o x w o1 holds.names asks n.counting asks.counts n.caller.under asks.idle room made in
+        holds_again w s.role s.pool s.names e.0 (knows_more p (count_of n.counting call) true v o x w o1 made)
+
+    loaded_went : NodeWent n call room v o (uncounted n) w o1 turn
+    loaded_went =
+        let p = n.caller.pool in
+        let e = enters_at p n call v o x w o1 holds.names asks n.counting asks.counts n.caller.under asks.idle room made in
+        record {
+          kept = (let same = sym (same_stock p n call v o x w o1 holds.names asks n.counting) in λ i. record n { counting = No; stock = same i });
+          pool = refl;
+          over = over_at p n call v o x w o1 holds.names asks n.counting (IsIdle (uncounted n)) no_call;
+          says = says_count n.counting p n call room v o (uncounted n) w o1 turn asks.counts (says_at p n call v o x w o1 holds.names asks n.counting asks.counts made);
+          enters = e.1;
+        }
+
+  module _ (o : Option Open) (w : View) (o1 : Option Open) where
+    abbrev Access : NodeTurn → Type 0
+    Access t = (x : ℕ) × Made n.caller.pool (count_of n.counting call) true v o x w o1 × (t ≡ count_turn n.counting (length n.names) x)
+
+    abbrev Says : NodeTurn → Type 0
+    Says t = NodeWent n call room v o (uncounted n) w o1 t × NodeHolds (uncounted n) call w room
+
+    loaded : (t : NodeTurn) → Access t → Says t
+    loaded t (x, made, is) = subst Says (sym is) (loaded_went o x w o1 made, loaded_holds o x w o1 made)
+
+    refused : (y : NodeRefusal) → w ≡ v → CountSays n.caller.pool n call v o w o1 (Refused y) → Says (Refused y)
+    refused y same says = (refused_went o w o1 same y says, refused_holds o w o1 same)
+
+    -- what a step says that loads the count
+    pub count_says : (t : NodeTurn) → OnMade t (Access t) → OnRefused t (w ≡ v) → Says t
+    count_says More m f = loaded More m
+    count_says (Decided a) m f = loaded (Decided a) m
+    count_says (Done a) m f = loaded (Done a) m
+    count_says (Refused Unreached) m f = refused Unreached f tt
+    count_says (Refused (Behind turns)) m f = loaded (Refused (Behind turns)) m
+    count_says (Refused (Linked t)) m f = refused (Linked t) f tt
+    count_says (Refused (TooLong length room)) m f = loaded (Refused (TooLong length room)) m
+    count_says (Refused NeedsStock) m f = loaded (Refused NeedsStock) m
+    count_says (Refused (NeedsNames known bound)) m f = loaded (Refused (NeedsNames known bound)) m
+
+-- the load of the count is one access, whatever it is for
+count_act : (c : Counting) (call : Call) (k : ℕ) → act_of (count_of c call) k ≡ Load Count k
+count_act No call k = refl
+count_act Names call k = refl
+count_act Absence call k = refl
+
+step_act : (call : Call) (k : ℕ) → act_of (count_step call) k ≡ Load Count k
+step_act (Get key) k = refl
+step_act (Put key value) k = refl
+step_act (Delete key) k = refl
+step_act (Swap key expected value) k = refl
+
+module _ (n : NodeState) (x : ℕ) where
+  by_test : (call : Call) (own : ℕ) (b : Bool) → eqb x (length n.names) ≡ b → TellsOf call own (length n.names) x ToCount (cond b Misses Lacks) (cond b (Done Absent) (Refused (NeedsNames (length n.names) x)))
+  by_test call own true e = (refl, eqb-true x (length n.names) e)
+  by_test call own false e = refl
+
+  -- the turn tells of the call where it is by the definition
+  count_tells : (c : Counting) (call : Call) (own : ℕ) → Counts c call → TellsOf call own (length n.names) x ToCount (counted call (length n.names) x) (count_turn c (length n.names) x)
+  count_tells No call own h = absurd h
+  count_tells Names (Get key) own h = absurd h
+  count_tells Names (Put key value) own h = refl
+  count_tells Names (Delete key) own h = absurd h
+  count_tells Names (Swap key expected value) own h = absurd h
+  count_tells Absence (Get key) own h = by_test (Get key) own (eqb x (length n.names)) refl
+  count_tells Absence (Put key value) own h = absurd h
+  count_tells Absence (Delete key) own h = by_test (Delete key) own (eqb x (length n.names)) refl
+  count_tells Absence (Swap key expected value) own h = by_test (Swap key expected value) own (eqb x (length n.names)) refl
+
+  mirrored : (c : Counting) (call : Call) (room : ValueBuf) (other : Call) (own : ℕ) (a : Asking) → Counts c call → AskMirrors c n room other own a → Counts c other × (a ≡ ToCount)
+  mirrored No call room other own a h m = absurd h
+  mirrored Names call room other own a h m = m
+  mirrored Absence call room other own a h m = m
+
+  -- the load is due by the definition of what a call does, and leads it to its end
+  count_due : (call : Call) (room : ValueBuf) → IsCounting n call → NodeIsDue n room (count_of n.counting call) x (uncounted n) room (count_turn n.counting (length n.names) x)
+  count_due call room asks other own a m =
+      let is = mirrored n.counting call room other own a asks.counts m in
+      subst (λ (z : Asking). IsDueAt n (count_of n.counting call) x (uncounted n) room (count_turn n.counting (length n.names) x) other own z) (sym is.1) (record {
+        step_due = count_step other;
+        due = refl;
+        acts = λ k. count_act n.counting call k ∙ sym (step_act other k);
+        leads = subst (λ (u : Underway). UnderMirrors u room other own (counted other (length n.names) x)) (sym asks.idle) tt;
+        tells = count_tells n.counting other own is.0;
+      })
+
+counts_step : (c : Counting) (n : NodeState) (call : Call) (v : View) (room : ValueBuf) → Counts c call → step_of c n call v room ≡ count_of c call
+counts_step No n call v room h = absurd h
+counts_step Names n call v room h = refl
+counts_step Absence n call v room h = refl
+
+counts_first : (c : Counting) (n : NodeState) (call : Call) → Counts c call → first_of c n ≡ true
+counts_first No n call h = absurd h
+counts_first Names n call h = refl
+counts_first Absence n call h = refl
+
+counts_goes : (c : Counting) (n : NodeState) (call : Call) (v : View) (room : ValueBuf) (step : Step) (x : ℕ) (w : View) → Counts c call → GoesAt c n v room step x (count_turn c (length n.names) x) (uncounted n) w room
+counts_goes No n call v room step x w h = absurd h
+counts_goes Names n call v room step x w h = (refl, refl, refl)
+counts_goes Absence n call v room step x w h = (refl, refl, refl)
+
+-- the load is the node's access
+pub count_made : (n : NodeState) (call : Call) (v : View) (room : ValueBuf) (w : View) (M : Step → Bool → ℕ → Type 0) (t : NodeTurn) → IsCounting n call → (x : ℕ) × M (count_of n.counting call) true x × (t ≡ count_turn n.counting (length n.names) x)
+    → (i : ℕ) × M (node_step n call v room) (node_first n) i × NodeGoesOn n v room (node_step n call v room) i t (uncounted n) w room × NodeIsDue n room (node_step n call v room) i (uncounted n) room t
+count_made n call v room w M t asks (x, made, is) =
+    let step = sym (counts_step n.counting n call v room asks.counts) in
+    let first = sym (counts_first n.counting n call asks.counts) in
+    let B : NodeTurn → Type 0 = λ u. (i : ℕ) × M (node_step n call v room) (node_first n) i × NodeGoesOn n v room (node_step n call v room) i u (uncounted n) w room × NodeIsDue n room (node_step n call v room) i (uncounted n) room u in
+    subst B (sym is) (
+      x,
+      subst (λ (b : Bool). M (node_step n call v room) b x) first (subst (λ (s : Step). M s true x) step made),
+      counts_goes n.counting n call v room (node_step n call v room) x w asks.counts,
+      subst (λ (s : Step). NodeIsDue n room s x (uncounted n) room (count_turn n.counting (length n.names) x)) step (count_due n x call room asks),
+    )
+
+-- what was shown where the access was made, or where it was refused
+pub made_so : {A B : Type 0} (t : NodeTurn) → (A → B) → OnMade t A → OnMade t B
+made_so More f a = f a
+made_so (Decided x) f a = f a
+made_so (Done x) f a = f a
+made_so (Refused Unreached) f a = tt
+made_so (Refused (Behind n)) f a = f a
+made_so (Refused (Linked t)) f a = tt
+made_so (Refused (TooLong l m)) f a = f a
+made_so (Refused NeedsStock) f a = f a
+made_so (Refused (NeedsNames k b)) f a = f a
+
+pub refused_so : {A B : Type 0} (t : NodeTurn) → (A → B) → OnRefused t A → OnRefused t B
+refused_so More f a = tt
+refused_so (Decided x) f a = tt
+refused_so (Done x) f a = tt
+refused_so (Refused Unreached) f a = f a
+refused_so (Refused (Behind n)) f a = tt
+refused_so (Refused (Linked t)) f a = f a
+refused_so (Refused (TooLong l m)) f a = tt
+refused_so (Refused NeedsStock) f a = tt
+refused_so (Refused (NeedsNames k b)) f a = tt
+
+-- a call that loads the count next
+pub asked_counting : (c : Counting) (n : NodeState) (v : View) (call : Call) → (c ≡ Names) ⊎ (c ≡ Absence) → IsAsked c n v call → IsCounting n call
+asked_counting No n v call (inl e) h = absurd cc
+asked_counting No n v call (inr e) h = absurd cc
+asked_counting Names n v call e h = h
+asked_counting Absence n v call e h = h
