@@ -1,2 +1,6 @@
 pub mod Loading
 pub mod OnSlot
+pub mod Starting
+pub mod Writing
+pub mod Learning
+pub mod Granted

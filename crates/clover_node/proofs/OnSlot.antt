@@ -77,7 +77,7 @@ under_call Nothing v call is busy = absurd (busy refl)
 under_call (Get g) v call is busy = is
 under_call (Write c) v call is busy = is
 
-under_is : (u : Underway) (v : View) (call : Call) → call_under u v ≡ call → IsUnder u v call
+pub under_is : (u : Underway) (v : View) (call : Call) → call_under u v ≡ call → IsUnder u v call
 under_is Nothing v call e = tt
 under_is (Get g) v call e = e
 under_is (Write c) v call e = e

@@ -104,8 +104,17 @@ impl Node {
         ensures holds { (call : Asked) (v : View) (room : Room) → NodeHolds self.old call v room → MayTake self.old (tags_of batch.now) (pairs_of names.now) → NodeHolds self.new call (given (map tag_number (tags_of batch.now)) (pairs_of names.now) v) room }
     {
         self.stock.add(batch.items());
-        for binding in names {
-            self.names.push(binding.slot, binding.key.copy());
-        }
+        learn(&mut self.names, names);
+    }
+}
+
+// Puts these bindings behind those that are known.
+fn learn(known: &mut Names, names: &[Binding])
+    requires once { KeysOnce (known.old.list ++ pairs_of names.now) }
+    requires room { length (known.old.list ++ pairs_of names.now) ≤ known.old.most }
+    ensures { known.new ≡ record known.old { list = known.old.list ++ pairs_of names.now } }
+{
+    for binding in names {
+        known.push(binding.slot, binding.key.copy());
     }
 }

@@ -1,5 +1,5 @@
 // The stock of a node: the tags of the buffers that the server handed to it.
-ghost use Rattle.std.specs.Prelude.{◌≡◌, ◌+◌, ◌≤◌, ◌++◌, [], length, drop, slice_get, IfOk};
+ghost use Rattle.std.specs.Prelude.{◌≡◌, ◌+◌, ◌≤◌, ◌++◌, [], length, drop, slice_get, IfOk, IsTrue, ◌↔◌};
 
 use circular_buffer::HeapCircularBuffer;
 use clover_list::OutOfMemory;
@@ -40,6 +40,13 @@ impl Stock {
         ensures most { result ≤ 64 }
     {
         self.tags.len()
+    }
+
+    /// Whether there are none.
+    pub fn is_empty(&self) -> bool
+        ensures { IsTrue result ↔ (self.now ≡ []) }
+    {
+        self.tags.is_empty()
     }
 
     /// The tag that was added first of those that are left.

@@ -1,15 +1,16 @@
 // How a node starts a call: on the slot of its key, or by the load of the count.
-ghost use Rattle.std.specs.Prelude.{◌≡◌, ◌*◌, ◌<◌, ◌≤◌, ℕ, List, [], length, IfErr, OnOk};
-ghost use Rattle.clover_words.specs.Tag.{TagParts, tag_number};
+ghost use Rattle.std.specs.Prelude.{◌≡◌, ◌≢◌, ℕ, List, [], IfErr, OnOk};
 ghost use Rattle.clover_words.specs.declared.bytes.ValueBuf.{ValueBuf as Room};
+ghost use Rattle.clover_map.specs.declared.bytes.Value.{Value as Stored};
 ghost use Rattle.clover_map.specs.declared.call.Call.{Call as Asked};
 ghost use Rattle.clover_map.specs.declared.call.Call.TheVariants.{Get as GetOf};
 ghost use Rattle.clover_rule.specs.declared.view.View.{View};
 ghost use Rattle.clover_put.specs.Putting.{call_of};
 ghost use Rattle.clover_put.specs.declared.job.Job.TheVariants.{Put as IsPutJob, Delete as IsDelete};
 ghost use Rattle.clover_call.specs.Beginning.{ExpectsTag};
-ghost use Rattle.clover_node.specs.Beginning.{NodeStarts, Refuses};
+ghost use Rattle.clover_node.specs.Beginning.{NodeStarts, Refuses, counts_for};
 ghost use Rattle.clover_node.specs.Node.{NodeHolds, IsIdle};
+ghost use Rattle.clover_node.specs.declared.answer.NodeRefusal.TheVariants.{NeedsStock as IsNeedsStock};
 
 use super::Node;
 use crate::answer::NodeRefusal;
@@ -85,13 +86,32 @@ impl Node {
         if length > room {
             return Err(NodeRefusal::TooLong { length, room });
         }
-        let puts = matches!(job, Job::Put);
-        match (self.names.find(key), self.stock.first()) {
-            (Some(slot), Some(own)) => self.caller.start_write(slot, own, job, flags, bytes),
-            (None, _) if !puts => self.counting = Counting::Absence,
-            (None, Some(_)) => self.counting = Counting::Names,
-            (_, None) => return Err(NodeRefusal::NeedsStock),
-        }
+        let Some(slot) = self.names.find(key) else {
+            return self.start_count(job);
+        };
+        let Some(own) = self.stock.first() else {
+            return Err(NodeRefusal::NeedsStock);
+        };
+        self.caller.start_write(slot, own, job, flags, bytes);
         Ok(())
+    }
+
+    // Starts the load of the count by a call that writes, whose key the node does not know. Only a put needs a buffer
+    // before it has the key's name.
+    fn start_count(&mut self, job: Job) -> Result<(), NodeRefusal>
+        ensures started { OnOk result ((key : List ℕ) (value : Stored) → (self.new ≡ record self.old { counting = counts_for (call_of job key value) }) × (job ≡ IsPutJob → self.old.stock ≢ [])) }
+        ensures refused { IfErr result (λ refusal. (refusal ≡ IsNeedsStock) × (self.new ≡ self.old) × (job ≡ IsPutJob) × (self.old.stock ≡ [])) }
+    {
+        match job {
+            Job::Put if self.stock.is_empty() => Err(NodeRefusal::NeedsStock),
+            Job::Put => {
+                self.counting = Counting::Names;
+                Ok(())
+            }
+            Job::Delete | Job::Swap(_) => {
+                self.counting = Counting::Absence;
+                Ok(())
+            }
+        }
     }
 }
