@@ -4,3 +4,4 @@ pub mod Starting
 pub mod Writing
 pub mod Learning
 pub mod Granted
+pub mod Finishing

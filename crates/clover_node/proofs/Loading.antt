@@ -30,10 +30,10 @@ use Rattle.clover_call.specs.declared.answer.Answer.TheVariants.{Absent}
 use Rattle.clover_call.specs.declared.under.Underway.{Underway}
 use Rattle.clover_call.specs.declared.under.Underway.TheVariants.{Nothing}
 use Rattle.clover_node.specs.Asking.{Asking, Counts as ToCount, Misses, Lacks, counted, count_step, due_asking}
-use Rattle.clover_node.specs.Going.{CountSays, Enters, GoesAt, IsDueAt, Missed, NodeGoesOn, NodeIsDue, NodeWent, SaysAt, stock_behind}
+use Rattle.clover_node.specs.Going.{CountSays, Enters, GoesAt, GoesFar, IsDueAt, IsOpen, Missed, NodeGoesOn, NodeIsDue, NodeTurns, NodeWent, SaysAt, stock_behind}
 use Rattle.clover_node.specs.Mirroring.{AskMirrors, TellsOf, UnderMirrors}
 use Rattle.clover_node.specs.Node.{NodeState, NodeHolds, Counts, IsAsked, IsCounting, IsIdle, IsUnder, count_of, first_of, node_first, node_step, step_of}
-use Rattle.clover_node.specs.Turning.{OnMade, OnOver, OnRefused, count_turn}
+use Rattle.clover_node.specs.Turning.{OnGoing, OnMade, OnOver, OnRefused, count_turn}
 use Rattle.clover_node.specs.declared.answer.NodeRefusal.{NodeRefusal}
 use Rattle.clover_node.specs.declared.answer.NodeRefusal.TheVariants.{Unreached, Behind, Linked, TooLong, NeedsStock, NeedsNames}
 use Rattle.clover_node.specs.declared.answer.NodeTurn.{NodeTurn}
@@ -130,6 +130,24 @@ module _ (p : Pool) (n : NodeState) (call : Call) (v : View) (o : Option Open) (
       by true = a
       by false = a
 
+  turns_at : (c : Counting) (u y : Underway) (room : ValueBuf) → IsOpen u → NodeTurns (count_turn c (length n.names) x) u y call room
+  turns_at No u y room h = h
+  turns_at Names u y room h = h
+  turns_at Absence u y room h = by (eqb x (length n.names))
+    where
+      by : (b : Bool) → NodeTurns (cond b (Done Absent) (Refused (NeedsNames (length n.names) x))) u y call room
+      by true = inl h
+      by false = h
+
+  never_on : (c : Counting) (A : Type 0) → OnGoing (count_turn c (length n.names) x) A
+  never_on No A = tt
+  never_on Names A = tt
+  never_on Absence A = by (eqb x (length n.names))
+    where
+      by : (b : Bool) → OnGoing (cond b (Done Absent) (Refused (NeedsNames (length n.names) x))) A
+      by true = tt
+      by false = tt
+
   same_stock : (c : Counting) → stock_behind (count_turn c (length n.names) x) n.stock ≡ n.stock
   same_stock No = refl
   same_stock Names = refl
@@ -177,12 +195,14 @@ module _ (n : NodeState) (call : Call) (room : ValueBuf) (v : View) (holds : Nod
     refused_holds : NodeHolds (uncounted n) call w room
     refused_holds = subst (λ (z : View). NodeHolds (uncounted n) call z room) (sym same) (holds_again v refl refl refl refl (λ q h. h))
 
-    refused_went : (y : NodeRefusal) → CountSays n.caller.pool n call v o w o1 (Refused y) → NodeWent n call room v o (uncounted n) w o1 (Refused y)
-    refused_went y says = record {
+    refused_went : NodeWent n call room v o (uncounted n) w o1 (Refused Unreached)
+    refused_went = record {
       kept = refl;
       pool = refl;
+      turns = subst IsOpen (sym asks.idle) tt;
+      going = tt;
       over = no_call;
-      says = says_count n.counting n.caller.pool n call room v o (uncounted n) w o1 (Refused y) asks.counts says;
+      says = says_count n.counting n.caller.pool n call room v o (uncounted n) w o1 (Refused Unreached) asks.counts tt;
       enters = ap (λ (z : View). z.pass.calls) same;
     }
 
@@ -205,6 +225,8 @@ module _ (n : NodeState) (call : Call) (room : ValueBuf) (v : View) (holds : Nod
         record {
           kept = (let same = sym (same_stock p n call v o x w o1 holds.names asks n.counting) in λ i. record n { counting = No; stock = same i });
           pool = refl;
+          turns = turns_at p n call v o x w o1 holds.names asks n.counting n.caller.under n.caller.under room (subst IsOpen (sym asks.idle) tt);
+          going = never_on p n call v o x w o1 holds.names asks n.counting (GoesFar (uncounted n) w);
           over = over_at p n call v o x w o1 holds.names asks n.counting (IsIdle (uncounted n)) no_call;
           says = says_count n.counting p n call room v o (uncounted n) w o1 turn asks.counts (says_at p n call v o x w o1 holds.names asks n.counting asks.counts made);
           enters = e.1;
@@ -220,17 +242,14 @@ module _ (n : NodeState) (call : Call) (room : ValueBuf) (v : View) (holds : Nod
     loaded : (t : NodeTurn) → Access t → Says t
     loaded t (x, made, is) = subst Says (sym is) (loaded_went o x w o1 made, loaded_holds o x w o1 made)
 
-    refused : (y : NodeRefusal) → w ≡ v → CountSays n.caller.pool n call v o w o1 (Refused y) → Says (Refused y)
-    refused y same says = (refused_went o w o1 same y says, refused_holds o w o1 same)
-
     -- what a step says that loads the count
-    pub count_says : (t : NodeTurn) → OnMade t (Access t) → OnRefused t (w ≡ v) → Says t
+    pub count_says : (t : NodeTurn) → OnMade t (Access t) → OnRefused t ((w ≡ v) × (t ≡ Refused Unreached)) → Says t
     count_says More m f = loaded More m
     count_says (Decided a) m f = loaded (Decided a) m
     count_says (Done a) m f = loaded (Done a) m
-    count_says (Refused Unreached) m f = refused Unreached f tt
+    count_says (Refused Unreached) m f = (refused_went o w o1 f.0, refused_holds o w o1 f.0)
     count_says (Refused (Behind turns)) m f = loaded (Refused (Behind turns)) m
-    count_says (Refused (Linked t)) m f = refused (Linked t) f tt
+    count_says (Refused (Linked t)) m f = let other = f.1 in absurd cc
     count_says (Refused (TooLong length room)) m f = loaded (Refused (TooLong length room)) m
     count_says (Refused NeedsStock) m f = loaded (Refused NeedsStock) m
     count_says (Refused (NeedsNames known bound)) m f = loaded (Refused (NeedsNames known bound)) m

@@ -1,5 +1,5 @@
 -- A step of a call on a slot: what the caller's step says, said of the node.
-use Rattle.std.proofs.Common.{◌≡◌, ◌≢◌, ℕ, ◌<◌, List, [], ◌∷◌, ◌++◌, drop, map, length, ◌⊎◌, inl, inr, Bool, refl, sym, ap, ◌∙◌, subst}
+use Rattle.std.proofs.Common.{◌≡◌, ◌≢◌, ℕ, ◌<◌, ◌≤◌, List, [], ◌∷◌, ◌++◌, drop, map, length, ◌⊎◌, inl, inr, Bool, false, refl, sym, ap, ◌∙◌, subst}
 use Rattle.std.specs.Prelude.{Option, Some}
 use Rattle.clover_words.specs.declared.bytes.ValueBuf.{ValueBuf}
 use Rattle.clover_words.specs.declared.pool.Pool.{Pool}
@@ -8,15 +8,16 @@ use Rattle.clover_map.specs.declared.call.Call.{Call}
 use Rattle.clover_rule.specs.Content.{InRange}
 use Rattle.clover_rule.specs.Learned.{rest_of}
 use Rattle.clover_rule.specs.Lists.{Each}
-use Rattle.clover_rule.specs.Steps.{Step, act_of}
+use Rattle.clover_rule.specs.Steps.{Step, act_of, reply_of}
 use Rattle.clover_rule.specs.declared.view.View.{View}
 use Rattle.clover_port.specs.Told.{Open, Made}
+use Rattle.clover_walk.specs.Walking.{budget, most_accesses}
 use Rattle.clover_walk.proofs.Endings.{stepped}
 use Rattle.clover_call.specs.Calling.{Calling, after}
 use Rattle.clover_call.specs.Caller.{CallerState, CallerHolds, HasCommitted, IsUncommitted, call_under, is_first, new_tag, next_step}
 use Rattle.clover_call.specs.Going.{GoesOn, IsDue, Stays, Went}
 use Rattle.clover_call.specs.Mirroring.{Mirrors}
-use Rattle.clover_call.specs.Turning.{reply_in, OnMade as OnCallMade, OnRefused as OnCallRefused}
+use Rattle.clover_call.specs.Turning.{reply_in, OnAhead, OnMade as OnCallMade, OnRefused as OnCallRefused}
 use Rattle.clover_call.specs.declared.answer.Answer.{Answer}
 use Rattle.clover_call.specs.declared.answer.CallerRefusal.TheVariants.{Unreached, Behind, Linked, TooLong}
 use Rattle.clover_call.specs.declared.answer.CallerTurn.{CallerTurn}
@@ -25,10 +26,10 @@ use Rattle.clover_call.specs.declared.under.Underway.{Underway}
 use Rattle.clover_call.specs.declared.under.Underway.TheVariants.{Nothing, Get, Write}
 use Rattle.clover_call.proofs.Owned.{apart, commit_calls, ended_owns, quiet_owns, short_owns}
 use Rattle.clover_node.specs.Asking.{Asking, Calls}
-use Rattle.clover_node.specs.Going.{Enters, GoesAt, IsDueAt, IsOpen, NodeGoesOn, NodeIsDue, NodeWent, SaysAt, stock_behind, with_entry}
+use Rattle.clover_node.specs.Going.{Enters, GoesAt, GoesFar, IsDueAt, IsOpen, NodeGoesOn, NodeIsDue, NodeTurns, NodeWent, SaysAt, stock_behind, with_entry}
 use Rattle.clover_node.specs.Mirroring.{AskMirrors, UnderMirrors}
 use Rattle.clover_node.specs.Node.{NodeState, NodeHolds, IsAsked, IsIdle, IsUnder, first_of, node_first, node_step, step_of}
-use Rattle.clover_node.specs.Turning.{OnMade, OnOver, OnRefused, of_turn}
+use Rattle.clover_node.specs.Turning.{OnGoing, OnMade, OnOver, OnRefused, of_turn}
 use Rattle.clover_node.specs.declared.answer.NodeTurn.{NodeTurn}
 use Rattle.clover_node.specs.declared.counting.Counting.{Counting}
 use Rattle.clover_node.specs.declared.counting.Counting.TheVariants.{No}
@@ -93,10 +94,15 @@ mirrors_on (Get g) room call own c m = (c, refl, m)
 mirrors_on (Write w) room call own c m = (c, refl, m)
 
 -- a call that has committed nothing is not under way behind a commit
-open_apart : (x : Underway) → IsOpen x → HasCommitted x → ⊥
+pub open_apart : (x : Underway) → IsOpen x → HasCommitted x → ⊥
 open_apart Nothing h b = b
 open_apart (Get g) h b = apart (Get g) h b
 open_apart (Write c) h b = apart (Write c) h b
+
+is_open : (x : Underway) → IsUncommitted x → IsOpen x
+is_open Nothing b = tt
+is_open (Get g) b = b
+is_open (Write c) b = b
 
 -- a stock behind its first tag
 rest_tags : (ts : List TagParts) → rest_of (map tag_number ts) ≡ map tag_number (drop 1 ts)
@@ -146,6 +152,8 @@ module _ (n : NodeState) (call : Call) (room : ValueBuf) (v : View) (holds : Nod
       pub enters : Enters (of_turn r) x call room1 v w
       pub asked : IsUnder k.under w call
       pub over : OnOver (of_turn r) (k.under ≡ Nothing)
+      pub turns : NodeTurns (of_turn r) x k.under call room1
+      pub later : OnGoing (of_turn r) ((is_first k.under ≡ false) × (k.under ≢ Nothing))
 
     nothing_left : k.under ≡ Nothing → IsUnder k.under w call
     nothing_left e = subst (λ (u : Underway). IsUnder u w call) (sym e) tt
@@ -156,8 +164,19 @@ module _ (n : NodeState) (call : Call) (room : ValueBuf) (v : View) (holds : Nod
     abbrev Says : CallerTurn → Type 0
     Says r = Went n.caller.pool x k.under n.caller.cursors k.cursors room1 v o w o1 r
 
-    quiet_leaves : (r : CallerTurn) (m : ℕ) → Made q (next_step x v room) (is_first x) v o m w o1 → w.pass.stock ≡ map tag_number (stock_behind (of_turn r) n.stock) → Enters (of_turn r) x call room1 v w → IsUnder k.under w call → OnOver (of_turn r) (k.under ≡ Nothing) → Leaves r
-    quiet_leaves r m made stock enters asked over = let s = stepped q (next_step x v room) (is_first x) v o m w o1 made in record { role = s.role; names = s.names; stock = stock; enters = enters; asked = asked; over = over }
+    quiet_leaves : (r : CallerTurn) (m : ℕ) → Made q (next_step x v room) (is_first x) v o m w o1 → w.pass.stock ≡ map tag_number (stock_behind (of_turn r) n.stock) → Enters (of_turn r) x call room1 v w → IsUnder k.under w call → OnOver (of_turn r) (k.under ≡ Nothing) → NodeTurns (of_turn r) x k.under call room1 → OnGoing (of_turn r) ((is_first k.under ≡ false) × (k.under ≢ Nothing)) → Leaves r
+    quiet_leaves r m made stock enters asked over turns later = let s = stepped q (next_step x v room) (is_first x) v o m w o1 made in record { role = s.role; names = s.names; stock = stock; enters = enters; asked = asked; over = over; turns = turns; later = later }
+
+    more_turns : (IsUncommitted x × IsUncommitted k.under) ⊎ (HasCommitted x × HasCommitted k.under) → (IsOpen x × IsOpen k.under) ⊎ (HasCommitted x × HasCommitted k.under)
+    more_turns (inl (b, b1)) = inl (is_open x b, is_open k.under b1)
+    more_turns (inr b) = inr b
+
+    committed_left : HasCommitted k.under → k.under ≢ Nothing
+    committed_left b e = subst HasCommitted e b
+
+    more_left : (IsUncommitted x × IsUncommitted k.under) ⊎ (HasCommitted x × HasCommitted k.under) → k.under ≢ Nothing
+    more_left (inl b) e = subst IsUncommitted e b.1
+    more_left (inr b) e = subst HasCommitted e b.1
 
     done_leaves : (a : Answer) → Access (Done a) → Says (Done a) → Leaves (Done a)
     done_leaves a (m, made, stays) g = by g.turns.0
@@ -165,33 +184,35 @@ module _ (n : NodeState) (call : Call) (room : ValueBuf) (v : View) (holds : Nod
         by : IsUncommitted x ⊎ HasCommitted x → Leaves (Done a)
         by (inl b) =
             let e = ended_owns n.caller.pool (call_under x v) v o w o1 (reply_in a room1) (g.done.1.tail b).0 in
-            quiet_leaves (Done a) m made (e.0 ∙ holds.stock) ((λ h. absurd (apart x b h)), (λ h. e.1 ∙ (λ i. with_entry v (asked_call i) (reply_in a room1)))) (nothing_left g.turns.1) g.turns.1
+            quiet_leaves (Done a) m made (e.0 ∙ holds.stock) ((λ h. absurd (apart x b h)), (λ h. e.1 ∙ (λ i. with_entry v (asked_call i) (reply_in a room1)))) (nothing_left g.turns.1) g.turns.1 (inl (is_open x b)) tt
         by (inr h) =
             let e = short_owns q (is_first x) v o m w o1 _ (new_tag x) (subst (λ (z : Step). Made q z (is_first x) v o m w o1) (stays.shortens h) made) in
-            quiet_leaves (Done a) m made (e.stock ∙ holds.stock) ((λ b. e.calls), (λ b. absurd (open_apart x b h))) (nothing_left g.turns.1) g.turns.1
+            quiet_leaves (Done a) m made (e.stock ∙ holds.stock) ((λ b. e.calls), (λ b. absurd (open_apart x b h))) (nothing_left g.turns.1) g.turns.1 (inr (h, (g.done.1.own h).1 ∙ (λ i. reply_of (new_tag x) (asked_call i)))) tt
 
-    refused_leaves : (y : _) → w ≡ v → k.under ≡ Nothing → Leaves (Refused y)
-    refused_leaves y same over = record {
+    refused_leaves : (y : _) → w ≡ v → k.under ≡ Nothing → NodeTurns (of_turn (Refused y)) x k.under call room1 → Leaves (Refused y)
+    refused_leaves y same over turns = record {
       role = ap (λ (z : View). z.pass.role) same;
       names = ap (λ (z : View). z.pass.names) same;
       stock = ap (λ (z : View). z.pass.stock) same ∙ holds.stock;
       enters = ap (λ (z : View). z.pass.calls) same;
       asked = nothing_left over;
       over = over;
+      turns = turns;
+      later = tt;
     }
 
     leaves : (r : CallerTurn) → OnCallMade r (Access r) → OnCallRefused r (w ≡ v) → Says r → Leaves r
-    leaves More (m, made, stays) f g = let e = quiet_owns q (is_first x) v o m w o1 (next_step x v room) made stays.quiet in quiet_leaves More m made (e.stock ∙ holds.stock) e.calls (goes_on stays.same.call) tt
+    leaves More (m, made, stays) f g = let e = quiet_owns q (is_first x) v o m w o1 (next_step x v room) made stays.quiet in quiet_leaves More m made (e.stock ∙ holds.stock) e.calls (goes_on stays.same.call) tt (more_turns g.turns, stays.same.tag) (stays.same.later, more_left g.turns)
     leaves (Decided a) (m, made, stays) f g =
         let e = commit_calls n.caller.pool (call_under x v) v o w o1 (new_tag x) g.decided.0 in
         let rest : w.pass.stock ≡ rest_of v.pass.stock = sym (ap rest_of stays.stock) in
-        quiet_leaves (Decided a) m made (rest ∙ ap rest_of holds.stock ∙ rest_tags n.stock) (e ∙ ap (λ (y : _). with_entry v (call_under x v) y) (sym g.decided.1) ∙ (λ i. with_entry v (asked_call i) (reply_in a room1))) (goes_on stays.same.call) tt
+        quiet_leaves (Decided a) m made (rest ∙ ap rest_of holds.stock ∙ rest_tags n.stock) (e ∙ ap (λ (y : _). with_entry v (call_under x v) y) (sym g.decided.1) ∙ (λ i. with_entry v (asked_call i) (reply_in a room1))) (goes_on stays.same.call) tt (is_open x g.turns.0, g.turns.1, stays.same.tag, g.decided.1 ∙ (λ i. reply_of (new_tag x) (asked_call i))) (stays.same.later, committed_left g.turns.1)
     leaves (Done a) m f g = done_leaves a m g
-    leaves (Refused Unreached) m f g = refused_leaves Unreached f g.turns.1
+    leaves (Refused Unreached) m f g = refused_leaves Unreached f g.turns.1 (is_open x g.turns.0)
     leaves (Refused (Behind turns)) (m, made, stays) f g =
         let e = quiet_owns q (is_first x) v o m w o1 (next_step x v room) made stays.quiet in
-        quiet_leaves (Refused (Behind turns)) m made (e.stock ∙ holds.stock) e.calls (nothing_left g.turns.1) g.turns.1
-    leaves (Refused (Linked t)) m f g = refused_leaves (Linked t) f g.turns.2
+        quiet_leaves (Refused (Behind turns)) m made (e.stock ∙ holds.stock) e.calls (nothing_left g.turns.1) g.turns.1 (is_open x g.turns.0) tt
+    leaves (Refused (Linked t)) m f g = refused_leaves (Linked t) f g.turns.2 (g.turns.0, g.turns.1)
     leaves (Refused (TooLong l r)) m f g = absurd g.turns
 
     over_on : (r : CallerTurn) → OnOver (of_turn r) (k.under ≡ Nothing) → OnOver (of_turn r) (IsIdle (behind n k r))
@@ -200,11 +221,28 @@ module _ (n : NodeState) (call : Call) (room : ValueBuf) (v : View) (holds : Nod
     over_on (Done a) h = record { counts = calls; calls = h }
     over_on (Refused y) h = record { counts = calls; calls = h }
 
+    module _ (pool : k.pool ≡ n.caller.pool) where
+      far_by : (r : CallerTurn) → length w.pass.since ≤ most_accesses n.caller.pool w.pass.turns → w.pass.turns < budget n.caller.pool → (is_first k.under ≡ false) × (k.under ≢ Nothing) → GoesFar (behind n k r) w
+      far_by r few ahead later = record {
+        busy = λ i. later.1 i.calls;
+        later = ap (λ (c : Counting). first_of c (behind n k r)) calls ∙ later.0;
+        bound = subst (λ (p : Pool). length w.pass.since ≤ most_accesses p w.pass.turns) (sym pool) few;
+        ahead = subst (λ (p : Pool). w.pass.turns < budget p) (sym pool) ahead;
+      }
+
+      far_on : (r : CallerTurn) → OnCallMade r (length w.pass.since ≤ most_accesses n.caller.pool w.pass.turns) → OnAhead r (w.pass.turns < budget n.caller.pool) → OnGoing (of_turn r) ((is_first k.under ≡ false) × (k.under ≢ Nothing)) → OnGoing (of_turn r) (GoesFar (behind n k r) w)
+      far_on More few ahead later = far_by More few ahead later
+      far_on (Decided a) few ahead later = far_by (Decided a) few ahead later
+      far_on (Done a) few ahead later = tt
+      far_on (Refused y) few ahead later = tt
+
     module _ (r : CallerTurn) (made : OnCallMade r (Access r)) (refused : OnCallRefused r (w ≡ v)) (went : Says r) (pool : k.pool ≡ n.caller.pool) where
       pub slot_went : NodeWent n call room1 v o (behind n k r) w o1 (of_turn r)
       slot_went = let l = leaves r made refused went in record {
         kept = λ i. record (behind n k r) { counting = calls i };
         pool = pool;
+        turns = l.turns;
+        going = far_on pool r went.bound went.ahead l.later;
         over = over_on r l.over;
         says = subst (λ (c : Counting). SaysAt c n.caller.pool n call room1 v o (behind n k r) w o1 (of_turn r)) (sym calls) (r, refl, went);
         enters = l.enters;

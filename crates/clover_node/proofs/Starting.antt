@@ -20,6 +20,7 @@ use Rattle.clover_dir.specs.Names.{IsNew}
 use Rattle.clover_call.specs.Beginning.{IsBegun, IsNext, MayStart, Starts, given_number, size_of}
 use Rattle.clover_call.specs.Caller.{CallerState, is_first}
 use Rattle.clover_call.specs.declared.under.Underway.{Underway}
+use Rattle.clover_call.specs.declared.under.Underway.TheVariants.{Nothing}
 use Rattle.clover_call.proofs.Begins.{made_first}
 use Rattle.clover_node.specs.Beginning.{NeedsBuffer, NodeStarts, counts_for, own_tag, room_of}
 use Rattle.clover_node.specs.Node.{NodeState, NodeHolds, Counts, IsAsked, IsCounting, IsIdle, IsUnder, first_of}
@@ -41,6 +42,12 @@ begun_first w own (Get key) u e is = ap is_first is ∙ e
 begun_first w own (Put key value) u e is = ap is_first is ∙ e
 begun_first w own (Delete key) u e is = ap is_first is ∙ e
 begun_first w own (Swap key expected value) u e (t, same, is) = ap is_first is ∙ e
+
+begun_busy : (w : Walking) (own : ℕ) (call : Call) (u : Underway) → IsBegun w own call u → u ≡ Nothing → ⊥
+begun_busy w own (Get key) u is e = let z = sym e ∙ is in cc
+begun_busy w own (Put key value) u is e = let z = sym e ∙ is in cc
+begun_busy w own (Delete key) u is e = let z = sym e ∙ is in cc
+begun_busy w own (Swap key expected value) u (t, same, is) e = let z = sym e ∙ is in cc
 
 -- the first tag of the stock
 first_number : (ts : List TagParts) → ts ≢ [] → (rest : List ℕ) × (map tag_number ts ≡ given_number (slice_get ts 0) ∷ rest)
@@ -86,6 +93,7 @@ module _ (n : NodeState) (call : Call) (idle : IsIdle n) (fits : size_of call �
       stocked = some;
       named = λ s w. (refl, subst (λ (z : ℕ). Starts n.caller z (own_tag n call) call k) (same_Some slot s (only s w)) starts);
       unnamed = λ new. absurd (new slot at);
+      busy = λ i. begun_busy _ (own_tag n call) call k.under starts.begun i.calls;
       first = ap (λ (c : Counting). first_of c (record n { caller = k })) idle.counts ∙ begun_first _ (own_tag n call) call k.under (made_first n.caller.pool slot _) starts.begun;
       holds = slot_holds;
     }
@@ -102,6 +110,12 @@ module _ (n : NodeState) (call : Call) (idle : IsIdle n) (fits : size_of call �
   asked_so (Delete key) m v h = h
   asked_so (Swap key expected value) m v h = h
 
+  busy_so : (c : Call) → counts_for c ≡ No → ⊥
+  busy_so (Get key) e = cc
+  busy_so (Put key value) e = cc
+  busy_so (Delete key) e = cc
+  busy_so (Swap key expected value) e = cc
+
   first_so : (c : Call) (m : NodeState) → first_of (counts_for c) m ≡ true
   first_so (Get key) m = refl
   first_so (Put key value) m = refl
@@ -115,6 +129,7 @@ module _ (n : NodeState) (call : Call) (idle : IsIdle n) (fits : size_of call �
     stocked = some;
     named = λ s w. absurd (new s w);
     unnamed = λ z. refl;
+    busy = λ i. busy_so call i.counts;
     first = first_so call (record n { counting = counts_for call });
     holds = λ other v room h. record {
         role = h.role;

@@ -8,7 +8,7 @@ use Rattle.clover_rule.specs.Lists.{Within}
 use Rattle.clover_rule.specs.declared.view.View.{View}
 use Rattle.clover_dir.specs.Names.{IsNew}
 use Rattle.clover_call.specs.Beginning.{Starts, given_number, size_of}
-use Rattle.clover_node.specs.Node.{NodeState, NodeHolds, node_first}
+use Rattle.clover_node.specs.Node.{NodeState, NodeHolds, IsIdle, node_first}
 use Rattle.clover_node.specs.declared.answer.NodeRefusal.{NodeRefusal}
 use Rattle.clover_node.specs.declared.answer.NodeRefusal.TheVariants.{TooLong, NeedsStock}
 use Rattle.clover_node.specs.declared.counting.Counting.{Counting}
@@ -51,5 +51,6 @@ pub record NodeStarts (n : NodeState) (call : Call) (n1 : NodeState) : Type 0 wh
   pub stocked : NeedsBuffer n call → n.stock ≢ []
   pub named : (slot : ℕ) → Within (slot, key_of call) n.names → (n1 ≡ record n { caller = n1.caller }) × Starts n.caller slot (own_tag n call) call n1.caller
   pub unnamed : IsNew (key_of call) n.names → n1 ≡ record n { counting = counts_for call }
+  pub busy : IsIdle n1 → ⊥
   pub first : node_first n1 ≡ true
   pub holds : (other : Call) (v : View) (room : ValueBuf) → NodeHolds n other v room → NodeHolds n1 call v room

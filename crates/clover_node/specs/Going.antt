@@ -1,8 +1,8 @@
 -- One step of a node: how its call goes on, and what the turn says of the call, the stock, the room and what the client knows.
-use Rattle.std.specs.Prelude.{◌≡◌, ◌⊎◌, ℕ, ◌<◌, ◌≤◌, List, [], ◌∷◌, ◌++◌, drop, length, true, Option, Some}
+use Rattle.std.specs.Prelude.{◌≡◌, ◌⊎◌, ℕ, ◌<◌, ◌≤◌, List, [], ◌∷◌, ◌++◌, drop, length, false, true, Option, Some}
 use Rattle.clover_words.specs.declared.bytes.ValueBuf.{ValueBuf}
 use Rattle.clover_words.specs.declared.pool.Pool.{Pool}
-use Rattle.clover_words.specs.Tag.{TagParts}
+use Rattle.clover_words.specs.Tag.{TagParts, tag_number}
 use Rattle.clover_map.specs.declared.call.Call.{Call}
 use Rattle.clover_map.specs.declared.call.Reply.{Reply}
 use Rattle.clover_map.specs.declared.call.Reply.TheVariants.{Absent as AbsentReply}
@@ -14,7 +14,7 @@ use Rattle.clover_rule.specs.declared.view.View.{View}
 use Rattle.clover_port.specs.Told.{Open, Made}
 use Rattle.clover_walk.specs.Walking.{budget, most_accesses}
 use Rattle.clover_call.specs.Going.{GoesOn, Went, Stays}
-use Rattle.clover_call.specs.Caller.{HasCommitted, IsUncommitted}
+use Rattle.clover_call.specs.Caller.{HasCommitted, IsUncommitted, new_tag}
 use Rattle.clover_call.specs.Turning.{reply_in}
 use Rattle.clover_call.specs.declared.answer.Answer.{Answer}
 use Rattle.clover_call.specs.declared.answer.Answer.TheVariants.{Absent}
@@ -23,9 +23,9 @@ use Rattle.clover_call.specs.declared.under.Underway.{Underway}
 use Rattle.clover_call.specs.declared.under.Underway.TheVariants.{Nothing, Get, Write}
 use Rattle.clover_node.specs.Asking.{Asking, due_asking, after_asking}
 use Rattle.clover_node.specs.Mirroring.{NodeMirrors, TellsOf}
-use Rattle.clover_node.specs.Node.{NodeState, IsIdle, IsPut, node_step, node_first}
-use Rattle.clover_node.specs.Turning.{OnMade, OnOver, of_turn, count_turn}
-use Rattle.clover_node.specs.declared.answer.NodeRefusal.TheVariants.{NeedsNames}
+use Rattle.clover_node.specs.Node.{NodeState, IsIdle, IsPut, node_first}
+use Rattle.clover_node.specs.Turning.{OnGoing, OnOver, of_turn, count_turn}
+use Rattle.clover_node.specs.declared.answer.NodeRefusal.TheVariants.{Linked, NeedsNames}
 use Rattle.clover_node.specs.declared.answer.NodeTurn.{NodeTurn}
 use Rattle.clover_node.specs.declared.answer.NodeTurn.TheVariants.{More, Decided, Done, Refused}
 use Rattle.clover_node.specs.declared.counting.Counting.{Counting}
@@ -92,10 +92,27 @@ Enters (Decided a) x call room1 v w = w.pass.calls ≡ with_entry v call (reply_
 Enters (Done a) x call room1 v w = (HasCommitted x → w.pass.calls ≡ v.pass.calls) × (IsOpen x → w.pass.calls ≡ with_entry v call (reply_in a room1))
 Enters t x call room1 v w = w.pass.calls ≡ v.pass.calls
 
+-- the turn says whether the call had committed and has, and by which tag
+abbrev pub NodeTurns : NodeTurn → Underway → Underway → Call → ValueBuf → Type 0
+NodeTurns More x y call room1 = ((IsOpen x × IsOpen y) ⊎ (HasCommitted x × HasCommitted y)) × (new_tag y ≡ new_tag x)
+NodeTurns (Decided a) x y call room1 = IsOpen x × HasCommitted y × (new_tag y ≡ new_tag x) × (reply_in a room1 ≡ reply_of (new_tag x) call)
+NodeTurns (Done a) x y call room1 = IsOpen x ⊎ (HasCommitted x × (reply_in a room1 ≡ reply_of (new_tag x) call))
+NodeTurns (Refused (Linked t)) x y call room1 = HasCommitted x × (tag_number t ≡ new_tag x)
+NodeTurns (Refused z) x y call room1 = IsOpen x
+
+-- a call that goes on is under way, and has made an access, and no more accesses than its turns allow, which are below the budget
+pub record GoesFar (n1 : NodeState) (w : View) : Type 0 where
+  pub busy : IsIdle n1 → ⊥
+  pub later : node_first n1 ≡ false
+  pub bound : length w.pass.since ≤ most_accesses n1.caller.pool w.pass.turns
+  pub ahead : w.pass.turns < budget n1.caller.pool
+
 -- What a step that came to this turn says of the node n before it and n1 behind it, of its call, of the room, and of what the client knew and knows.
 pub record NodeWent (n : NodeState) (call : Call) (room1 : ValueBuf) (v : View) (o : Option Open) (n1 : NodeState) (w : View) (o1 : Option Open) (t : NodeTurn) : Type 0 where
   pub kept : n1 ≡ record n { caller = n1.caller; counting = No; stock = stock_behind t n.stock }
   pub pool : n1.caller.pool ≡ n.caller.pool
+  pub turns : NodeTurns t n.caller.under n1.caller.under call room1
+  pub going : OnGoing t (GoesFar n1 w)
   pub over : OnOver t (IsIdle n1)
   pub says : SaysAt n.counting n.caller.pool n call room1 v o n1 w o1 t
   pub enters : Enters t n.caller.under call room1 v w

@@ -4,6 +4,8 @@ ghost use Rattle.clover_map.specs.declared.call.Call.{Call};
 ghost use Rattle.clover_node.specs.Going.{NodeGoesOn, NodeIsDue, NodeWent, stock_behind};
 ghost use Rattle.clover_node.specs.Node.{NodeHolds, HasNames, IsCounting, IsIdle, count_of, node_step, node_first};
 ghost use Rattle.clover_node.specs.Turning.{OnMade, OnRefused, count_turn};
+ghost use Rattle.clover_node.specs.declared.answer.NodeRefusal.TheVariants.{Unreached as IsUnreached};
+ghost use Rattle.clover_node.specs.declared.answer.NodeTurn.TheVariants.{Refused as IsRefused};
 ghost use Rattle.clover_node.specs.declared.counting.Counting.TheVariants.{No as IsNo};
 
 use super::Node;
@@ -75,7 +77,7 @@ impl Node {
         requires pool { P.pool port.old ≡ self.old.caller.pool }
         requires holds { HasNames self.old (P.view port.old) }
         ensures made { OnMade result ((x : ℕ) × P.made port.old (count_of self.old.counting call) true x port.new × (result ≡ count_turn self.old.counting (length self.old.names) x)) }
-        ensures refused { OnRefused result (P.failed port.old port.new) }
+        ensures refused { OnRefused result (P.failed port.old port.new × (result ≡ IsRefused IsUnreached)) }
         ensures value { self.new ≡ record self.old { counting = IsNo } }
     {
         let counting = self.counting;
