@@ -1,13 +1,12 @@
 -- A call that is made at once: what holds of it behind each step, that its steps end, and what it came to.
 use Prim.Native.Nat.{suc}
-use Rattle.std.proofs.Common.{◌≡◌, ℕ, ◌+◌, ◌-◌, ◌*◌, ◌≤◌, ◌<◌, mul-le-mul_right, List, [], ◌∷◌, ◌++◌, length, ◌⊎◌, inl, inr, Bool, true, false, cond, refl, sym, ap, ◌∙◌, subst, arith}
+use Rattle.std.proofs.Common.{◌≡◌, ℕ, ◌+◌, ◌-◌, ◌≤◌, ◌<◌, mul-le-mul_right, List, [], ◌∷◌, ◌++◌, length, ◌⊎◌, inl, inr, Bool, true, false, cond, refl, sym, ap, ◌∙◌, subst, arith}
 use Rattle.std.specs.Prelude.{Option}
 use Rattle.clover_words.specs.declared.bytes.ValueBuf.{ValueBuf}
 use Rattle.clover_words.specs.declared.pool.Pool.{Pool}
-use Rattle.clover_words.specs.Tag.{TagParts, tag_number}
+use Rattle.clover_words.specs.Tag.{TagParts}
 use Rattle.clover_map.specs.declared.call.Call.{Call}
 use Rattle.clover_map.specs.declared.call.Reply.{Reply}
-use Rattle.clover_map.specs.declared.call.Entry.{Entry}
 use Rattle.clover_rule.specs.Steps.{Step, act_of, number_of, reply_of}
 use Rattle.clover_rule.specs.declared.access.Act.{Act}
 use Rattle.clover_rule.specs.declared.view.Role.TheVariants.{Client}
@@ -24,8 +23,8 @@ use Rattle.clover_call.specs.Turning.{reply_in}
 use Rattle.clover_call.specs.declared.answer.Answer.{Answer}
 use Rattle.clover_call.specs.declared.under.Underway.{Underway}
 use Rattle.clover_call.specs.declared.under.Underway.TheVariants.{Nothing, Get, Write}
-use Rattle.clover_node.specs.Going.{GoesFar, IsOpen, NodeTurns, NodeWent, with_entry}
-use Rattle.clover_node.specs.Node.{NodeState, NodeHolds, IsAsked, IsCounting, IsIdle, first_of, node_first, node_step}
+use Rattle.clover_node.specs.Going.{GoesFar, IsOpen, NodeWent, with_entry}
+use Rattle.clover_node.specs.Node.{NodeState, NodeHolds, IsAsked, IsIdle, first_of, node_first}
 use Rattle.clover_node.proofs.OnSlot.{open_apart}
 use Rattle.clover_node.specs.Trying.{Adds, Finished, most_of, spent}
 use Rattle.clover_node.specs.Turning.{OnGoing, OnMade}
@@ -202,3 +201,16 @@ module _ (call : Call) (v0 : View) (n : NodeState) (v : View) (room : ValueBuf) 
 pub made_on : {A : Type 0} (t : NodeTurn) → (t ≡ More) ⊎ ((a : Answer) × (t ≡ Decided a)) → OnMade t A → A
 made_on {A} t (inl e) h = subst (λ (u : NodeTurn). OnMade u A) e h
 made_on {A} t (inr (a, e)) h = subst (λ (u : NodeTurn). OnMade u A) e h
+
+-- where no call is under way nothing is said of a room
+pub any_room : (n : NodeState) (call : Call) (v : View) (room other : ValueBuf) → IsIdle n → NodeHolds n call v room → NodeHolds n call v other
+any_room n call v room other idle h = record {
+  role = h.role;
+  stock = h.stock;
+  names = h.names;
+  tags = h.tags;
+  slots = h.slots;
+  once = h.once;
+  caller = record { pool = h.caller.pool; client = h.caller.client; cursors = h.caller.cursors; call = subst (λ (u : Underway). CallHolds n.caller.pool u v other) (sym idle.calls) tt };
+  asked = h.asked;
+}

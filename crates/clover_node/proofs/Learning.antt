@@ -3,7 +3,7 @@ use Prim.Native.Nat.{zero, suc}
 use Rattle.std.proofs.Common.{◌≡◌, ℕ, ◌<◌, List, [], ◌∷◌, ◌++◌, length, take, get_or, refl, sym, ap, ◌∙◌, subst, arith}
 use Rattle.std.specs.Prelude.{Some}
 use Rattle.std.proofs.lemmas.List.{append_assoc}
-use Rattle.clover_rule.specs.Lists.{Within, nth}
+use Rattle.clover_rule.specs.Lists.{nth}
 use Rattle.clover_rule.specs.Names.{KeysOnce}
 use Rattle.clover_rule.proofs.Snocs.{within_nth}
 use Rattle.clover_rule.proofs.Tools.{nth_within}

@@ -1,21 +1,19 @@
 -- The load of the count by a call whose key the node does not know: that it may be made, and what it says and leaves.
-use Rattle.std.proofs.Common.{◌≡◌, ◌≢◌, ℕ, ◌==◌, ◌<◌, ◌≤◌, ◌⊎◌, List, [], ◌∷◌, ◌++◌, length, map, Bool, true, false, cond, eqb, inl, inr, refl, sym, ap, ◌∙◌, subst, arith, eqb-true, eq-eqb, ne_eqb}
+use Rattle.std.proofs.Common.{◌≡◌, ◌≢◌, ℕ, ◌==◌, ◌≤◌, ◌⊎◌, List, [], length, Bool, true, false, cond, eqb, inl, inr, refl, sym, ap, ◌∙◌, subst, arith, eqb-true, eq-eqb}
 use Rattle.std.specs.Prelude.{Option}
 use Rattle.clover_words.specs.declared.bytes.ValueBuf.{ValueBuf}
 use Rattle.clover_words.specs.declared.pool.Pool.{Pool}
 use Rattle.clover_words.specs.declared.word.Word.TheVariants.{Count}
-use Rattle.clover_words.specs.Tag.{TagParts, tag_number}
 use Rattle.clover_map.specs.History.{key_of}
 use Rattle.clover_map.specs.declared.call.Call.{Call}
 use Rattle.clover_map.specs.declared.call.Call.TheVariants.{Get, Put, Delete, Swap}
-use Rattle.clover_map.specs.declared.call.Entry.{Entry}
 use Rattle.clover_map.specs.declared.call.Reply.TheVariants.{Absent as AbsentReply}
 use Rattle.clover_rule.specs.Accesses.{Decides, NoBinding}
 use Rattle.clover_rule.specs.Asks.{Asks, MayMiss}
 use Rattle.clover_rule.specs.History.{named}
 use Rattle.clover_rule.specs.Learned.{counts, missed}
 use Rattle.clover_rule.specs.Lists.{Within}
-use Rattle.clover_rule.specs.Steps.{Step, ReadCount, AbsentCount, IsClient, act_of, number_of}
+use Rattle.clover_rule.specs.Steps.{Step, AbsentCount, IsClient, act_of, number_of}
 use Rattle.clover_rule.specs.declared.access.Act.{Act}
 use Rattle.clover_rule.specs.declared.access.Act.TheVariants.{Load}
 use Rattle.clover_rule.specs.declared.view.Role.{Role}
@@ -29,12 +27,11 @@ use Rattle.clover_call.specs.Caller.{CallHolds, HasCommitted}
 use Rattle.clover_call.specs.declared.answer.Answer.TheVariants.{Absent}
 use Rattle.clover_call.specs.declared.under.Underway.{Underway}
 use Rattle.clover_call.specs.declared.under.Underway.TheVariants.{Nothing}
-use Rattle.clover_node.specs.Asking.{Asking, Counts as ToCount, Misses, Lacks, counted, count_step, due_asking}
+use Rattle.clover_node.specs.Asking.{Asking, Counts as ToCount, Misses, Lacks, counted, count_step}
 use Rattle.clover_node.specs.Going.{CountSays, Enters, GoesAt, GoesFar, IsDueAt, IsOpen, Missed, NodeGoesOn, NodeIsDue, NodeTurns, NodeWent, SaysAt, stock_behind}
 use Rattle.clover_node.specs.Mirroring.{AskMirrors, TellsOf, UnderMirrors}
 use Rattle.clover_node.specs.Node.{NodeState, NodeHolds, Counts, IsAsked, IsCounting, IsIdle, IsUnder, count_of, first_of, node_first, node_step, step_of}
 use Rattle.clover_node.specs.Turning.{OnGoing, OnMade, OnOver, OnRefused, count_turn}
-use Rattle.clover_node.specs.declared.answer.NodeRefusal.{NodeRefusal}
 use Rattle.clover_node.specs.declared.answer.NodeRefusal.TheVariants.{Unreached, Behind, Linked, TooLong, NeedsStock, NeedsNames}
 use Rattle.clover_node.specs.declared.answer.NodeTurn.{NodeTurn}
 use Rattle.clover_node.specs.declared.answer.NodeTurn.TheVariants.{More, Decided, Done, Refused}

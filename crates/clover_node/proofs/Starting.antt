@@ -1,6 +1,6 @@
 -- How a node starts a call: what its client held before still holds, and is what the call needs.
-use Rattle.std.proofs.Common.{◌≡◌, ◌≢◌, ℕ, ◌<◌, ◌≤◌, List, [], ◌∷◌, map, Bool, true, refl, sym, ap, ◌∙◌, subst}
-use Rattle.std.specs.Prelude.{Option, Some, None, slice_get}
+use Rattle.std.proofs.Common.{◌≡◌, ◌≢◌, ℕ, ◌<◌, ◌≤◌, List, [], ◌∷◌, map, true, refl, sym, ap, ◌∙◌, subst}
+use Rattle.std.specs.Prelude.{Some, None, slice_get}
 use Rattle.std.proofs.lemmas.Option.{same_Some}
 use Rattle.clover_words.specs.declared.bytes.ValueBuf.{ValueBuf}
 use Rattle.clover_words.specs.declared.pool.Pool.{Pool}
@@ -14,7 +14,7 @@ use Rattle.clover_rule.specs.Views.{SlotsOnce}
 use Rattle.clover_rule.specs.declared.view.View.{View}
 use Rattle.clover_rule.proofs.Steps.{each_within}
 use Rattle.clover_rule.proofs.Snocs.{within_nth}
-use Rattle.clover_walk.specs.Walking.{Walking, key_at, made_walk}
+use Rattle.clover_walk.specs.Walking.{Walking, key_at}
 use Rattle.clover_walk.proofs.Calling.{made_holds}
 use Rattle.clover_dir.specs.Names.{IsNew}
 use Rattle.clover_call.specs.Beginning.{IsBegun, IsNext, MayStart, Starts, given_number, size_of}
@@ -23,10 +23,9 @@ use Rattle.clover_call.specs.declared.under.Underway.{Underway}
 use Rattle.clover_call.specs.declared.under.Underway.TheVariants.{Nothing}
 use Rattle.clover_call.proofs.Begins.{made_first}
 use Rattle.clover_node.specs.Beginning.{NeedsBuffer, NodeStarts, counts_for, own_tag, room_of}
-use Rattle.clover_node.specs.Node.{NodeState, NodeHolds, Counts, IsAsked, IsCounting, IsIdle, IsUnder, first_of}
+use Rattle.clover_node.specs.Node.{NodeState, NodeHolds, Counts, IsAsked, IsCounting, IsIdle, first_of}
 use Rattle.clover_node.specs.declared.counting.Counting.{Counting}
 use Rattle.clover_node.specs.declared.counting.Counting.TheVariants.{No}
-use Rattle.clover_node.proofs.Loading.{is_client}
 use Rattle.clover_node.proofs.OnSlot.{under_is}
 
 -- a slot that stands once has one key
@@ -132,15 +131,15 @@ module _ (n : NodeState) (call : Call) (idle : IsIdle n) (fits : size_of call �
     busy = λ i. busy_so call i.counts;
     first = first_so call (record n { counting = counts_for call });
     holds = λ other v room h. record {
-        role = h.role;
-        stock = h.stock;
-        names = h.names;
-        tags = h.tags;
-        slots = h.slots;
-        once = h.once;
-        caller = h.caller;
-        asked = asked_so call (record n { counting = counts_for call }) v (record { counts = counts_so call; unnamed = new; idle = idle.calls });
-      };
+      role = h.role;
+      stock = h.stock;
+      names = h.names;
+      tags = h.tags;
+      slots = h.slots;
+      once = h.once;
+      caller = h.caller;
+      asked = asked_so call (record n { counting = counts_for call }) v (record { counts = counts_so call; unnamed = new; idle = idle.calls });
+    };
   }
 
 -- what the caller asks for to start the call

@@ -1,6 +1,6 @@
 -- A call that writes, as its job, its flags and its bytes say: its key, its size, and the buffer that it needs.
 use Rattle.std.proofs.Common.{◌≡◌, ℕ, ◌≤◌, List, [], ◌∷◌, length, refl, arith}
-use Rattle.std.specs.Prelude.{Option, None, Result, Ok, Err, OnOk, slice_get}
+use Rattle.std.specs.Prelude.{None, Result, Ok, Err, OnOk, slice_get}
 use Rattle.clover_words.specs.Tag.{TagParts}
 use Rattle.clover_map.specs.History.{key_of}
 use Rattle.clover_map.specs.declared.bytes.Value.{Value}

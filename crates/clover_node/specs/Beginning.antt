@@ -12,7 +12,7 @@ use Rattle.clover_node.specs.Node.{NodeState, NodeHolds, IsIdle, node_first}
 use Rattle.clover_node.specs.declared.answer.NodeRefusal.{NodeRefusal}
 use Rattle.clover_node.specs.declared.answer.NodeRefusal.TheVariants.{TooLong, NeedsStock}
 use Rattle.clover_node.specs.declared.counting.Counting.{Counting}
-use Rattle.clover_node.specs.declared.counting.Counting.TheVariants.{No, Names, Absence}
+use Rattle.clover_node.specs.declared.counting.Counting.TheVariants.{Names, Absence}
 
 -- how many bytes a value may have
 abbrev pub room_of : NodeState → ℕ

@@ -16,7 +16,6 @@ use Rattle.clover_walk.specs.Walking.{budget, most_accesses}
 use Rattle.clover_call.specs.Going.{GoesOn, Went, Stays}
 use Rattle.clover_call.specs.Caller.{HasCommitted, IsUncommitted, new_tag}
 use Rattle.clover_call.specs.Turning.{reply_in}
-use Rattle.clover_call.specs.declared.answer.Answer.{Answer}
 use Rattle.clover_call.specs.declared.answer.Answer.TheVariants.{Absent}
 use Rattle.clover_call.specs.declared.answer.CallerTurn.{CallerTurn}
 use Rattle.clover_call.specs.declared.under.Underway.{Underway}
@@ -29,7 +28,7 @@ use Rattle.clover_node.specs.declared.answer.NodeRefusal.TheVariants.{Linked, Ne
 use Rattle.clover_node.specs.declared.answer.NodeTurn.{NodeTurn}
 use Rattle.clover_node.specs.declared.answer.NodeTurn.TheVariants.{More, Decided, Done, Refused}
 use Rattle.clover_node.specs.declared.counting.Counting.{Counting}
-use Rattle.clover_node.specs.declared.counting.Counting.TheVariants.{No, Names, Absence}
+use Rattle.clover_node.specs.declared.counting.Counting.TheVariants.{No}
 
 -- how the node goes on from n to n1 where its access found this number, to this turn: its caller does, or the count has ended the call
 abbrev pub GoesAt : Counting → NodeState → View → ValueBuf → Step → ℕ → NodeTurn → NodeState → View → ValueBuf → Type 0

@@ -8,7 +8,7 @@ use Rattle.clover_call.specs.Turning.{Tells}
 use Rattle.clover_call.specs.declared.answer.Answer.TheVariants.{Absent}
 use Rattle.clover_call.specs.declared.answer.CallerTurn.{CallerTurn}
 use Rattle.clover_call.specs.declared.under.Underway.{Underway}
-use Rattle.clover_call.specs.declared.under.Underway.TheVariants.{Nothing, Get, Write}
+use Rattle.clover_call.specs.declared.under.Underway.TheVariants.{Nothing}
 use Rattle.clover_node.specs.Asking.{Asking, Counts, Calls, Misses, Lacks}
 use Rattle.clover_node.specs.Node.{NodeState, Counts as CountsFor}
 use Rattle.clover_node.specs.Turning.{of_turn}
@@ -16,7 +16,7 @@ use Rattle.clover_node.specs.declared.answer.NodeRefusal.TheVariants.{NeedsNames
 use Rattle.clover_node.specs.declared.answer.NodeTurn.{NodeTurn}
 use Rattle.clover_node.specs.declared.answer.NodeTurn.TheVariants.{Done, Refused}
 use Rattle.clover_node.specs.declared.counting.Counting.{Counting}
-use Rattle.clover_node.specs.declared.counting.Counting.TheVariants.{No, Names, Absence}
+use Rattle.clover_node.specs.declared.counting.Counting.TheVariants.{No}
 
 -- what is under way on a slot is where the call of the definition is
 abbrev pub UnderMirrors : Underway → ValueBuf → Call → ℕ → Asking → Type 0

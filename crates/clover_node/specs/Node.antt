@@ -1,5 +1,5 @@
 -- A compute node: what it has of the server and under way, and what its client knows while that is so.
-use Rattle.std.specs.Prelude.{◌≡◌, ℕ, ◌<◌, List, [], ◌++◌, map, Bool, true}
+use Rattle.std.specs.Prelude.{◌≡◌, ℕ, ◌<◌, List, [], map, Bool, true}
 use Rattle.clover_words.specs.declared.bytes.ValueBuf.{ValueBuf}
 use Rattle.clover_words.specs.declared.pool.Pool.{Pool}
 use Rattle.clover_words.specs.Tag.{TagParts, tag_number}

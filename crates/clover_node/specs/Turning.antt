@@ -1,13 +1,12 @@
 -- What the turn of a node's step says.
-use Rattle.std.specs.Prelude.{◌≡◌, ℕ, eqb, if◌then◌else◌}
-use Rattle.clover_call.specs.declared.answer.Answer.{Answer}
+use Rattle.std.specs.Prelude.{ℕ, eqb, if◌then◌else◌}
 use Rattle.clover_call.specs.declared.answer.Answer.TheVariants.{Absent}
 use Rattle.clover_call.specs.declared.answer.CallerRefusal.{CallerRefusal}
 use Rattle.clover_call.specs.declared.answer.CallerRefusal.TheVariants.{Unreached as CallUnreached, Behind as CallBehind, Linked as CallLinked, TooLong as CallTooLong}
 use Rattle.clover_call.specs.declared.answer.CallerTurn.{CallerTurn}
 use Rattle.clover_call.specs.declared.answer.CallerTurn.TheVariants.{More as CallMore, Decided as CallDecided, Done as CallDone, Refused as CallRefused}
 use Rattle.clover_node.specs.declared.answer.NodeRefusal.{NodeRefusal}
-use Rattle.clover_node.specs.declared.answer.NodeRefusal.TheVariants.{Unreached, Behind, Linked, TooLong, NeedsStock, NeedsNames}
+use Rattle.clover_node.specs.declared.answer.NodeRefusal.TheVariants.{Unreached, Behind, Linked, TooLong, NeedsNames}
 use Rattle.clover_node.specs.declared.answer.NodeTurn.{NodeTurn}
 use Rattle.clover_node.specs.declared.answer.NodeTurn.TheVariants.{More, Decided, Done, Refused}
 use Rattle.clover_node.specs.declared.counting.Counting.{Counting}

@@ -1,6 +1,5 @@
-use Rattle.std.proofs.Common.{◌≡◌, ℕ, ◌≤◌, ◌++◌, length, take}
+use Rattle.std.proofs.Common.{◌≡◌, ◌++◌, take}
 use Rattle.clover_dir.specs.Bindings.{pairs_of}
-use Rattle.clover_dir.specs.Names.{NameList}
 use Rattle.clover_node.proofs.node.learn.Given as goal
 
 abbrev pub invariant-loop-binding : goal.invariant-loop-binding

@@ -1,6 +1,4 @@
-use Rattle.std.proofs.Common.{◌≡◌, ℕ, Bool, ap, ◌∙◌, sym, subst}
-use Rattle.clover_rule.specs.Steps.{Step}
-use Rattle.clover_call.specs.Caller.{is_first, next_step}
+use Rattle.std.proofs.Common.{◌≡◌, ℕ, ap, ◌∙◌, sym, subst}
 use Rattle.clover_node.specs.Going.{NodeGoesOn, NodeIsDue, NodeWent, stock_behind}
 use Rattle.clover_node.specs.Node.{NodeState, NodeHolds, IsIdle, node_first, node_step}
 use Rattle.clover_node.specs.Turning.{OnMade, of_turn}

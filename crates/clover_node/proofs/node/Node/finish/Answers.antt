@@ -1,6 +1,4 @@
 use Rattle.std.proofs.Common.{◌∙◌, sym}
-use Rattle.clover_words.specs.declared.pool.Pool.{Pool}
-use Rattle.clover_node.specs.Node.{NodeState, node_step, node_first}
 use Rattle.clover_node.proofs.Finishing.{finished_done, finished_refused, goes_fewer, goes_on, made_on}
 use Rattle.clover_node.proofs.node.Node.finish.Goals as goal
 

@@ -1,5 +1,5 @@
 use Prim.Native.Nat.{suc}
-use Rattle.std.proofs.Common.{◌≡◌, ℕ, ◌-◌}
+use Rattle.std.proofs.Common.{◌≡◌, ◌-◌}
 use Rattle.clover_node.specs.Trying.{most_of, spent}
 use Rattle.clover_node.proofs.Finishing.{IsUnderway}
 use Rattle.clover_node.proofs.node.Node.finish.Given as goal

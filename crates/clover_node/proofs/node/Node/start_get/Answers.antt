@@ -1,7 +1,6 @@
-use Rattle.std.proofs.Common.{◌≡◌, ℕ, List, refl, sym, ap, ◌∙◌, subst, arith}
+use Rattle.std.proofs.Common.{refl, sym, ap, ◌∙◌, subst, arith}
 use Rattle.clover_words.specs.declared.pool.Pool.{Pool}
 use Rattle.clover_map.specs.declared.call.Call.TheVariants.{Get}
-use Rattle.clover_rule.specs.Lists.{Within}
 use Rattle.clover_call.specs.Caller.{AreCursors}
 use Rattle.clover_node.specs.Beginning.{NodeStarts}
 use Rattle.clover_node.specs.Node.{NodeState, NodeHolds, IsIdle}

@@ -1,6 +1,5 @@
-use Rattle.std.proofs.Common.{◌≡◌, ◌≢◌, ℕ, ◌≤◌, List, [], length, refl, sym, ap, ◌∙◌, subst, arith}
-use Rattle.std.specs.Prelude.{Option, Some, None, slice_get}
-use Rattle.std.proofs.lemmas.Option.{same_Some}
+use Rattle.std.proofs.Common.{◌≡◌, ◌≢◌, ℕ, ◌≤◌, List, [], refl, sym, ap, ◌∙◌, subst, arith}
+use Rattle.std.specs.Prelude.{Some, None, slice_get}
 use Rattle.clover_words.specs.declared.pool.Pool.{Pool}
 use Rattle.clover_words.specs.Tag.{TagParts, tag_number}
 use Rattle.clover_map.specs.History.{key_of}
@@ -43,8 +42,8 @@ returns-in_default-clause-started c =
     let new : IsNew key n.names = subst (λ (s : NodeState). IsNew key s.names) c.self.view_is (c.in_default.ensures.none.0 refl) in
     let fits : size_of call ≤ room_of n = let small = write_size job key value in let less = c.if-length-room.false in let room = c.room-room.ensures ∙ ap room_of c.self.view_is in omega arith in
     on_ok c.start_count.result (λ h. let e = h key value in
-      subst (λ (s : NodeState). NodeStarts n call s) (sym e.0)
-      (started_count n call c.requires.idle fits (λ b. e.1 (needs_new n job key value new b)) (subst (λ (k : List ℕ). IsNew k n.names) (sym (write_key job key value)) new))) c.start_count.ensures.started
+    subst (λ (s : NodeState). NodeStarts n call s) (sym e.0)
+    (started_count n call c.requires.idle fits (λ b. e.1 (needs_new n job key value new b)) (subst (λ (k : List ℕ). IsNew k n.names) (sym (write_key job key value)) new))) c.start_count.ensures.started
 
 pub returns-in_default-first-clause-refused : goal.returns-in_default-first-clause-refused
 returns-in_default-first-clause-refused c =
