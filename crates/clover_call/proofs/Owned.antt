@@ -1,7 +1,6 @@
 -- What a client owns behind a step of its call: its stock, of which a commit takes the first tag, and its own calls, to which the call comes where an access decides it.
-use Rattle.std.proofs.Common.{◌≡◌, ℕ, ◌==◌, List, [], ◌∷◌, ◌++◌, ◌⊎◌, inl, inr, Bool, true, false, cond, refl, sym, ap, ◌∙◌, subst, eq-eqb}
+use Rattle.std.proofs.Common.{◌≡◌, ℕ, [], ◌∷◌, ◌++◌, Bool, cond, refl, ap, ◌∙◌, eq-eqb}
 use Rattle.std.specs.Prelude.{Option}
-use Rattle.clover_words.specs.declared.bytes.ValueBuf.{ValueBuf}
 use Rattle.clover_words.specs.declared.pool.Pool.{Pool}
 use Rattle.clover_words.specs.Version.{unlinked}
 use Rattle.clover_map.specs.declared.call.Call.{Call}
@@ -12,14 +11,10 @@ use Rattle.clover_rule.specs.Steps.{Step, LoadNext, DecideNext, RaiseNext, LinkN
 use Rattle.clover_rule.specs.Words.{next_of}
 use Rattle.clover_rule.specs.declared.view.View.{View}
 use Rattle.clover_port.specs.Told.{Open, Made}
-use Rattle.clover_cache.specs.Node.{Known}
 use Rattle.clover_walk.specs.Ending.{Ended, Commits}
 use Rattle.clover_walk.proofs.Endings.{IsPlain, kept}
-use Rattle.clover_call.specs.Going.{IsQuiet, Stays, Went}
-use Rattle.clover_call.specs.Caller.{HasCommitted, IsUncommitted, call_under, slot_of, new_tag}
-use Rattle.clover_call.specs.Turning.{reply_in}
-use Rattle.clover_call.specs.declared.answer.Answer.{Answer}
-use Rattle.clover_call.specs.declared.answer.CallerTurn.TheVariants.{Decided, Done}
+use Rattle.clover_call.specs.Going.{IsQuiet}
+use Rattle.clover_call.specs.Caller.{HasCommitted, IsUncommitted}
 use Rattle.clover_call.specs.declared.under.Underway.{Underway}
 use Rattle.clover_call.specs.declared.under.Underway.TheVariants.{Nothing, Get, Write}
 use Rattle.clover_call.proofs.GetStep.{differs, ended_calls}
@@ -62,7 +57,7 @@ module _ (p : Pool) (c : Call) (v : View) (o : Option Open) (w : View) (o1 : Opt
   pub ended_owns : (r : Reply) → Ended p c r v o w o1 → (w.pass.stock ≡ v.pass.stock) × (w.pass.calls ≡ v.pass.calls ++ link_entry v (client v) c r ∷ [])
   ended_owns r e = (
     ap (λ (u : View). u.pass.stock) e.made.told.next
-    ∙ ap (λ (k : Bool). (cond k (decided v e.made.now.history e.tag c r) (seen e.slot e.tag v (next_of (unlinked e.tag)))).pass.stock) (eq-eqb (unlinked e.tag) (unlinked e.tag) refl),
+        ∙ ap (λ (k : Bool). (cond k (decided v e.made.now.history e.tag c r) (seen e.slot e.tag v (next_of (unlinked e.tag)))).pass.stock) (eq-eqb (unlinked e.tag) (unlinked e.tag) refl),
     ended_calls p c r v o w o1 e,
   )
 

@@ -1,4 +1,5 @@
 pub mod Loading
+pub mod Counted
 pub mod OnSlot
 pub mod Starting
 pub mod Writing

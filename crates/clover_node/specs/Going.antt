@@ -1,5 +1,5 @@
 -- One step of a node: how its call goes on, and what the turn says of the call, the stock, the room and what the client knows.
-use Rattle.std.specs.Prelude.{◌≡◌, ◌⊎◌, ℕ, ◌<◌, ◌≤◌, List, [], ◌∷◌, ◌++◌, drop, length, false, true, Option, Some}
+use Rattle.std.specs.Prelude.{◌≡◌, ◌⊎◌, ℕ, ◌<◌, ◌≤◌, List, [], ◌∷◌, ◌++◌, drop, length, Bool, false, true, Option, Some}
 use Rattle.clover_words.specs.declared.bytes.ValueBuf.{ValueBuf}
 use Rattle.clover_words.specs.declared.pool.Pool.{Pool}
 use Rattle.clover_words.specs.Tag.{TagParts, tag_number}
@@ -22,8 +22,8 @@ use Rattle.clover_call.specs.declared.under.Underway.{Underway}
 use Rattle.clover_call.specs.declared.under.Underway.TheVariants.{Nothing, Get, Write}
 use Rattle.clover_node.specs.Asking.{Asking, due_asking, after_asking}
 use Rattle.clover_node.specs.Mirroring.{NodeMirrors, TellsOf}
-use Rattle.clover_node.specs.Node.{NodeState, IsIdle, IsPut, node_first}
-use Rattle.clover_node.specs.Turning.{OnGoing, OnOver, of_turn, count_turn}
+use Rattle.clover_node.specs.Node.{NodeState, IsIdle, IsPut, node_first, node_step}
+use Rattle.clover_node.specs.Turning.{OnGoing, OnMade, OnOver, of_turn, count_turn}
 use Rattle.clover_node.specs.declared.answer.NodeRefusal.TheVariants.{Linked, NeedsNames}
 use Rattle.clover_node.specs.declared.answer.NodeTurn.{NodeTurn}
 use Rattle.clover_node.specs.declared.answer.NodeTurn.TheVariants.{More, Decided, Done, Refused}
@@ -49,6 +49,10 @@ pub record IsDueAt (n : NodeState) (step : Step) (x : ℕ) (n1 : NodeState) (roo
 -- of a call that is under way
 abbrev pub NodeIsDue : NodeState → ValueBuf → Step → ℕ → NodeState → ValueBuf → NodeTurn → Type 0
 NodeIsDue n room step x n1 room1 t = (call : Call) (own : ℕ) (a : Asking) → NodeMirrors n room call own a → IsDueAt n step x n1 room1 t call own a
+
+-- What an access that was made was, where M tells that it was a step, the first of its call or a later one, and found a number: the node's next step; how the node goes on by it; and that this is what was due.
+abbrev pub NodeMade : (Step → Bool → ℕ → Type 0) → NodeState → Call → View → ValueBuf → NodeState → View → ValueBuf → NodeTurn → Type 0
+NodeMade M n call v room n1 w room1 t = OnMade t ((x : ℕ) × M (node_step n call v room) (node_first n) x × NodeGoesOn n v room (node_step n call v room) x t n1 w room1 × NodeIsDue n room (node_step n call v room) x n1 room1 t)
 
 -- the load of the count gave the number of the client's names, among which the call's key is not, and the accesses of the call decide that it has nothing
 pub record Missed (p : Pool) (call : Call) (v : View) (o : Option Open) (w : View) (o1 : Option Open) : Type 0 where

@@ -50,13 +50,14 @@ pub record Finished (call : Call) (v : View) (room1 : ValueBuf) (n1 : NodeState)
   pub adds : Adds t call room1 v w
 
 -- the node n did not start the call, and nothing has changed
-pub record Unstarted (n : NodeState) (call : Call) (v : View) (n1 : NodeState) (w : View) (t : NodeTurn) : Type 0 where
+pub record Unstarted (n : NodeState) (call : Call) (v : View) (o : Option Open) (n1 : NodeState) (w : View) (o1 : Option Open) (t : NodeTurn) : Type 0 where
   pub refusal : NodeRefusal
   pub is : t ≡ Refused refusal
   pub cause : Refuses n call refusal
   pub node : n1 ≡ n
   pub view : w ≡ v
+  pub told : o1 ≡ o
 
 -- A call that writes: it was not started, or came to this end; what it answers has no value in any room.
-abbrev pub Tried : NodeState → Call → View → NodeState → View → Option Open → NodeTurn → Type 0
-Tried n call v n1 w o1 t = Unstarted n call v n1 w t ⊎ ((room : ValueBuf) × Finished call v room n1 w o1 t)
+abbrev pub Tried : NodeState → Call → View → Option Open → NodeState → View → Option Open → NodeTurn → Type 0
+Tried n call v o n1 w o1 t = Unstarted n call v o n1 w o1 t ⊎ ((room : ValueBuf) × Finished call v room n1 w o1 t)

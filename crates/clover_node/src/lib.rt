@@ -12,4 +12,3 @@ pub use answer::{NodeRefusal, NodeTurn};
 pub use clover_call::Answer;
 pub use counting::Counting;
 pub use node::Node;
-pub use stock::Stock;

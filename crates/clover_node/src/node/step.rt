@@ -1,8 +1,8 @@
 // One access of a node's call.
 ghost use Rattle.std.specs.Prelude.{◌≡◌, ◌≤◌, ℕ, true, length};
 ghost use Rattle.clover_map.specs.declared.call.Call.{Call};
-ghost use Rattle.clover_node.specs.Going.{NodeGoesOn, NodeIsDue, NodeWent, stock_behind};
-ghost use Rattle.clover_node.specs.Node.{NodeHolds, HasNames, IsCounting, IsIdle, count_of, node_step, node_first};
+ghost use Rattle.clover_node.specs.Going.{NodeMade, NodeWent, stock_behind};
+ghost use Rattle.clover_node.specs.Node.{NodeHolds, HasNames, IsCounting, IsIdle, count_of};
 ghost use Rattle.clover_node.specs.Turning.{OnMade, OnRefused, count_turn};
 ghost use Rattle.clover_node.specs.declared.answer.NodeRefusal.TheVariants.{Unreached as IsUnreached};
 ghost use Rattle.clover_node.specs.declared.answer.NodeTurn.TheVariants.{Refused as IsRefused};
@@ -32,7 +32,7 @@ impl Node {
         requires busy { IsIdle self.old → ⊥ }
         requires pool { P.pool port.old ≡ self.old.caller.pool }
         requires holds { NodeHolds self.old call (P.view port.old) into.old }
-        ensures made { OnMade result ((x : ℕ) × P.made port.old (node_step self.old call (P.view port.old) into.old) (node_first self.old) x port.new × NodeGoesOn self.old (P.view port.old) into.old (node_step self.old call (P.view port.old) into.old) x result self.new (P.view port.new) into.new × NodeIsDue self.old into.old (node_step self.old call (P.view port.old) into.old) x self.new into.new result) }
+        ensures made { NodeMade (λ step first x. P.made port.old step first x port.new) self.old call (P.view port.old) into.old self.new (P.view port.new) into.new result }
         ensures went { NodeWent self.old call into.new (P.view port.old) (P.told port.old) self.new (P.view port.new) (P.told port.new) result }
         ensures refused { OnRefused result (P.failed port.old port.new × (into.new ≡ into.old)) }
         ensures holds { NodeHolds self.new call (P.view port.new) into.new }
@@ -50,7 +50,7 @@ impl Node {
         requires busy { IsIdle self.old → ⊥ }
         requires pool { P.pool port.old ≡ self.old.caller.pool }
         requires holds { NodeHolds self.old call (P.view port.old) into.old }
-        ensures made { OnMade result ((x : ℕ) × P.made port.old (node_step self.old call (P.view port.old) into.old) (node_first self.old) x port.new × NodeGoesOn self.old (P.view port.old) into.old (node_step self.old call (P.view port.old) into.old) x result self.new (P.view port.new) into.new × NodeIsDue self.old into.old (node_step self.old call (P.view port.old) into.old) x self.new into.new result) }
+        ensures made { NodeMade (λ step first x. P.made port.old step first x port.new) self.old call (P.view port.old) into.old self.new (P.view port.new) into.new result }
         ensures went { NodeWent self.old call into.new (P.view port.old) (P.told port.old) self.new (P.view port.new) (P.told port.new) result }
         ensures refused { OnRefused result (P.failed port.old port.new × (into.new ≡ into.old)) }
         ensures holds { NodeHolds self.new call (P.view port.new) into.new }

@@ -73,7 +73,9 @@ fn start(alloc: Global, call: &Call) -> Result<(bool, Option<(usize, usize)>, bo
 #[test]
 fn a_put_needs_room_and_stock(rt: HostRuntime) -> Result<(), Fail> {
     let alloc = rt.alloc();
-    assert!(rt; start(alloc, &put_of(alloc, b"0123456789abcdefg")?)? == (false, Some((17, 16)), false));
+    assert!(rt;
+        start(alloc, &put_of(alloc, b"0123456789abcdefg")?)? == (false, Some((17, 16)), false)
+    );
     assert!(rt; start(alloc, &put_of(alloc, b"0123456789abcdef")?)? == (false, None, true));
     Ok(())
 }
@@ -81,8 +83,22 @@ fn a_put_needs_room_and_stock(rt: HostRuntime) -> Result<(), Fail> {
 #[test]
 fn other_calls_on_an_unknown_key_need_none(rt: HostRuntime) -> Result<(), Fail> {
     let alloc = rt.alloc();
-    assert!(rt; start(alloc, &Call::Get { key: Key::of(b"a")? })? == (true, None, false));
-    assert!(rt; start(alloc, &Call::Delete { key: Key::of(b"a")? })? == (true, None, false));
+    assert!(rt;
+        start(
+            alloc,
+            &Call::Get {
+                key: Key::of(b"a")?
+            }
+        )? == (true, None, false)
+    );
+    assert!(rt;
+        start(
+            alloc,
+            &Call::Delete {
+                key: Key::of(b"a")?
+            }
+        )? == (true, None, false)
+    );
     Ok(())
 }
 
@@ -98,7 +114,13 @@ fn a_grant_comes_behind_what_the_node_has(rt: HostRuntime) -> Result<(), Fail> {
         tags: [tag; 64],
         count: 2,
     };
-    node.accept(&batch, &[Binding { slot: 1, key: Key::of(b"a")? }]);
+    node.accept(
+        &batch,
+        &[Binding {
+            slot: 1,
+            key: Key::of(b"a")?,
+        }],
+    );
     assert!(rt; node.known() == 1);
     assert!(rt; node.stock() == 2);
     assert!(rt; !node.is_busy());

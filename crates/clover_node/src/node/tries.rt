@@ -34,6 +34,8 @@ impl Node {
         requires holds { NodeHolds self.old (GetOf key.now) (P.view port.old) into.old }
         ensures finished { Finished (GetOf key.now) (P.view port.old) into.new self.new (P.view port.new) (P.told port.new) (end_of result) }
         ensures faults { OnRefused (end_of result) (Rose (P.faults port.old) (P.faults port.new)) }
+        ensures port { (P.pool port.new ≡ P.pool port.old) × (P.table port.new ≡ P.table port.old) × (P.lender port.new ≡ P.lender port.old) }
+        ensures pool { P.pool port.new ≡ self.new.caller.pool }
         ensures idle { IsIdle self.new }
         ensures holds { NodeHolds self.new (GetOf key.now) (P.view port.new) into.new }
     {
@@ -51,8 +53,10 @@ impl Node {
         requires idle { IsIdle self.old }
         requires pool { P.pool port.old ≡ self.old.caller.pool }
         requires holds { (room : Room) × NodeHolds self.old (PutOf key.now (record { flags = flags; bytes = bytes.now })) (P.view port.old) room }
-        ensures tried { Tried self.old (PutOf key.now (record { flags = flags; bytes = bytes.now })) (P.view port.old) self.new (P.view port.new) (P.told port.new) (end_of result) }
+        ensures tried { Tried self.old (PutOf key.now (record { flags = flags; bytes = bytes.now })) (P.view port.old) (P.told port.old) self.new (P.view port.new) (P.told port.new) (end_of result) }
         ensures faults { OnRefused (end_of result) (Rose (P.faults port.old) (P.faults port.new)) }
+        ensures port { (P.pool port.new ≡ P.pool port.old) × (P.table port.new ≡ P.table port.old) × (P.lender port.new ≡ P.lender port.old) }
+        ensures pool { P.pool port.new ≡ self.new.caller.pool }
         ensures idle { IsIdle self.new }
         ensures holds { (room : Room) → NodeHolds self.new (PutOf key.now (record { flags = flags; bytes = bytes.now })) (P.view port.new) room }
     {
@@ -64,8 +68,10 @@ impl Node {
         requires idle { IsIdle self.old }
         requires pool { P.pool port.old ≡ self.old.caller.pool }
         requires holds { (room : Room) × NodeHolds self.old (DeleteOf key.now) (P.view port.old) room }
-        ensures tried { Tried self.old (DeleteOf key.now) (P.view port.old) self.new (P.view port.new) (P.told port.new) (end_of result) }
+        ensures tried { Tried self.old (DeleteOf key.now) (P.view port.old) (P.told port.old) self.new (P.view port.new) (P.told port.new) (end_of result) }
         ensures faults { OnRefused (end_of result) (Rose (P.faults port.old) (P.faults port.new)) }
+        ensures port { (P.pool port.new ≡ P.pool port.old) × (P.table port.new ≡ P.table port.old) × (P.lender port.new ≡ P.lender port.old) }
+        ensures pool { P.pool port.new ≡ self.new.caller.pool }
         ensures idle { IsIdle self.new }
         ensures holds { (room : Room) → NodeHolds self.new (DeleteOf key.now) (P.view port.new) room }
     {
@@ -84,8 +90,10 @@ impl Node {
         requires idle { IsIdle self.old }
         requires pool { P.pool port.old ≡ self.old.caller.pool }
         requires holds { (room : Room) × NodeHolds self.old (SwapOf key.now (tag_number expected) (record { flags = flags; bytes = bytes.now })) (P.view port.old) room }
-        ensures tried { Tried self.old (SwapOf key.now (tag_number expected) (record { flags = flags; bytes = bytes.now })) (P.view port.old) self.new (P.view port.new) (P.told port.new) (end_of result) }
+        ensures tried { Tried self.old (SwapOf key.now (tag_number expected) (record { flags = flags; bytes = bytes.now })) (P.view port.old) (P.told port.old) self.new (P.view port.new) (P.told port.new) (end_of result) }
         ensures faults { OnRefused (end_of result) (Rose (P.faults port.old) (P.faults port.new)) }
+        ensures port { (P.pool port.new ≡ P.pool port.old) × (P.table port.new ≡ P.table port.old) × (P.lender port.new ≡ P.lender port.old) }
+        ensures pool { P.pool port.new ≡ self.new.caller.pool }
         ensures idle { IsIdle self.new }
         ensures holds { (room : Room) → NodeHolds self.new (SwapOf key.now (tag_number expected) (record { flags = flags; bytes = bytes.now })) (P.view port.new) room }
     {
@@ -106,6 +114,8 @@ impl Node {
         requires holds { NodeHolds self.old call (P.view port.old) into.old }
         ensures finished { Finished call (P.view port.old) into.new self.new (P.view port.new) (P.told port.new) (end_of result) }
         ensures faults { OnRefused (end_of result) (Rose (P.faults port.old) (P.faults port.new)) }
+        ensures port { (P.pool port.new ≡ P.pool port.old) × (P.table port.new ≡ P.table port.old) × (P.lender port.new ≡ P.lender port.old) }
+        ensures pool { P.pool port.new ≡ self.new.caller.pool }
         ensures idle { IsIdle self.new }
         ensures holds { NodeHolds self.new call (P.view port.new) into.new }
     {
@@ -128,8 +138,10 @@ impl Node {
         requires idle { IsIdle self.old }
         requires pool { P.pool port.old ≡ self.old.caller.pool }
         requires holds { (room : Room) × NodeHolds self.old call (P.view port.old) room }
-        ensures tried { Tried self.old call (P.view port.old) self.new (P.view port.new) (P.told port.new) (end_of result) }
+        ensures tried { Tried self.old call (P.view port.old) (P.told port.old) self.new (P.view port.new) (P.told port.new) (end_of result) }
         ensures faults { OnRefused (end_of result) (Rose (P.faults port.old) (P.faults port.new)) }
+        ensures port { (P.pool port.new ≡ P.pool port.old) × (P.table port.new ≡ P.table port.old) × (P.lender port.new ≡ P.lender port.old) }
+        ensures pool { P.pool port.new ≡ self.new.caller.pool }
         ensures idle { IsIdle self.new }
         ensures holds { (room : Room) → NodeHolds self.new call (P.view port.new) room }
     {
@@ -150,6 +162,8 @@ impl Node {
         requires holds { NodeHolds self.old call (P.view port.old) into.old }
         ensures finished { Finished call (P.view port.old) into.new self.new (P.view port.new) (P.told port.new) (end_of result) }
         ensures faults { OnRefused (end_of result) (Rose (P.faults port.old) (P.faults port.new)) }
+        ensures port { (P.pool port.new ≡ P.pool port.old) × (P.table port.new ≡ P.table port.old) × (P.lender port.new ≡ P.lender port.old) }
+        ensures pool { P.pool port.new ≡ self.new.caller.pool }
         ensures idle { IsIdle self.new }
         ensures holds { NodeHolds self.new call (P.view port.new) into.new }
     {

@@ -16,6 +16,7 @@ steps-preserved g c =
     record {
       under = goes_on g.call (P.view c.args.port.now) n (P.view p) c.steps.into i.under (P.told p) c.step.new.self (P.view q) (P.told q) c.step.new.into c.step.result c.in-More.is e.went e.holds;
       pool = left.0 ∙ i.pool ∙ sym e.went.pool;
+      port = (left.0 ∙ i.port.0, left.1 ∙ i.port.1, left.2 ∙ i.port.2);
       faults = left.3 ∙ i.faults;
     }
 

@@ -11,6 +11,7 @@ abbrev pub invariant-steps : goal.invariant-steps
 invariant-steps g l = record {
   under : IsUnderway g.call (g.P.Port.view l.fn.port) l.self (g.P.Port.view l.port) l.into;
   pool : g.P.Port.pool l.port ≡ l.self.caller.pool;
+  port : (g.P.Port.pool l.port ≡ g.P.Port.pool l.fn.port) × (g.P.Port.table l.port ≡ g.P.Port.table l.fn.port) × (g.P.Port.lender l.port ≡ g.P.Port.lender l.fn.port);
   faults : g.P.Port.faults l.port ≡ g.P.Port.faults l.fn.port;
 }
 

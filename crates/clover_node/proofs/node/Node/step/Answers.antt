@@ -5,7 +5,8 @@ use Rattle.clover_node.specs.Going.{NodeGoesOn, NodeIsDue, NodeWent}
 use Rattle.clover_node.specs.Node.{NodeState, NodeHolds, count_of, node_first, node_step}
 use Rattle.clover_node.specs.Turning.{OnMade}
 use Rattle.clover_node.specs.declared.counting.Counting.TheVariants.{Names, Absence}
-use Rattle.clover_node.proofs.Loading.{asked_counting, count_made, count_says, made_so, refused_so}
+use Rattle.clover_node.proofs.Counted.{asked_counting, count_made, made_so, refused_so}
+use Rattle.clover_node.proofs.Loading.{count_says}
 use Rattle.clover_node.proofs.node.Node.step.Goals as goal
 
 pub returns-in-Names-clause-made : goal.returns-in-Names-clause-made

@@ -6,6 +6,11 @@ use Rattle.clover_node.specs.Node.{NodeState, NodeHolds}
 use Rattle.clover_node.proofs.node.tests.node.Goals as goal
 
 pub returns : goal.returns
-returns c = (_, c.sent.ensures ∙ c.in_ok-make.ensures.value, refl, λ call room.
-    let v = alone (start_pass _ finite.empty [] (Client 1)) in
-    (v, subst (λ (n : NodeState). NodeHolds n call v room) (sym c.sent.ensures) (c.in_ok-make.ensures.holds call v room refl refl refl refl)))
+returns c = (
+  _,
+  c.sent.ensures ∙ c.in_ok-make.ensures.value,
+  refl,
+  λ call room.
+      let v = alone (start_pass _ finite.empty [] (Client 1)) in
+      (v, subst (λ (n : NodeState). NodeHolds n call v room) (sym c.sent.ensures) (c.in_ok-make.ensures.holds call v room refl refl refl refl)),
+)
