@@ -115,8 +115,8 @@ impl Caller {
         self.under = Underway::Get(GetCall::make(walk));
     }
 
-    /// Starts a call that writes these flags and bytes, as `start` does. The bytes have room in a buffer; a delete has no
-    /// flags and no bytes.
+    /// Starts a call that writes these flags and bytes, as `start` does. The bytes have room in a buffer; a delete has
+    /// no flags and no bytes.
     pub fn start_write(&mut self, slot: u32, own: Tag, job: Job, flags: u32, bytes: &[u8])
         requires idle { self.old.under ≡ IsNothing }
         requires slot { slot < self.old.pool.slots }
@@ -153,8 +153,8 @@ impl Caller {
 
     /// Makes the next access of the call under way, and goes on by what it found.
     ///
-    /// The port is of the caller's pool, and of the one client for which the caller makes all its calls; and the same room
-    /// is passed to all steps of a call. `Decided`, once in a call that writes, exactly where this access was the
+    /// The port is of the caller's pool, and of the one client for which the caller makes all its calls; and the same
+    /// room is passed to all steps of a call. `Decided`, once in a call that writes, exactly where this access was the
     /// exchange that linked its version. `Done`, where the call is over: a found value stands in the room then, and
     /// the slot's cursor is the tag at which the call ended. Else the room holds no promise to the caller. `Refused`,
     /// where the call is over without an answer: `Unreached` and `Linked` only where the access was refused, and

@@ -29,12 +29,12 @@ use Rattle.clover_node.specs.Asking.{Asking, Calls}
 use Rattle.clover_node.specs.Going.{Enters, GoesAt, GoesFar, IsDueAt, IsOpen, NodeGoesOn, NodeIsDue, NodeTurns, NodeWent, SaysAt, stock_behind, with_entry}
 use Rattle.clover_node.specs.Mirroring.{AskMirrors, UnderMirrors}
 use Rattle.clover_node.specs.Node.{NodeState, NodeHolds, IsAsked, IsIdle, IsUnder, first_of, node_first, node_step, step_of}
-use Rattle.clover_node.specs.Turning.{OnGoing, OnMade, OnOver, OnRefused, of_turn}
+use Rattle.clover_node.specs.Turning.{OnGoing, OnMade, OnOver, of_turn}
 use Rattle.clover_node.specs.declared.answer.NodeTurn.{NodeTurn}
 use Rattle.clover_node.specs.declared.counting.Counting.{Counting}
 use Rattle.clover_node.specs.declared.counting.Counting.TheVariants.{No}
 
--- what was shown where the access was made, or where it was refused
+-- what was shown where the access was made
 pub made_too : {A B : Type 0} (r : CallerTurn) → (A → B) → OnCallMade r A → OnMade (of_turn r) B
 made_too More f a = f a
 made_too (Decided x) f a = f a
@@ -43,15 +43,6 @@ made_too (Refused Unreached) f a = tt
 made_too (Refused (Behind n)) f a = f a
 made_too (Refused (Linked t)) f a = tt
 made_too (Refused (TooLong l m)) f a = f a
-
-pub refused_too : {A B : Type 0} (r : CallerTurn) → (A → B) → OnCallRefused r A → OnRefused (of_turn r) B
-refused_too More f a = tt
-refused_too (Decided x) f a = tt
-refused_too (Done x) f a = tt
-refused_too (Refused Unreached) f a = f a
-refused_too (Refused (Behind n)) f a = tt
-refused_too (Refused (Linked t)) f a = f a
-refused_too (Refused (TooLong l m)) f a = tt
 
 -- the same for what a caller's turn says
 pub map_made : {A B : Type 0} (r : CallerTurn) → (A → B) → OnCallMade r A → OnCallMade r B

@@ -66,7 +66,7 @@ IsAsked No n v call = IsUnder n.caller.under v call
 IsAsked Names n v call = IsCounting n call
 IsAsked Absence n v call = IsCounting n call
 
--- the view is of the node's client and pool, and has its names
+-- the view is of the node's client, and has its names
 pub record HasNames (n : NodeState) (v : View) : Type 0 where
   pub role : v.pass.role ≡ Client n.client
   pub names : v.pass.names ≡ n.names

@@ -19,8 +19,8 @@ pub enum NodeRefusal {
     TooLong { length: usize, room: usize },
     /// The call may need a buffer for a new version, and the stock is empty.
     NeedsStock,
-    /// The node has so many names, not the key's, and so many bindings there are: for a put the key has to be bound, and
-    /// for any other call there are bindings that the node does not know.
+    /// The node has so many names, not the key's, and so many bindings there are: for a put the key has to be bound,
+    /// and for any other call there are bindings that the node does not know.
     NeedsNames { known: u32, bound: u32 },
 }
 

@@ -7,6 +7,7 @@ pub enum Counting {
     No,
     /// For a put, whose key has to be bound: to tell how many names the node lacks.
     Names,
-    /// For any other call, which may end by it: where there is no binding that the node does not know, its key has none.
+    /// For any other call, which may end by it: where there is no binding that the node does not know, its key has
+    /// none.
     Absence,
 }

@@ -54,9 +54,9 @@ impl Model for Node {
 }
 
 impl Node {
-    /// A node of this client with nothing under way, an empty stock, no names and no cursors. It takes the room for the
-    /// names of all slots; no other call takes memory, but for a cursor, whose want changes no answer. `OutOfMemory` for
-    /// want of memory.
+    /// A node of this client with nothing under way, an empty stock, no names and no cursors. It takes the room for
+    /// the names of all slots; no other call takes memory, but for a cursor, whose want changes no answer.
+    /// `OutOfMemory` for want of memory.
     pub fn make(alloc: Global, setup: Setup, client: u32) -> Result<Node, OutOfMemory>
         ensures value { IfOk result (λ node. node ≡ first_node setup.pool client) }
         ensures holds { IfOk result (λ node. (call : Asked) (v : View) (room : Room) → v.pass.pool ≡ setup.pool → v.pass.role ≡ Client client → v.pass.stock ≡ [] → v.pass.names ≡ [] → NodeHolds node call v room) }

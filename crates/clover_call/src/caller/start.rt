@@ -1,5 +1,5 @@
-// How a caller begins a call: on its slot, from a cursor where it has one, and one that writes with a tag of its client's
-// stock.
+// How a caller begins a call: on its slot, from a cursor where it has one, and one that writes with a tag of its
+// client's stock.
 ghost use Rattle.std.specs.Prelude.{◌≡◌, ◌≤◌, ◌*◌, length};
 ghost use Rattle.clover_put.specs.Putting.{made_put};
 ghost use Rattle.clover_call.specs.Beginning.{IsGiven, IsBegun, HasTag, ExpectsTag, size_of, given_number};

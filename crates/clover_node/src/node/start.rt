@@ -22,10 +22,10 @@ use clover_words::Tag;
 impl Node {
     /// Starts a call. It makes no access, copies no key and takes no memory.
     ///
-    /// A call whose key is in the copy of the bindings goes on from the cursor that the node has for the key's slot, with
-    /// the first tag of the stock for its version. Any other call loads the count of bindings first. `TooLong`, exactly
-    /// where the value has more bytes than a buffer has room for. `NeedsStock`, exactly where else the stock is empty and
-    /// the call is a put, or a delete or a swap of a key in the copy. The node is as it was then.
+    /// A call whose key is in the copy of the bindings goes on from the cursor that the node has for the key's slot,
+    /// with the first tag of the stock for its version. Any other call loads the count of bindings first. `TooLong`,
+    /// exactly where the value has more bytes than a buffer has room for. `NeedsStock`, exactly where else the stock
+    /// is empty and the call is a put, or a delete or a swap of a key in the copy. The node is as it was then.
     pub fn start(&mut self, call: &Call) -> Result<(), NodeRefusal>
         requires idle { IsIdle self.old }
         requires expects { ExpectsTag call.now }

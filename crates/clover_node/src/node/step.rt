@@ -19,14 +19,14 @@ use std::marker::Brand;
 impl Node {
     /// Makes the next access of the call under way, and goes on by what it found.
     ///
-    /// The port is of the node's pool and client, whose view has the node's stock and names and what the call stands on;
-    /// and the same room is passed to all steps of a call. `Decided`, once in a call that writes, exactly where this
-    /// access was the exchange that linked its version; the first tag leaves the stock then, and at no other access.
-    /// `Done`, where the call is over: a found value stands in the room then. `Absent` of a key that the node does not
-    /// know, only where the count was loaded as the number of names. `Refused`, where the call is over without an answer:
-    /// `Unreached` and `Linked` only where the access was refused, `Behind` exactly where the turns of the call have
-    /// reached the budget, and `NeedsNames` exactly where the count was loaded, and as a greater number than that of the
-    /// names or for a put.
+    /// The port is of the node's pool and client, whose view has the node's stock and names and what the call stands
+    /// on; and the same room is passed to all steps of a call. `Decided`, once in a call that writes, exactly where
+    /// this access was the exchange that linked its version; the first tag leaves the stock then, and at no other
+    /// access. `Done`, where the call is over: a found value stands in the room then. `Absent` of a key that the node
+    /// does not know, only where the count was loaded as the number of names. `Refused`, where the call is over
+    /// without an answer: `Unreached` and `Linked` only where the access was refused, `Behind` exactly where the turns
+    /// of the call have reached the budget, and `NeedsNames` exactly where the count was loaded, and as a greater
+    /// number than that of the names or for a put.
     pub fn step<P: Port>(&mut self, port: &mut P, into: &mut ValueBuf) -> NodeTurn
         ghost call: { Call }
         requires busy { IsIdle self.old → ⊥ }

@@ -1,5 +1,5 @@
-// What a node has by a grant, and calls that start and that do not, on a pool whose buffers have room for sixteen bytes.
-// The steps are tried by the crates above, over a pool.
+// What a node has by a grant, and calls that start and that do not, on a pool whose buffers have room for sixteen
+// bytes. The steps are tried by the crates above, over a pool.
 ghost use Rattle.std.specs.Prelude.{◌≡◌, List, ℕ, IfOk};
 ghost use Rattle.clover_map.specs.declared.bytes.Value.{Value as Stored};
 ghost use Rattle.clover_map.specs.declared.call.Call.{Call as Asked};
@@ -55,8 +55,8 @@ fn put_of(alloc: Global, bytes: &[u8]) -> Result<Call, Fail>
     })
 }
 
-// What starting the call comes to on a node that has nothing: whether it is under way, the two numbers of `TooLong`, and
-// whether it needs stock.
+// What starting the call comes to on a node that has nothing: whether it is under way, the two numbers of `TooLong`,
+// and whether it needs stock.
 fn start(alloc: Global, call: &Call) -> Result<(bool, Option<(usize, usize)>, bool), Fail>
     requires expects { ExpectsTag call.now }
 {
