@@ -60,7 +60,7 @@ made_on_way p s None = tt
 made_on_way p s (Some t) = tt
 
 -- it is where the call of the definition begins
-mirrors : (p : Pool) (s : ℕ) (cursor : Option ℕ) (own : ℕ) (call : Call) (u : Underway) (room : ValueBuf) → IsBegun (made_walk p s cursor) own call u → Mirrors u room call own (begun_call p s cursor own call)
+pub mirrors : (p : Pool) (s : ℕ) (cursor : Option ℕ) (own : ℕ) (call : Call) (u : Underway) (room : ValueBuf) → IsBegun (made_walk p s cursor) own call u → Mirrors u room call own (begun_call p s cursor own call)
 mirrors p s cursor own (GetOf key) u room is = subst (λ (z : Underway). Mirrors z room (GetOf key) own (begun_call p s cursor own (GetOf key))) (sym is) ((key, refl), refl)
 mirrors p s cursor own (PutOf key value) u room is = subst (λ (z : Underway). Mirrors z room (PutOf key value) own (begun_call p s cursor own (PutOf key value))) (sym is) ((key, refl), refl, refl)
 mirrors p s cursor own (DeleteOf key) u room is = subst (λ (z : Underway). Mirrors z room (DeleteOf key) own (begun_call p s cursor own (DeleteOf key))) (sym is) ((key, refl), refl, refl)

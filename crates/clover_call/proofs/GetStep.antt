@@ -29,7 +29,7 @@ use Rattle.clover_call.specs.Calling.{Calling, after}
 use Rattle.clover_call.specs.Going.{IsDue, IsDueAt, ShowsLast, Went}
 use Rattle.clover_call.specs.Mirroring.{GetMirrors, Mirrors}
 use Rattle.clover_call.specs.Caller.{flags_at}
-use Rattle.clover_call.specs.Turning.{Tells, reply_in, IsTagOf, IsFlagged}
+use Rattle.clover_call.specs.Turning.{Tells, reply_in, CommitsNothing, IsTagOf, IsFlagged}
 use Rattle.clover_call.specs.declared.answer.Answer.{Answer}
 use Rattle.clover_call.specs.declared.answer.CallerRefusal.TheVariants.{Behind}
 use Rattle.clover_call.specs.declared.answer.CallerTurn.{CallerTurn}
@@ -135,9 +135,9 @@ module _ (p : Pool) (g : Getting) (room : ValueBuf) (v : View) (o : Option Open)
   get_slot g1 go = (goes g.stage g.walk v room room1.length n g1 holds.stage go).slot
 
   -- what the turn of a get says that was answered at this tag
-  pub get_went : (a : Answer) (t : TagParts) (g1 : Getting) (k k1 : Known) (s : ℕ) → GoesOn g room1.length n g1 → (e : Ended p (GetOf (key_of g v)) (reply_in a room1) v o w o1) → e.tag ≡ tag_number t → IsTagOf a t → IsFlagged a (flags_at g.stage)
+  pub get_went : (a : Answer) (t : TagParts) (g1 : Getting) (k k1 : Known) (s : ℕ) → GoesOn g room1.length n g1 → (e : Ended p (GetOf (key_of g v)) (reply_in a room1) v o w o1) → e.tag ≡ tag_number t → IsTagOf a t → CommitsNothing a → IsFlagged a (flags_at g.stage)
       → InRange g.walk.pool (tag_number t) × Within (g.walk.slot, tag_number t) w.pass.durable → s ≡ g1.walk.slot → IsSet s t k k1 → w.pass.turns < budget p → length w.pass.since ≤ most_accesses p w.pass.turns → Went g.walk.pool (Get g) Nothing k k1 room1 v o w o1 (Done a)
-  get_went a t g1 k k1 s go e tag names flags known slot set ahead bound =
+  get_went a t g1 k k1 s go e tag names nothing flags known slot set ahead bound =
       subst (λ (q : Pool). Went q (Get g) Nothing k k1 room1 v o w o1 (Done a)) of (record {
         turns = (inl tt, refl);
         decided = tt;
@@ -149,7 +149,7 @@ module _ (p : Pool) (g : Getting) (room : ValueBuf) (v : View) (o : Option Open)
             tag = names;
             flags = flags;
             own = λ h. absurd h;
-            tail = λ h. (e, subst (λ (u : ℕ). ShowsLast u w.pass.since) tag (shows_last p (GetOf (key_of g v)) (reply_in a room1) v o w o1 e));
+            tail = λ h. (e, subst (λ (u : ℕ). ShowsLast u w.pass.since) tag (shows_last p (GetOf (key_of g v)) (reply_in a room1) v o w o1 e), nothing);
           },
           subst (λ (z : ℕ). IsSet z t k k1) (slot ∙ get_slot g1 go) set,
         );

@@ -26,7 +26,7 @@ use Rattle.clover_put.specs.declared.turn.PutTurn.TheVariants.{Decided as PutDec
 use Rattle.clover_call.specs.Calling.{Calling, due, after}
 use Rattle.clover_call.specs.Going.{IsDue, IsDueAt, ShowsLast, Turns, Went}
 use Rattle.clover_call.specs.Mirroring.{PutMirrors, Writes, Mirrors}
-use Rattle.clover_call.specs.Turning.{Tells, committed_as, reply_in, IsTagOf, IsFlagged}
+use Rattle.clover_call.specs.Turning.{Tells, committed_as, reply_in, CommitsNothing, IsTagOf, IsFlagged}
 use Rattle.clover_call.specs.declared.answer.Answer.{Answer}
 use Rattle.clover_call.specs.declared.answer.Answer.TheVariants.{Stored, Deleted}
 use Rattle.clover_call.specs.declared.answer.CallerRefusal.TheVariants.{Behind}
@@ -197,10 +197,10 @@ module _ (c n : Putting) (v : View) (x : ℕ) (holds : PutHolds c v) (on : n ≡
         (cond c.walk.first [] v.pass.since, e ∙ ap (λ (z : _). cond c.walk.first [] v.pass.since ++ z ∷ []) act)
 
     -- what the turn of a call says that was answered at this tail
-    pub put_went : (p : Pool) (o : Option Open) (w : View) (o1 : Option Open) (a : Answer) (tail : TagParts) (k k1 : Known) (s : ℕ) → p ≡ c.walk.pool → IsBefore c.stage → Made p (put_step c v) c.walk.first v o x w o1 → Ended p (call_at c v) (reply_in a room) v o w o1 → t ≡ tag_number tail → IsTagOf a tail → IsFlagged a None
+    pub put_went : (p : Pool) (o : Option Open) (w : View) (o1 : Option Open) (a : Answer) (tail : TagParts) (k k1 : Known) (s : ℕ) → p ≡ c.walk.pool → IsBefore c.stage → Made p (put_step c v) c.walk.first v o x w o1 → Ended p (call_at c v) (reply_in a room) v o w o1 → t ≡ tag_number tail → IsTagOf a tail → CommitsNothing a → IsFlagged a None
         → InRange c.walk.pool (tag_number tail) × Within (c.walk.slot, tag_number tail) w.pass.durable → s ≡ n.walk.slot → IsSet s tail k k1 → w.pass.turns < budget c.walk.pool → length w.pass.since ≤ most_accesses c.walk.pool w.pass.turns
         → Went c.walk.pool (Write c) Nothing k k1 room v o w o1 (Done a)
-    put_went p o w o1 a tail k k1 s of before made e tag names flags known slot set ahead bound =
+    put_went p o w o1 a tail k k1 s of before made e tag names nothing flags known slot set ahead bound =
         subst (λ (q : Pool). Went q (Write c) Nothing k k1 room v o w o1 (Done a)) of (record {
           turns = (inl before, refl);
           decided = tt;
@@ -212,7 +212,7 @@ module _ (c n : Putting) (v : View) (x : ℕ) (holds : PutHolds c v) (on : n ≡
               tag = names;
               flags = flags;
               own = λ past. absurd (both c.stage before past);
-              tail = λ h. (e, subst (λ (u : ℕ). ShowsLast u w.pass.since) tag (put_shows p o w o1 made));
+              tail = λ h. (e, subst (λ (u : ℕ). ShowsLast u w.pass.since) tag (put_shows p o w o1 made), nothing);
             },
             subst (λ (z : ℕ). IsSet z tail k k1) (slot ∙ same.slot) set,
           );

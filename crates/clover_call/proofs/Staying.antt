@@ -1,14 +1,16 @@
 -- What an access leaves of the call under way: the same call where it goes on; and what its step was, by the turn.
 use Rattle.std.proofs.Common.{◌≡◌, ◌≢◌, ℕ, ◌==◌, List, ◌∷◌, Bool, true, false, cond, refl, sym, ap, ◌∙◌, inl, inr, subst, arith, eq-eqb}
-use Rattle.std.specs.Prelude.{Option}
+use Rattle.std.specs.Prelude.{◌⊎◌, Option, Some, None}
 use Rattle.clover_words.specs.declared.bytes.ValueBuf.{ValueBuf}
 use Rattle.clover_words.specs.declared.pool.Pool.{Pool}
 use Rattle.clover_words.specs.Version.{unlinked}
 use Rattle.clover_map.specs.declared.call.Call.TheVariants.{Get as GetOf}
+use Rattle.clover_map.specs.declared.call.Entry.{Entry}
+use Rattle.clover_rule.specs.Memory.{Next, word}
 use Rattle.clover_rule.specs.Knowing.{link_view}
-use Rattle.clover_rule.specs.Learned.{rest_of, seen, turn_of}
-use Rattle.clover_rule.specs.Steps.{Step, LoadNext, DecideNext, LinkNext, StoreShort, client, reply_of}
-use Rattle.clover_rule.specs.Words.{next_of}
+use Rattle.clover_rule.specs.Learned.{decided, learned, next_view, rest_of, seen, started, turn_of}
+use Rattle.clover_rule.specs.Steps.{Step, LoadNext, DecideNext, RaiseNext, LinkNext, StoreContent, FlushContent, LoadContent, ReadRoot, ReadShort, StoreShort, client, reply_of}
+use Rattle.clover_rule.specs.Words.{next_of, root_of}
 use Rattle.clover_rule.specs.declared.view.View.{View}
 use Rattle.clover_port.specs.Told.{Open, Made}
 use Rattle.clover_cache.specs.Node.{Known}
@@ -23,7 +25,8 @@ use Rattle.clover_put.specs.Holding.{PutHolds, Fills, Owns}
 use Rattle.clover_put.specs.Putting.{Putting, Stage, Storing, Flushing, Seeking, AtMeta, AtLink, Deciding, AtBad, AtRaise, AtShort, Over, call_of, put_step, put_on, staged, walked, unless_left}
 use Rattle.clover_call.specs.Going.{GoesOn, IsQuiet, IsSameCall, Stays, Turns, Went}
 use Rattle.clover_call.specs.Caller.{CallHolds, HasCommitted, IsUncommitted, is_first, new_tag, next_step, slot_of, call_under}
-use Rattle.clover_call.specs.Turning.{OnMade, left_by}
+use Rattle.clover_call.specs.Turning.{OnMade, left_by, reply_in}
+use Rattle.clover_call.specs.declared.answer.Answer.{Answer}
 use Rattle.clover_call.specs.declared.answer.CallerRefusal.TheVariants.{Unreached, Behind, Linked, TooLong}
 use Rattle.clover_call.specs.declared.answer.CallerTurn.{CallerTurn}
 use Rattle.clover_call.specs.declared.answer.CallerTurn.TheVariants.{More, Decided, Done, Refused}
@@ -71,6 +74,27 @@ turn_quiet (DecideNext s t c r) x h = turn_misses (x == unlinked t) _ refl h
 turn_quiet (LinkNext s t u c) x h = turn_misses (x == unlinked t) _ refl h
 turn_quiet a x h = absurd (h refl)
 
+stock_seen : (s t : ℕ) (v : View) (k : Next) → (seen s t v k).pass.stock ≡ v.pass.stock
+stock_seen s t v (word a None) = refl
+stock_seen s t v (word a (Some u)) = refl
+
+stock_started : (s : ℕ) (v : View) (o : Option ℕ) → (started s v o).pass.stock ≡ v.pass.stock
+stock_started s v None = refl
+stock_started s v (Some t) = refl
+
+-- it takes nothing from the stock
+quiet_stock : (a : Step) (h : List Entry) (v : View) (x : ℕ) → IsQuiet a x → (learned a h v x).pass.stock ≡ v.pass.stock
+quiet_stock (LoadNext s t) h v x q = stock_seen s t v (next_of x)
+quiet_stock (ReadRoot s) h v x q = stock_started s v (root_of x)
+quiet_stock (ReadShort s) h v x q = stock_started s v (root_of x)
+quiet_stock (DecideNext s t c r) h v x q = ap (λ (k : Bool). (cond k (decided v h t c r) (seen s t v (next_of x))).pass.stock) q ∙ stock_seen s t v (next_of x)
+quiet_stock (LinkNext s t u c) h v x q = ap (λ (k : Bool). (cond k (link_view v h (client v) s t u c (reply_of u c) (rest_of v.pass.stock)) (seen s t v (next_of x))).pass.stock) q ∙ stock_seen s t v (next_of x)
+quiet_stock (RaiseNext l) h v x q = refl
+quiet_stock (LoadContent s t j) h v x q = refl
+quiet_stock (StoreContent t j y) h v x q = refl
+quiet_stock (FlushContent t j y) h v x q = refl
+quiet_stock a h v x q = absurd q
+
 walked_later : (c : Putting) (x : ℕ) → c.walk.first ≡ false → (walked c (goes_on c.walk x)).walk.first ≡ false
 walked_later c x e = (on_walk c.walk.stand c.walk x).first (λ q. e)
 
@@ -107,6 +131,14 @@ behind_at (AtRaise u) b f g = f u refl
 behind_at AtShort b f g = g refl
 behind_at Over b f g = absurd b
 
+-- it is to raise its link where it goes on
+pub raises_at : (c : Putting) (n : ℕ) → IsBehind c.stage → IsBehind (put_on c n).stage → (u : ℕ) × (c.stage ≡ AtRaise u)
+raises_at c n b on = behind_at c.stage b (λ u e. (u, e)) (λ e. absurd (subst (λ (s : Stage). IsBehind (put_on (record c { stage = s }) n).stage) e on))
+
+-- and to store its shortcut where it ends
+pub shortens_at : (c : Putting) (n : ℕ) → IsBehind c.stage → (put_on c n).stage ≡ Over → c.stage ≡ AtShort
+shortens_at c n b over = behind_at c.stage b (λ u e. let z : AtShort ≡ Over = ap (λ (s : Stage). (put_on (record c { stage = s }) n).stage) (sym e) ∙ over in cc) (λ e. e)
+
 -- one before it has its own tag at the front of its client's stock
 owns_before : (s : Stage) (c : Putting) (v : View) → IsBefore s → Owns s c v → (rest : List ℕ) × (v.pass.stock ≡ c.own ∷ rest)
 owns_before (Storing j) c v b h = h
@@ -141,8 +173,8 @@ module _ (p : Pool) (v : View) (o : Option Open) (n : ℕ) (w : View) (o1 : Opti
       get_quiet g.stage g.walk (key_of g v) room n (going_misses g.stage g.walk room1.length n go.0 go.1 (holding_open go.0.stage go.0.walk w room1 on.1.stage))
   more_quiet (Write c) y kept go (inl b) = put_quiet c.stage c v n (before_misses c n (subst IsUncommitted go.0 b.1)) (before_short c.stage b.0)
   more_quiet (Write c) y kept go (inr b) =
-      behind_at c.stage b.0 (λ u e. put_quiet c.stage c v n (subst (λ (s : Stage). Misses s n) (sym e) tt) (λ f. let z : AtRaise u ≡ AtShort = sym e ∙ f in cc))
-      (λ e. absurd (subst (λ (s : Stage). IsBehind (put_on (record c { stage = s }) n).stage) e (subst HasCommitted go.0 b.1)))
+      let (u, e) = raises_at c n b.0 (subst HasCommitted go.0 b.1) in
+      put_quiet c.stage c v n (subst (λ (s : Stage). Misses s n) (sym e) tt) (λ f. let z : AtRaise u ≡ AtShort = sym e ∙ f in cc)
 
   -- the turns of a call reach the budget by a turn
   walk_turns : (t : Walking) (a : Step) → t.pool ≡ p → Holds t v → Made p a t.first v o n w o1 → w.pass.turns ≡ budget p → turn_of a n ≢ 0
@@ -153,10 +185,10 @@ module _ (p : Pool) (v : View) (o : Option Open) (n : ℕ) (w : View) (o1 : Opti
       let counted = h.turns in
       λ z. omega arith
 
-  behind_quiet : (x y : Underway) (k : ℕ) → CallHolds p x v room → Made p (next_step x v room) (is_first x) v o n w o1 → GoesOn x room n (Refused (Behind k)) y room1 → w.pass.turns ≡ budget p → IsQuiet (next_step x v room) n
-  behind_quiet Nothing y k held made go all = absurd go
-  behind_quiet (Get g) y k held made go all = turn_quiet (next_step (Get g) v room) n (walk_turns g.walk (next_step (Get g) v room) held.0 held.1.walk made all)
-  behind_quiet (Write c) y k held made go all = turn_quiet (next_step (Write c) v room) n (walk_turns c.walk (next_step (Write c) v room) held.0 held.1.walk made all)
+  pub turned : (x : Underway) → x ≢ Nothing → CallHolds p x v room → Made p (next_step x v room) (is_first x) v o n w o1 → w.pass.turns ≡ budget p → turn_of (next_step x v room) n ≢ 0
+  turned Nothing busy held made all = absurd (busy refl)
+  turned (Get g) busy held made all = walk_turns g.walk (next_step (Get g) v room) held.0 held.1.walk made all
+  turned (Write c) busy held made all = walk_turns c.walk (next_step (Write c) v room) held.0 held.1.walk made all
 
   -- the new tag leaves the stock where it is committed
   stock_goes : (x y : Underway) (c : _) → CallHolds p x v room → GoesOn x room n (Decided c) y room1 → IsUncommitted x → HasCommitted y → Commits p (call_under x v) (new_tag x) v o w o1 → v.pass.stock ≡ new_tag x ∷ w.pass.stock
@@ -173,15 +205,29 @@ module _ (p : Pool) (v : View) (o : Option Open) (n : ℕ) (w : View) (o1 : Opti
   done_short : (x y : Underway) (a : _) → GoesOn x room n (Done a) y room1 → HasCommitted x → next_step x v room ≡ StoreShort (slot_of x) (new_tag x)
   done_short Nothing y a go h = absurd go
   done_short (Get g) y a go h = absurd h
-  done_short (Write c) y a go h =
-      behind_at c.stage h (λ u e. let z : AtShort ≡ Over = ap (λ (s : Stage). (put_on (record c { stage = s }) n).stage) (sym e) ∙ go.2 in cc) (λ e. ap (λ (s : Stage). put_step (record c { stage = s }) v) e)
+  done_short (Write c) y a go h = ap (λ (s : Stage). put_step (record c { stage = s }) v) (shortens_at c n h go.2)
+
+  -- nor does the load that ends a call at its tail
+  done_stock : (x y : Underway) (k k1 : Known) (a : Answer) → Made p (next_step x v room) (is_first x) v o n w o1 → GoesOn x room n (Done a) y room1 → Went p x y k k1 room1 v o w o1 (Done a) → IsUncommitted x ⊎ HasCommitted x → w.pass.stock ≡ v.pass.stock
+  done_stock x y k k1 a made go g (inl before) =
+      let e = (g.done.1.tail before).0 in
+      ap (λ (z : View). z.pass.stock) e.made.told.next
+      ∙ ap (λ (b : Bool). (cond b (decided v e.made.now.history e.tag (call_under x v) (reply_in a room1)) (seen e.slot e.tag v (next_of (unlinked e.tag)))).pass.stock) (eq-eqb (unlinked e.tag) (unlinked e.tag) refl)
+  done_stock x y k k1 a made go g (inr behind) = ap (λ (z : View). z.pass.stock) made.told.next ∙ ap (λ (b : Step). (next_view (is_first x) b made.now.history v n).pass.stock) (done_short x y a go behind)
+
+  quiet_so : (x : Underway) → Made p (next_step x v room) (is_first x) v o n w o1 → IsQuiet (next_step x v room) n → w.pass.stock ≡ v.pass.stock
+  quiet_so x made quiet = ap (λ (z : View). z.pass.stock) made.told.next ∙ quiet_stock (next_step x v room) made.now.history v n quiet
 
   pub stays : (x y : Underway) (k k1 : Known) (r : CallerTurn) → CallHolds p x v room → Made p (next_step x v room) (is_first x) v o n w o1 → GoesOn x room n r y room1 → Went p x y k k1 room1 v o w o1 r → OnMade r (Stays x v (next_step x v room) n y w r)
-  stays x y k k1 More held made go g = record { same = same_on More (λ u. refl) x y (stepped p _ _ v o n w o1 made).names held go; quiet = more_quiet x y g.holds go g.turns; stock = tt; shortens = tt }
+  stays x y k k1 More held made go g =
+      let quiet = more_quiet x y g.holds go g.turns in
+      record { same = same_on More (λ u. refl) x y (stepped p _ _ v o n w o1 made).names held go; quiet = quiet; stock = quiet_so x made quiet; shortens = tt }
   stays x y k k1 (Decided a) held made go g = record { same = same_on (Decided a) (λ u. refl) x y (stepped p _ _ v o n w o1 made).names held go; quiet = tt; stock = stock_goes x y a held go g.turns.0 g.turns.1 g.decided.0; shortens = tt }
-  stays x y k k1 (Done a) held made go g = record { same = tt; quiet = tt; stock = tt; shortens = done_short x y a go }
+  stays x y k k1 (Done a) held made go g = record { same = tt; quiet = tt; stock = done_stock x y k k1 a made go g g.turns.0; shortens = done_short x y a go }
   stays x y k k1 (Refused Unreached) held made go g = tt
-  stays x y k k1 (Refused (Behind turns)) held made go g = record { same = tt; quiet = behind_quiet x y turns held made go g.behind.1; stock = tt; shortens = tt }
+  stays x y k k1 (Refused (Behind turns)) held made go g =
+      let quiet = turn_quiet (next_step x v room) n (turned x (λ e. subst IsUncommitted e g.turns.0) held made g.behind.1) in
+      record { same = tt; quiet = quiet; stock = quiet_so x made quiet; shortens = tt }
   stays x y k k1 (Refused (Linked t)) held made go g = tt
   stays x y k k1 (Refused (TooLong length room)) held made go g = absurd g.turns
 

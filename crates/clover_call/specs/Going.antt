@@ -17,7 +17,7 @@ use Rattle.clover_cache.specs.Node.{Known, IsSet}
 use Rattle.clover_walk.specs.Ending.{Ended, Commits}
 use Rattle.clover_walk.specs.Walking.{budget, most_accesses}
 use Rattle.clover_get.specs.Getting.{Getting, FillsFrom, Over as GetOver, GoesOn as GetGoesOn}
-use Rattle.clover_put.specs.Putting.{put_on, Over as PutOver}
+use Rattle.clover_put.specs.Putting.{Stage, AtLink, Over as PutOver, put_on}
 use Rattle.clover_call.specs.declared.answer.Answer.{Answer}
 use Rattle.clover_call.specs.declared.answer.CallerRefusal.TheVariants.{Unreached, Behind, Linked, TooLong}
 use Rattle.clover_call.specs.declared.answer.CallerTurn.{CallerTurn}
@@ -27,13 +27,18 @@ use Rattle.clover_call.specs.declared.under.Underway.TheVariants.{Nothing, Get, 
 use Rattle.clover_call.specs.Calling.{Calling, due, after}
 use Rattle.clover_call.specs.Mirroring.{Mirrors}
 use Rattle.clover_call.specs.Caller.{slot_of, new_tag, call_under, copied_flags, is_first, HasCommitted, IsUncommitted, CallHolds}
-use Rattle.clover_call.specs.Turning.{reply_in, IsTagOf, IsFlagged, OnMade, OnGoing, OnOver, OnNothing, OnAhead, IfDecided, IfDone, UnlessDone, IfBehind, left_by, Tells}
+use Rattle.clover_call.specs.Turning.{reply_in, CommitsNothing, IsTagOf, IsFlagged, OnMade, OnGoing, OnOver, OnNothing, OnAhead, IfDecided, IfDone, UnlessDone, IfBehind, left_by, Tells}
+
+-- at the commit the call was to link its version, and its exchange found the tail unlinked
+abbrev pub Links : CallerTurn → Stage → ℕ → Type 0
+Links (Decided a) s n = (t : ℕ) × (s ≡ AtLink t) × (n ≡ unlinked t)
+Links r s n = Unit {0}
 
 -- what was under way, x, goes on to y where its access found this number, and fills the room by it
 abbrev pub GoesOn : Underway → ValueBuf → ℕ → CallerTurn → Underway → ValueBuf → Type 0
 GoesOn Nothing room n r y room1 = ⊥
 GoesOn (Get g) room n r y room1 = (g1 : Getting) × GetGoesOn g room1.length n g1 × FillsFrom g.stage n room room1 × (y ≡ left_by r (Get g1)) × OnOver r (g1.stage ≡ GetOver)
-GoesOn (Write c) room n r y room1 = (y ≡ left_by r (Write (put_on c n))) × (room1 ≡ room) × OnOver r ((put_on c n).stage ≡ PutOver)
+GoesOn (Write c) room n r y room1 = (y ≡ left_by r (Write (put_on c n))) × (room1 ≡ room) × OnOver r ((put_on c n).stage ≡ PutOver) × Links r c.stage n
 
 -- By the definition of what a call does: the step of this access is the one that is due of the call where it was, what it found leads the call to where it is, and the turn tells where that is.
 pub record IsDueAt (x : Underway) (step : Step) (n : ℕ) (y : Underway) (room1 : ValueBuf) (r : CallerTurn) (call : Call) (own : ℕ) (c : Calling) : Type 0 where
@@ -65,11 +70,16 @@ pub record IsSameCall (x : Underway) (v : View) (y : Underway) (w : View) : Type
   pub tag : new_tag y ≡ new_tag x
   pub later : is_first y ≡ false
 
--- What an access leaves of the call x, and what its step was: where the call goes on it is the same; the step commits and ends nothing but at an answer; at the commit the new tag leaves the client's stock; and a call that has committed is answered at the store of its slot's shortcut.
+-- the new tag leaves the client's stock at the commit, and nothing else does
+abbrev pub Takes : CallerTurn → ℕ → View → View → Type 0
+Takes (Decided a) t v w = v.pass.stock ≡ t ∷ w.pass.stock
+Takes r t v w = w.pass.stock ≡ v.pass.stock
+
+-- What an access leaves of the call x, and what its step was: where the call goes on it is the same; the step commits and ends nothing but at an answer; and a call that has committed is answered at the store of its slot's shortcut.
 pub record Stays (x : Underway) (v : View) (step : Step) (n : ℕ) (y : Underway) (w : View) (r : CallerTurn) : Type 0 where
   pub same : OnGoing r (IsSameCall x v y w)
   pub quiet : OnNothing r (IsQuiet step n)
-  pub stock : IfDecided r (λ a. v.pass.stock ≡ new_tag x ∷ w.pass.stock)
+  pub stock : Takes r (new_tag x) v w
   pub shortens : IfDone r (λ a. HasCommitted x → step ≡ StoreShort (slot_of x) (new_tag x))
 
 -- the turn says whether the call had committed and has
@@ -93,7 +103,7 @@ pub record EndsAt (p : Pool) (x : Underway) (room1 : ValueBuf) (v : View) (o : O
   pub tag : IsTagOf a t
   pub flags : IsFlagged a (copied_flags x)
   pub own : HasCommitted x → (tag_number t ≡ new_tag x) × (reply_in a room1 ≡ reply_of (new_tag x) (call_under x v))
-  pub tail : IsUncommitted x → Ended p (call_under x v) (reply_in a room1) v o w o1 × ShowsLast (tag_number t) w.pass.since
+  pub tail : IsUncommitted x → Ended p (call_under x v) (reply_in a room1) v o w o1 × ShowsLast (tag_number t) w.pass.since × CommitsNothing a
 
 -- What a step that came to this turn says of the call x under way before it and of y behind it, of the cursors k and k1, of the room behind it, and of what the client knew and knows. The answer to a commit is decided at its exchange; any other at the access that ends the call. A call that ends with an answer sets its slot's cursor to the tag at which it ended, and nothing else sets one.
 pub record Went (p : Pool) (x y : Underway) (k k1 : Known) (room1 : ValueBuf) (v : View) (o : Option Open) (w : View) (o1 : Option Open) (r : CallerTurn) : Type 0 where

@@ -40,6 +40,12 @@ IsTagOf Absent t = Unit {0}
 IsTagOf (Deleted u) t = u ≡ t
 IsTagOf (Differs u) t = u ≡ t
 
+-- the answer is none to a commit
+abbrev pub CommitsNothing : Answer → Type 0
+CommitsNothing (Stored u) = ⊥
+CommitsNothing (Deleted u) = ⊥
+CommitsNothing a = Unit {0}
+
 -- where a value was found, these are its flags
 abbrev pub IsFlagged : Answer → Option ℕ → Type 0
 IsFlagged (Found u flags) o = o ≡ Some flags

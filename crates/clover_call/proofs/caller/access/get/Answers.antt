@@ -35,10 +35,10 @@ pub returns-in-Found-clause-went : goal.returns-in-Found-clause-went
 returns-in-Found-clause-went g c =
     let p = c.args.port.now in let q = c.step.new.port in let x = c.args.call.now in let into = c.args.into.now in let P = g.P.Port in let m = c.in-Found.ensures.made in let w = c.in-Found.ensures.went in
     let made = g.met.P.Port.made_tells p q (get_step x (key_of x (P.view p)) into) x.walk.first m.0 m.1 in
-    get_went (P.pool p) x into (P.view p) (P.told p) m.0 (P.view q) (P.told q) c.requires.pool c.requires.holds made c.step.new.into (Found c.in-Found.tag c.in-Found.flags) c.in-Found.tag c.step.new.self c.args.cursors.now c.set.new.self c.slot.result m.2 w.found.0 w.found.2 refl (ap flags_at w.at.0) w.known c.slot.ensures c.set.ensures.value w.ahead w.bound
+    get_went (P.pool p) x into (P.view p) (P.told p) m.0 (P.view q) (P.told q) c.requires.pool c.requires.holds made c.step.new.into (Found c.in-Found.tag c.in-Found.flags) c.in-Found.tag c.step.new.self c.args.cursors.now c.set.new.self c.slot.result m.2 w.found.0 w.found.2 refl tt (ap flags_at w.at.0) w.known c.slot.ensures c.set.ensures.value w.ahead w.bound
 
 pub returns-in-Absent-clause-went : goal.returns-in-Absent-clause-went
 returns-in-Absent-clause-went g c =
     let p = c.args.port.now in let q = c.step.new.port in let x = c.args.call.now in let into = c.args.into.now in let P = g.P.Port in let m = c.in-Absent.ensures.made in let w = c.in-Absent.ensures.went in
     let made = g.met.P.Port.made_tells p q (get_step x (key_of x (P.view p)) into) x.walk.first m.0 m.1 in
-    get_went (P.pool p) x into (P.view p) (P.told p) m.0 (P.view q) (P.told q) c.requires.pool c.requires.holds made c.step.new.into Absent c.in-Absent.tail c.step.new.self c.args.cursors.now c.set-in-Absent.new.self c.slot-in-Absent.result m.2 w.absent.0 w.absent.2 tt tt w.known c.slot-in-Absent.ensures c.set-in-Absent.ensures.value w.ahead w.bound
+    get_went (P.pool p) x into (P.view p) (P.told p) m.0 (P.view q) (P.told q) c.requires.pool c.requires.holds made c.step.new.into Absent c.in-Absent.tail c.step.new.self c.args.cursors.now c.set-in-Absent.new.self c.slot-in-Absent.result m.2 w.absent.0 w.absent.2 tt tt tt w.known c.slot-in-Absent.ensures c.set-in-Absent.ensures.value w.ahead w.bound
