@@ -24,7 +24,8 @@ use Rattle.clover_call.specs.declared.answer.CallerTurn.{CallerTurn}
 use Rattle.clover_call.specs.declared.answer.CallerTurn.TheVariants.{More, Decided, Done, Refused}
 use Rattle.clover_call.specs.declared.under.Underway.{Underway}
 use Rattle.clover_call.specs.declared.under.Underway.TheVariants.{Nothing, Get, Write}
-use Rattle.clover_call.proofs.Owned.{apart, commit_calls, ended_owns, quiet_owns, short_owns}
+use Rattle.clover_call.proofs.Owned.{apart, commit_calls, quiet_calls, short_calls}
+use Rattle.clover_call.proofs.GetStep.{ended_calls}
 use Rattle.clover_node.specs.Asking.{Asking, Calls}
 use Rattle.clover_node.specs.Going.{Enters, GoesAt, GoesFar, IsDueAt, IsOpen, NodeGoesOn, NodeIsDue, NodeTurns, NodeWent, SaysAt, stock_behind, with_entry}
 use Rattle.clover_node.specs.Mirroring.{AskMirrors, UnderMirrors}
@@ -174,11 +175,11 @@ module _ (n : NodeState) (call : Call) (room : ValueBuf) (v : View) (holds : Nod
       where
         by : IsUncommitted x ⊎ HasCommitted x → Leaves (Done a)
         by (inl b) =
-            let e = ended_owns n.caller.pool (call_under x v) v o w o1 (reply_in a room1) (g.done.1.tail b).0 in
-            quiet_leaves (Done a) m made (e.0 ∙ holds.stock) ((λ h. absurd (apart x b h)), (λ h. e.1 ∙ (λ i. with_entry v (asked_call i) (reply_in a room1)))) (nothing_left g.turns.1) g.turns.1 (inl (is_open x b)) tt
+            let e = ended_calls n.caller.pool (call_under x v) (reply_in a room1) v o w o1 (g.done.1.tail b).0 in
+            quiet_leaves (Done a) m made (stays.stock ∙ holds.stock) ((λ h. absurd (apart x b h)), (λ h. e ∙ (λ i. with_entry v (asked_call i) (reply_in a room1)))) (nothing_left g.turns.1) g.turns.1 (inl (is_open x b)) tt
         by (inr h) =
-            let e = short_owns q (is_first x) v o m w o1 _ (new_tag x) (subst (λ (z : Step). Made q z (is_first x) v o m w o1) (stays.shortens h) made) in
-            quiet_leaves (Done a) m made (e.stock ∙ holds.stock) ((λ b. e.calls), (λ b. absurd (open_apart x b h))) (nothing_left g.turns.1) g.turns.1 (inr (h, (g.done.1.own h).1 ∙ (λ i. reply_of (new_tag x) (asked_call i)))) tt
+            let e = short_calls q (is_first x) v o m w o1 _ (new_tag x) (subst (λ (z : Step). Made q z (is_first x) v o m w o1) (stays.shortens h) made) in
+            quiet_leaves (Done a) m made (stays.stock ∙ holds.stock) ((λ b. e), (λ b. absurd (open_apart x b h))) (nothing_left g.turns.1) g.turns.1 (inr (h, (g.done.1.own h).1 ∙ (λ i. reply_of (new_tag x) (asked_call i)))) tt
 
     refused_leaves : (y : _) → w ≡ v → k.under ≡ Nothing → NodeTurns (of_turn (Refused y)) x k.under call room1 → Leaves (Refused y)
     refused_leaves y same over turns = record {
@@ -193,7 +194,7 @@ module _ (n : NodeState) (call : Call) (room : ValueBuf) (v : View) (holds : Nod
     }
 
     leaves : (r : CallerTurn) → OnCallMade r (Access r) → OnCallRefused r (w ≡ v) → Says r → Leaves r
-    leaves More (m, made, stays) f g = let e = quiet_owns q (is_first x) v o m w o1 (next_step x v room) made stays.quiet in quiet_leaves More m made (e.stock ∙ holds.stock) e.calls (goes_on stays.same.call) tt (more_turns g.turns, stays.same.tag) (stays.same.later, more_left g.turns)
+    leaves More (m, made, stays) f g = let e = quiet_calls q (is_first x) v o m w o1 (next_step x v room) made stays.quiet in quiet_leaves More m made (stays.stock ∙ holds.stock) e (goes_on stays.same.call) tt (more_turns g.turns, stays.same.tag) (stays.same.later, more_left g.turns)
     leaves (Decided a) (m, made, stays) f g =
         let e = commit_calls n.caller.pool (call_under x v) v o w o1 (new_tag x) g.decided.0 in
         let rest : w.pass.stock ≡ rest_of v.pass.stock = sym (ap rest_of stays.stock) in
@@ -201,8 +202,8 @@ module _ (n : NodeState) (call : Call) (room : ValueBuf) (v : View) (holds : Nod
     leaves (Done a) m f g = done_leaves a m g
     leaves (Refused Unreached) m f g = refused_leaves Unreached f g.turns.1 (is_open x g.turns.0)
     leaves (Refused (Behind turns)) (m, made, stays) f g =
-        let e = quiet_owns q (is_first x) v o m w o1 (next_step x v room) made stays.quiet in
-        quiet_leaves (Refused (Behind turns)) m made (e.stock ∙ holds.stock) e.calls (nothing_left g.turns.1) g.turns.1 (is_open x g.turns.0) tt
+        let e = quiet_calls q (is_first x) v o m w o1 (next_step x v room) made stays.quiet in
+        quiet_leaves (Refused (Behind turns)) m made (stays.stock ∙ holds.stock) e (nothing_left g.turns.1) g.turns.1 (is_open x g.turns.0) tt
     leaves (Refused (Linked t)) m f g = refused_leaves (Linked t) f g.turns.2 (g.turns.0, g.turns.1)
     leaves (Refused (TooLong l r)) m f g = absurd g.turns
 
