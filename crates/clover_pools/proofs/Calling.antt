@@ -29,16 +29,16 @@ use Rattle.clover_walk.specs.Walking.{key_at}
 use Rattle.clover_get.specs.Going.{key_of}
 use Rattle.clover_put.specs.Answering.{IsBefore, IsBehind}
 use Rattle.clover_put.specs.Putting.{Putting, Stage, Storing, Flushing, Seeking, AtMeta, AtLink, Deciding, AtBad, AtRaise, AtShort, Over, call_of, put_on}
-use Rattle.clover_node.specs.declared.answer.NodeTurn.{NodeTurn}
-use Rattle.clover_node.specs.declared.answer.NodeTurn.TheVariants.{More, Decided, Done, Refused}
-use Rattle.clover_node.specs.declared.answer.NodeRefusal.TheVariants.{Unreached, Behind, Linked, TooLong}
-use Rattle.clover_node.specs.declared.under.Underway.{Underway}
-use Rattle.clover_node.specs.declared.under.Underway.TheVariants.{Nothing, Get, Write}
-use Rattle.clover_node.specs.Going.{GoesOn, Turns, Went}
-use Rattle.clover_node.specs.Node.{NodeState, NodeHolds, CallHolds, HasCommitted, IsUncommitted, call_under, next_step, is_first, new_tag}
-use Rattle.clover_node.specs.Turning.{OnMade, reply_in}
-use Rattle.clover_node.proofs.GetGoes.{goes, going_misses, holding_open}
-use Rattle.clover_node.proofs.PutGoes.{same_call, before_misses}
+use Rattle.clover_call.specs.declared.answer.CallerTurn.{CallerTurn}
+use Rattle.clover_call.specs.declared.answer.CallerTurn.TheVariants.{More, Decided, Done, Refused}
+use Rattle.clover_call.specs.declared.answer.CallerRefusal.TheVariants.{Unreached, Behind, Linked, TooLong}
+use Rattle.clover_call.specs.declared.under.Underway.{Underway}
+use Rattle.clover_call.specs.declared.under.Underway.TheVariants.{Nothing, Get, Write}
+use Rattle.clover_call.specs.Going.{GoesOn, Turns, Went}
+use Rattle.clover_call.specs.Caller.{CallerState, CallerHolds, CallHolds, HasCommitted, IsUncommitted, call_under, next_step, is_first, new_tag}
+use Rattle.clover_call.specs.Turning.{OnMade, reply_in}
+use Rattle.clover_call.proofs.GetGoes.{goes, going_misses, holding_open}
+use Rattle.clover_call.proofs.PutGoes.{same_call, before_misses}
 use Rattle.clover_pools.specs.Grants.{HasRoot}
 use Rattle.clover_pools.specs.Small.{HasSmallNumbers}
 use Rattle.clover_pools.specs.Calls.{Serves, Since, Adds, Leaves, Acted, asked, next_entry}
@@ -113,7 +113,7 @@ entry_is pl v h c r f role =
     λ i. record { client = number_of (role i); number = suc (length (calls i)); call = c; reply = r }
 
 module _ (pl : Pool) (x y : Underway) (k k1 : Known) (room room1 : ValueBuf) (v w : View) (o o1 : Open) (found : ℕ) where
-  adds : (t : NodeTurn) → o1.history ≡ next_history (next_step x v room) o.history v found → Facts pl v o.history → v.pass.role ≡ Client 1 → Went pl x y k k1 room1 v (Some o) w (Some o1) t → GoesOn x room found t y room1 → Adds t x (call_under x v) room1 o.history o1.history
+  adds : (t : CallerTurn) → o1.history ≡ next_history (next_step x v room) o.history v found → Facts pl v o.history → v.pass.role ≡ Client 1 → Went pl x y k k1 room1 v (Some o) w (Some o1) t → GoesOn x room found t y room1 → Adds t x (call_under x v) room1 o.history o1.history
   adds More e f role went go = e ∙ more_quiet pl x y v w room room1 found o.history go went.turns went.holds
   adds (Decided a) e f role went go =
       committed_entry pl (call_under x v) (new_tag x) v o w o1 went.decided.0
@@ -126,22 +126,22 @@ module _ (pl : Pool) (x y : Underway) (k k1 : Known) (room room1 : ValueBuf) (v 
   )
   adds (Refused z) e f role went go = tt
 
-  leaves : (t : NodeTurn) → w.pass.names ≡ v.pass.names → CallHolds pl x v room → Went pl x y k k1 room1 v (Some o) w (Some o1) t → GoesOn x room found t y room1 → Leaves t x y (call_under x v) (call_under y w)
+  leaves : (t : CallerTurn) → w.pass.names ≡ v.pass.names → CallHolds pl x v room → Went pl x y k k1 room1 v (Some o) w (Some o1) t → GoesOn x room found t y room1 → Leaves t x y (call_under x v) (call_under y w)
   leaves More names holds went go = (call_stays pl x y v w room room1 found names holds go, more_busy x y went.turns, more_commits x y went.turns, more_before x y went.turns)
   leaves (Decided a) names holds went go = (not_nothing y (inr went.turns.1), went.turns.1)
   leaves (Done a) names holds went go = went.turns.1
   leaves (Refused z) names holds went go = tt
 
 -- an access through a client's port, as the pool and the node tell it
-pub record Told (n n1 : NodeState) (room room1 : ValueBuf) (t : NodeTurn) (l : Bool) (x : ℕ) (p : Plain) (s : ℕ) (q : Plain) (s1 : ℕ) : Type 0 where
+pub record Told (n n1 : CallerState) (room room1 : ValueBuf) (t : CallerTurn) (l : Bool) (x : ℕ) (p : Plain) (s : ℕ) (q : Plain) (s1 : ℕ) : Type 0 where
   pub stepped : Stepped (next_step n.under (view_at p s) room) (is_first n.under) l s x p q
   pub made : Made p.setup.pool (next_step n.under (view_at p s) room) (is_first n.under) (view_at p s) (Some (open_of p)) x (view_at q s1) (Some (open_of q))
   pub goes : GoesOn n.under room x t n1.under room1
   pub went : Went n.pool n.under n1.under n.cursors n1.cursors room1 (view_at p s) (Some (open_of p)) (view_at q s1) (Some (open_of q)) t
   pub pool : n1.pool ≡ n.pool
-  pub holds : NodeHolds n1 (view_at q s1) room1
+  pub holds : CallerHolds n1 (view_at q s1) room1
 
-module _ (n n1 : NodeState) (room room1 : ValueBuf) (t : NodeTurn) (l : Bool) (x : ℕ) (p p0 q : Plain) (serves : Serves p n room) (kept : Kept p p0) (free : HasRoom p0) (told : Told n n1 room room1 t l x p0 0 q 0) where
+module _ (n n1 : CallerState) (room room1 : ValueBuf) (t : CallerTurn) (l : Bool) (x : ℕ) (p p0 q : Plain) (serves : Serves p n room) (kept : Kept p p0) (free : HasRoom p0) (told : Told n n1 room room1 t l x p0 0 q 0) where
   same_view : view_at p0 0 ≡ view_at p 0
   same_view = ap (λ (vs : List View). get_or vs 0 nobody) kept.views
 
@@ -196,7 +196,7 @@ module _ (n n1 : NodeState) (room room1 : ValueBuf) (t : NodeTurn) (l : Bool) (x
   }
 
 -- the same as a step of the node through a port tells it
-pub acted_so : (n n1 : NodeState) (room room1 : ValueBuf) (t : NodeTurn) (l : Bool) (x : ℕ) (p p0 p1 p2 q : Plain) (s s1 : ℕ) → Serves p n room → Kept p p0 → HasRoom p0 → p1 ≡ p0 → s ≡ 0 → s1 ≡ s → p2 ≡ q → Told n n1 room room1 t l x p1 s p2 s1 → Acted t n n1 p q room room1
+pub acted_so : (n n1 : CallerState) (room room1 : ValueBuf) (t : CallerTurn) (l : Bool) (x : ℕ) (p p0 p1 p2 q : Plain) (s s1 : ℕ) → Serves p n room → Kept p p0 → HasRoom p0 → p1 ≡ p0 → s ≡ 0 → s1 ≡ s → p2 ≡ q → Told n n1 room room1 t l x p1 s p2 s1 → Acted t n n1 p q room room1
 acted_so n n1 room room1 t l x p p0 p1 p2 q s s1 serves kept free of at same back told =
     acted n n1 room room1 t l x p p0 q serves kept free
     (subst (λ (z : Plain). Told n n1 room room1 t l x p0 0 z 0) back
@@ -205,7 +205,7 @@ acted_so n n1 room room1 t l x p p0 p1 p2 q s s1 serves kept free of at same bac
     (subst (λ (k : ℕ). Told n n1 room room1 t l x p1 k p2 s1) at told))))
 
 -- where the access was made
-pub on_made : (t : NodeTurn) {A B : Type 0} → OnMade t A → (A → B) → OnMade t B
+pub on_made : (t : CallerTurn) {A B : Type 0} → OnMade t A → (A → B) → OnMade t B
 on_made More a f = f a
 on_made (Decided r) a f = f a
 on_made (Done r) a f = f a
@@ -215,7 +215,7 @@ on_made (Refused (Behind r)) a f = f a
 on_made (Refused (TooLong r m)) a f = f a
 
 -- a call goes on behind an access that did not end it
-pub goes_on : (n0 n n1 : NodeState) (p0 p q : Plain) (room room1 : ValueBuf) → Serves p n room → Since n0 p0 n p → Acted More n n1 p q room room1 → Serves q n1 room1 × (n1.under ≢ Nothing) × Since n0 p0 n1 q
+pub goes_on : (n0 n n1 : CallerState) (p0 p q : Plain) (room room1 : ValueBuf) → Serves p n room → Since n0 p0 n p → Acted More n n1 p q room room1 → Serves q n1 room1 × (n1.under ≢ Nothing) × Since n0 p0 n1 q
 goes_on n0 n n1 p0 p q room room1 s since a = (
   record { ready = record { opened = a.opened; entered = a.entries ∙ s.ready.entered ∙ sym a.adds }; small = a.small; knows = a.knows; server = a.server; pool = a.pool; holds = a.holds },
   a.leaves.1,

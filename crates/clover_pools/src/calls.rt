@@ -6,16 +6,16 @@ ghost use Rattle.clover_map.specs.declared.call.Call.TheVariants.{Get as GetOf, 
 ghost use Rattle.clover_get.specs.Getting.{value_in};
 ghost use Rattle.clover_plain.specs.Plain.{Plain, view_at};
 ghost use Rattle.clover_words.specs.declared.bytes.ValueBuf.{ValueBuf as Room};
-ghost use Rattle.clover_node.specs.Turning.{OnMade};
-ghost use Rattle.clover_node.specs.declared.answer.NodeTurn.{NodeTurn as Turn};
-ghost use Rattle.clover_node.specs.declared.under.Underway.TheVariants.{Nothing};
+ghost use Rattle.clover_call.specs.Turning.{OnMade};
+ghost use Rattle.clover_call.specs.declared.answer.CallerTurn.{CallerTurn as Turn};
+ghost use Rattle.clover_call.specs.declared.under.Underway.TheVariants.{Nothing};
 ghost use Rattle.clover_pools.specs.Calls.{Acted, Came, HasFirst, IsCommitted, IsIdle, IsNext, IsStarted, Serves};
 ghost use Rattle.clover_pools.specs.Turns.{IsOutcome};
 
 use crate::turns::{Outcome, outcome_of};
 use clover_list::OutOfMemory;
 use clover_map::{Bytes, Call, Entry, Key, Reply, Value};
-use clover_node::Node;
+use clover_call::Caller;
 use clover_plain::{Actor, PlainPool};
 use clover_words::{Tag, ValueBuf};
 use std::alloc::Global;
@@ -24,7 +24,7 @@ use std::test::Fail;
 // The next access of the node's call, through a port of its client.
 fn call_next(
     pool: &mut PlainPool,
-    node: &mut Node,
+    node: &mut Caller,
     room: &mut ValueBuf,
 ) -> Result<Outcome, OutOfMemory>
     requires serves { Serves pool.old node.old room.old }
@@ -39,7 +39,7 @@ fn call_next(
 // The accesses of the node's call up to one that decides or ends it; `Other` too where there are more than sixteen.
 fn call_on(
     pool: &mut PlainPool,
-    node: &mut Node,
+    node: &mut Caller,
     room: &mut ValueBuf,
 ) -> Result<Outcome, OutOfMemory>
     requires serves { Serves pool.old node.old room.old }
@@ -56,7 +56,7 @@ fn call_on(
 }
 
 // Starts a put with buffer 0 for its version. Whether it was started.
-fn start_put(node: &mut Node, call: &Call) -> bool
+fn start_put(node: &mut Caller, call: &Call) -> bool
     requires idle { (p : Plain) × IsIdle p node.old }
     requires call { (x : Stored) × (call.now ≡ PutOf (97 ∷ []) x) }
     ensures { result ≡ true → (p : Plain) (room : Room) → IsIdle p node.old → IsNext (view_at p 0) → IsStarted p node.new room call.now }
@@ -74,7 +74,7 @@ fn start_put(node: &mut Node, call: &Call) -> bool
 }
 
 // Starts a get. Whether it was started.
-fn start_get(node: &mut Node, call: &Call) -> bool
+fn start_get(node: &mut Caller, call: &Call) -> bool
     requires idle { (p : Plain) × IsIdle p node.old }
     requires call { call.now ≡ GetOf (97 ∷ []) }
     ensures { result ≡ true → (p : Plain) (room : Room) → IsIdle p node.old → IsStarted p node.new room call.now }
@@ -90,7 +90,7 @@ fn start_get(node: &mut Node, call: &Call) -> bool
 // came to that.
 fn commit(
     pool: &mut PlainPool,
-    node: &mut Node,
+    node: &mut Caller,
     room: &mut ValueBuf,
     call: Call,
 ) -> Result<bool, OutOfMemory>
@@ -114,7 +114,7 @@ fn commit(
 // Makes the accesses behind the exchange. The number of the tag under which the value is stored.
 fn finish(
     pool: &mut PlainPool,
-    node: &mut Node,
+    node: &mut Caller,
     room: &mut ValueBuf,
 ) -> Result<Option<u64>, OutOfMemory>
     requires { IsCommitted pool.old node.old room.old }
@@ -140,7 +140,7 @@ fn value_of(alloc: Global, flags: u32, room: &ValueBuf) -> Result<Value, Fail>
 fn find(
     alloc: Global,
     pool: &mut PlainPool,
-    node: &mut Node,
+    node: &mut Caller,
     room: &mut ValueBuf,
     call: Call,
 ) -> Result<Option<u64>, Fail>
@@ -164,7 +164,7 @@ fn find(
 /// The client begins to put this value under `a`, up to the exchange that commits it. Whether it came to that.
 pub(crate) fn put_up_to_commit(
     pool: &mut PlainPool,
-    node: &mut Node,
+    node: &mut Caller,
     room: &mut ValueBuf,
     value: Value,
 ) -> Result<bool, Fail>
@@ -184,7 +184,7 @@ pub(crate) fn put_up_to_commit(
 }
 
 /// The client puts this value under `a`. The number of the tag under which they are stored.
-pub(crate) fn put(pool: &mut PlainPool, node: &mut Node, value: Value) -> Result<Option<u64>, Fail>
+pub(crate) fn put(pool: &mut PlainPool, node: &mut Caller, value: Value) -> Result<Option<u64>, Fail>
     requires idle { IsIdle pool.old node.old }
     requires next { IsNext (view_at pool.old 0) }
     requires first { pool.old.entries ≡ [] }
@@ -201,7 +201,7 @@ pub(crate) fn put(pool: &mut PlainPool, node: &mut Node, value: Value) -> Result
 pub(crate) fn get(
     alloc: Global,
     pool: &mut PlainPool,
-    node: &mut Node,
+    node: &mut Caller,
     room: &mut ValueBuf,
 ) -> Result<Option<u64>, Fail>
     requires idle { IsIdle pool.old node.old }

@@ -13,7 +13,7 @@ use crate::calls::put_up_to_commit;
 use crate::grants::grant;
 use clover_list::OutOfMemory;
 use clover_map::{Bytes, Value};
-use clover_node::Node;
+use clover_call::Caller;
 use clover_plain::{Access, Act, Actor, PlainPool};
 use clover_recycle::{RecycleTask, RecycleTurn};
 use clover_words::{Buffer, Setup, Side, Tag, ValueBuf, Word};
@@ -79,7 +79,7 @@ fn put_once(alloc: Global, pool: &mut PlainPool, setup: Setup, value: Value) -> 
     if !grant(alloc, pool, setup)? {
         return Ok(false);
     }
-    let mut node = Node::make(alloc, setup.pool)?;
+    let mut node = Caller::make(alloc, setup.pool)?;
     put_up_to_commit(pool, &mut node, &mut ValueBuf::new(), value)
 }
 

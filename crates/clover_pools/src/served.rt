@@ -7,7 +7,7 @@ use crate::bindings::{begun_pool, small_setup};
 use crate::calls::{get, put};
 use crate::grants::grant;
 use clover_map::{Bytes, Value};
-use clover_node::Node;
+use clover_call::Caller;
 use clover_plain::{Access, Act, Actor, PlainPool};
 use clover_words::{Buffer, Setup, Side, ValueBuf, Word};
 use std::alloc::Global;
@@ -115,7 +115,7 @@ fn session(
     if !grant(alloc, pool, setup)? {
         return Ok(None);
     }
-    let mut node = Node::make(alloc, setup.pool)?;
+    let mut node = Caller::make(alloc, setup.pool)?;
     let Some(stored) = put(pool, &mut node, value)? else {
         return Ok(None);
     };

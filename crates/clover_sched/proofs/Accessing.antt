@@ -20,16 +20,16 @@ use Rattle.clover_rule.proofs.Tools.{length_snoc}
 use Rattle.clover_port.specs.Told.{Made}
 use Rattle.clover_plain.specs.Plain.{Plain, Refused as RefusedAt, Stepped, view_at, history, open_of}
 use Rattle.clover_walk.specs.Walking.{budget}
-use Rattle.clover_node.specs.Calling.{Calling, after}
-use Rattle.clover_node.specs.Going.{IsDue}
-use Rattle.clover_node.specs.Node.{CallHolds, NodeHolds, HasCommitted, IsUncommitted, call_under, is_first, new_tag, next_step}
-use Rattle.clover_node.specs.Turning.{Tells as NodeTells}
-use Rattle.clover_node.specs.declared.answer.NodeRefusal.TheVariants as node
-use Rattle.clover_node.specs.declared.answer.NodeTurn.{NodeTurn}
-use Rattle.clover_node.specs.declared.answer.NodeTurn.TheVariants.{More, Refused as RefusedTurn}
-use Rattle.clover_node.specs.declared.under.Underway.{Underway}
-use Rattle.clover_node.specs.declared.under.Underway.TheVariants.{Nothing}
-use Rattle.clover_node.proofs.Staying.{turned}
+use Rattle.clover_call.specs.Calling.{Calling, after}
+use Rattle.clover_call.specs.Going.{IsDue}
+use Rattle.clover_call.specs.Caller.{CallHolds, CallerHolds, HasCommitted, IsUncommitted, call_under, is_first, new_tag, next_step}
+use Rattle.clover_call.specs.Turning.{Tells as NodeTells}
+use Rattle.clover_call.specs.declared.answer.CallerRefusal.TheVariants as node
+use Rattle.clover_call.specs.declared.answer.CallerTurn.{CallerTurn}
+use Rattle.clover_call.specs.declared.answer.CallerTurn.TheVariants.{More, Refused as RefusedTurn}
+use Rattle.clover_call.specs.declared.under.Underway.{Underway}
+use Rattle.clover_call.specs.declared.under.Underway.TheVariants.{Nothing}
+use Rattle.clover_call.proofs.Staying.{turned}
 use Rattle.clover_sched.specs.declared.client.ClientState.{ClientState}
 use Rattle.clover_sched.specs.declared.event.CallRefusal.{CallRefusal}
 use Rattle.clover_sched.specs.declared.event.CallRefusal.TheVariants as why
@@ -51,7 +51,7 @@ pub matches_rested : (z : ClientState) (v : View) (n : ℕ) → z.node.under ≡
 matches_rested z v n idle free taken = record { refusing = free; idle = λ e. (refl, taken); busy = λ b. absurd (b idle) }
 
 -- what is due of the node is due of the client
-pub due_so : (x y : ClientState) (step : Step) (n : ℕ) (r : NodeTurn) (note : Note) → IsDue x.node.under x.room step n y.node.under y.room r → ((call : Call) (own : ℕ) (c k : Calling) → NodeTells call own c k r → Tells call own k note) → MakesDue x y (act_of step n) note
+pub due_so : (x y : ClientState) (step : Step) (n : ℕ) (r : CallerTurn) (note : Note) → IsDue x.node.under x.room step n y.node.under y.room r → ((call : Call) (own : ℕ) (c k : Calling) → NodeTells call own c k r → Tells call own k note) → MakesDue x y (act_of step n) note
 due_so x y step n r note due tells call own c at =
     let d = due call own c at in
     (d.step_due, n, d.due, d.acts n, d.leads, tells call own c (after call own c n) d.tells)
@@ -73,7 +73,7 @@ module _ (o : Opening) (i : ℕ) (x : ClientState) (p q : Plain) (st : Stands o 
   held = held_of o p i x st
 
   -- where the client stands behind an access
-  module _ (t : Plain) (z : ClientState) (there : view_at t i ≡ w) (names : w.pass.names ≡ v.pass.names) (role : w.pass.role ≡ v.pass.role) (pool : z.node.pool ≡ x.node.pool) (holds : NodeHolds z.node w z.room) where
+  module _ (t : Plain) (z : ClientState) (there : view_at t i ≡ w) (names : w.pass.names ≡ v.pass.names) (role : w.pass.role ≡ v.pass.role) (pool : z.node.pool ≡ x.node.pool) (holds : CallerHolds z.node w z.room) where
     pub stands_by : (act : Act) (b : Bool) (e : Option Entry) → Moved i (access i act b) e p t → w.pass.stock ≡ stock_at o.setup (suc i) z.taken → z.number ≡ length (own t.entries (suc i)) → (IsUncommitted z.node.under → z.asked ≡ Some (call_under z.node.under w)) → (HasCommitted z.node.under → z.asked ≡ None)
         → HasLinked z.node.under w.pass.since → Stands o t i z
     stands_by act b e m stock number asked kept linked = record {
@@ -87,7 +87,7 @@ module _ (o : Opening) (i : ℕ) (x : ClientState) (p q : Plain) (st : Stands o 
       stock = ap (λ (k : View). k.pass.stock) there ∙ stock;
       number = number;
       pool = pool ∙ st.pool;
-      holds = subst (λ (k : View). NodeHolds z.node k z.room) (sym there) holds;
+      holds = subst (λ (k : View). CallerHolds z.node k z.room) (sym there) holds;
       asked = λ h. asked h ∙ ap (λ (k : View). Some (call_under z.node.under k)) (sym there);
       kept = kept;
       linked = subst (λ (k : View). HasLinked z.node.under k.pass.since) (sym there) linked;
@@ -192,7 +192,7 @@ module _ (o : Opening) (i : ℕ) (x : ClientState) (p q : Plain) (st : Stands o 
       })
 
   -- the access was refused, which the call is answered by why
-  went_refused : (y z : ClientState) (r : NodeTurn) (fault : CallRefusal) → Accesses i x y p q r → (a : Step) × RefusedAt (act_of a 0) i p q → x.refusing ≡ true → y.node.under ≡ Nothing → y.node.cursors ≡ x.node.cursors → z ≡ record y { asked = None } → u ≢ Nothing
+  went_refused : (y z : ClientState) (r : CallerTurn) (fault : CallRefusal) → Accesses i x y p q r → (a : Step) × RefusedAt (act_of a 0) i p q → x.refusing ≡ true → y.node.under ≡ Nothing → y.node.cursors ≡ x.node.cursors → z ≡ record y { asked = None } → u ≢ Nothing
       → ((d : Doing) → IsDoing x v d → (fault ≡ lost d.decided) × (x.taken ≡ d.taken + Rattle.clover_sched.specs.Folds.takes_by d.decided)) → Went o i x z p q (Refused (suc i) fault)
   went_refused y z r fault a refused forced over cursors is busy told = subst (λ (k : ClientState). Went o i x k p q (Refused (suc i) fault)) (sym is) (
       let f : RefusedSo i p q = refused_so i p q refused.0 (seat_below o p i x st) refused.1 in

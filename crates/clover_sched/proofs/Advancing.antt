@@ -12,16 +12,16 @@ use Rattle.clover_get.specs.Holding.{GetHolds}
 use Rattle.clover_put.specs.Alone.{IsOpen as IsPutOpen}
 use Rattle.clover_put.specs.Holding.{PutHolds, Fills}
 use Rattle.clover_put.specs.Putting.{Putting, Stage, Storing, Flushing, Seeking, AtMeta, AtLink, Deciding, AtBad, AtRaise, AtShort, Over as PutOver, put_step, put_on}
-use Rattle.clover_node.specs.Going.{GoesOn}
-use Rattle.clover_node.specs.Node.{CallHolds, next_step}
-use Rattle.clover_node.specs.Turning.{OnOver, left_by}
-use Rattle.clover_node.specs.declared.answer.Answer.{Answer}
-use Rattle.clover_node.specs.declared.answer.NodeRefusal.TheVariants.{Behind}
-use Rattle.clover_node.specs.declared.answer.NodeTurn.{NodeTurn}
-use Rattle.clover_node.specs.declared.answer.NodeTurn.TheVariants.{Done, Refused}
-use Rattle.clover_node.specs.declared.under.Underway.{Underway}
-use Rattle.clover_node.specs.declared.under.Underway.TheVariants.{Nothing, Get, Write}
-use Rattle.clover_node.proofs.GetGoes.{holding_open}
+use Rattle.clover_call.specs.Going.{GoesOn}
+use Rattle.clover_call.specs.Caller.{CallHolds, next_step}
+use Rattle.clover_call.specs.Turning.{OnOver, left_by}
+use Rattle.clover_call.specs.declared.answer.Answer.{Answer}
+use Rattle.clover_call.specs.declared.answer.CallerRefusal.TheVariants.{Behind}
+use Rattle.clover_call.specs.declared.answer.CallerTurn.{CallerTurn}
+use Rattle.clover_call.specs.declared.answer.CallerTurn.TheVariants.{Done, Refused}
+use Rattle.clover_call.specs.declared.under.Underway.{Underway}
+use Rattle.clover_call.specs.declared.under.Underway.TheVariants.{Nothing, Get, Write}
+use Rattle.clover_call.proofs.GetGoes.{holding_open}
 use Rattle.clover_sched.specs.declared.event.Note.TheVariants.{Quiet, Answered}
 use Rattle.clover_sched.specs.Alone.{GetEnds, PutEnds, EndsIn, NotesWith, Advances}
 
@@ -109,7 +109,7 @@ module _ (c : ℕ) (p : Pool) (m : ℕ) (v : View) (ws ws1 : List ℕ) (room roo
       (g.0, g.1, subst (λ (l : List ℕ). PutEnds p g.0 l (put_on w n)) (sym made.0) (subst (λ (k : ℕ). PutEnds p g.0 (words_after_step p (put_step w v) ws) (put_on w k)) (sym made.1) g.2))
 
   -- it goes on
-  pub goes_on : (x y : Underway) (r : NodeTurn) (w : View) → ((u : Underway) → left_by r u ≡ u) → IsMade x → CallHolds p x v room → CallHolds p y w room1 → GoesOn x room n r y room1 → EndsIn p ws m x room → Advances c p m ws1 y room1 Quiet
+  pub goes_on : (x y : Underway) (r : CallerTurn) (w : View) → ((u : Underway) → left_by r u ≡ u) → IsMade x → CallHolds p x v room → CallHolds p y w room1 → GoesOn x room n r y room1 → EndsIn p ws m x room → Advances c p m ws1 y room1 Quiet
   goes_on Nothing y r w left made held kept go h = absurd go
   goes_on (Get g) y r w left made held kept go h =
       let is = go.3 ∙ left (Get go.0) in
@@ -125,7 +125,7 @@ module _ (c : ℕ) (p : Pool) (m : ℕ) (v : View) (ws ws1 : List ℕ) (room roo
       subst (λ (u : Underway). Advances c p m ws1 u room1 Quiet) (sym is) (record { left = j.0; one = j.1; ends = j.2; notes = notes_quiet c j.0 k.0 k.1 })
 
   -- it is over behind its last access
-  over_one : (x y : Underway) (r : NodeTurn) → ((A : Type 0) → OnOver r A → A) → IsMade x → CallHolds p x v room → GoesOn x room n r y room1 → EndsIn p ws m x room → m ≡ 1
+  over_one : (x y : Underway) (r : CallerTurn) → ((A : Type 0) → OnOver r A → A) → IsMade x → CallHolds p x v room → GoesOn x room n r y room1 → EndsIn p ws m x room → m ≡ 1
   over_one Nothing y r over made held go h = absurd go
   over_one (Get g) y r over made held go h = let j = get_next g go.0 made held.1 go.1 go.2 h in j.1 ∙ ap suc (get_over p j.0 v (moment ws1 go.0 room1) j.2 (over _ go.4))
   over_one (Write d) y r over made held go h = let j = put_one d made held.1 h in j.1 ∙ ap suc (put_over p j.0 v ws1 (put_on d n) j.2 (over _ go.2))

@@ -27,11 +27,11 @@ use Rattle.clover_plain.proofs.Dealing.{tag_young, tag_inside}
 use Rattle.clover_cache.specs.Node.{cursor_at}
 use Rattle.clover_walk.specs.Standing.{number_of}
 use Rattle.clover_walk.specs.Walking.{Walking, made_walk, key_at}
-use Rattle.clover_node.specs.Beginning.{IsBegun, IsGiven, IsNext, MayStart, Starts as NodeStarts, given_number, size_of}
-use Rattle.clover_node.specs.Node.{NodeHolds, IsUncommitted, call_under}
-use Rattle.clover_node.specs.declared.under.Underway.{Underway}
-use Rattle.clover_node.specs.declared.under.Underway.TheVariants.{Nothing}
-use Rattle.clover_node.proofs.Begins.{made_first}
+use Rattle.clover_call.specs.Beginning.{IsBegun, IsGiven, IsNext, MayStart, Starts as NodeStarts, given_number, size_of}
+use Rattle.clover_call.specs.Caller.{CallerHolds, IsUncommitted, call_under}
+use Rattle.clover_call.specs.declared.under.Underway.{Underway}
+use Rattle.clover_call.specs.declared.under.Underway.TheVariants.{Nothing}
+use Rattle.clover_call.proofs.Begins.{made_first}
 use Rattle.clover_sched.specs.declared.client.ClientState.{ClientState}
 use Rattle.clover_sched.specs.declared.event.Note.TheVariants.{Quiet, Missing, Refused}
 use Rattle.clover_sched.specs.declared.event.CallRefusal.TheVariants.{TooLong}
@@ -106,7 +106,7 @@ module _ (o : Opening) (p : Plain) (i slot own : ℕ) (x y : ClientState) (st : 
     next = next_own v own call (λ one. let first = stock_first o.setup (suc i) x.taken (dealt one) in (first.0, st.stock ∙ first.1 ∙ ap (λ (t : ℕ). t ∷ first.0) (sym (own_is one))));
   }
 
-  holds : NodeHolds y.node v x.room × (call_under y.node.under v ≡ call)
+  holds : CallerHolds y.node v x.room × (call_under y.node.under v ≡ call)
   holds = starts.holds v x.room st.holds may
 
   begun : IsBegun (made_walk o.setup.pool slot (number_of (cursor_at slot x.node.cursors))) own call y.node.under
@@ -141,7 +141,7 @@ module _ (o : Opening) (p : Plain) (i slot own : ℕ) (x y : ClientState) (st : 
         stock = st.stock ∙ ap (stock_at o.setup (suc i)) (sym taken);
         number = ap (λ (z : ClientState). z.number) is ∙ st.number;
         pool = starts.pool ∙ st.pool;
-        holds = subst (NodeHolds y.node v) (sym (ap (λ (z : ClientState). z.room) is)) holds.0;
+        holds = subst (CallerHolds y.node v) (sym (ap (λ (z : ClientState). z.room) is)) holds.0;
         asked = λ h. ap (λ (z : ClientState). z.asked) is ∙ ap (λ (c : Call). Some c) (sym holds.1);
         kept = λ h. absurd (apart y.node.under is_fresh.before h);
         linked = is_fresh.linked;

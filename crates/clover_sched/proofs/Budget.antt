@@ -14,16 +14,16 @@ use Rattle.clover_rule.specs.declared.access.Act.{Act}
 use Rattle.clover_rule.specs.declared.view.View.{View}
 use Rattle.clover_walk.specs.declared.start.Start.{Start}
 use Rattle.clover_walk.specs.Walking.{Walking, Stand, AtShort, AtRoot, AtTag, AtLink, OnTail, Ended, made_walk, begun, goes_from, goes_on, followed, hops, turned, shortened, rooted, next_start, begins, budget, most_accesses}
-use Rattle.clover_node.specs.Calling.{Calling, Deed, Reads, Links, Ends, Leaves, begun_call, deed, done, after, walks, LeadsTo}
+use Rattle.clover_call.specs.Calling.{Calling, Deed, Reads, Links, Ends, Leaves, begun_call, deed, done, after, walks, LeadsTo}
 use Rattle.clover_words.specs.declared.bytes.ValueBuf.{ValueBuf}
-use Rattle.clover_node.specs.Node.{CallHolds}
+use Rattle.clover_call.specs.Caller.{CallHolds}
 use Rattle.clover_sched.specs.Client.{since_of}
 use Rattle.clover_sched.specs.Folds.{Doing}
 use Rattle.clover_sched.specs.Machine.{GoesSoFar}
 use Rattle.clover_sched.specs.Record.{Record}
 use Rattle.clover_sched.specs.Run.{Opening, AllDue, IsCalling, most_made, own_of}
-use Rattle.clover_node.specs.declared.under.Underway.{Underway}
-use Rattle.clover_node.specs.declared.under.Underway.TheVariants.{Nothing}
+use Rattle.clover_call.specs.declared.under.Underway.{Underway}
+use Rattle.clover_call.specs.declared.under.Underway.TheVariants.{Nothing}
 use Rattle.clover_sched.proofs.Dues.{stands_turns, under_within, more_allow}
 
 -- a walk of this pool has made no more turns than the budget, and fewer where it has not ended

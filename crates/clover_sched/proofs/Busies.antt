@@ -5,7 +5,7 @@ use Rattle.clover_rule.specs.Lists.{nth}
 use Rattle.clover_rule.proofs.Tools.{nth_within}
 use Rattle.clover_sched.specs.Machine.{Parts, HasCall, IsBusy}
 use Rattle.clover_sched.specs.declared.client.ClientState.{ClientState}
-use Rattle.clover_node.specs.declared.under.Underway.TheVariants.{Nothing}
+use Rattle.clover_call.specs.declared.under.Underway.TheVariants.{Nothing}
 
 -- the client of a busy actor has a call
 called : (m : Parts) (a : ℕ) → IsBusy m a → HasCall (nth m.clients (a - 1))

@@ -11,17 +11,17 @@ use Rattle.clover_map.specs.declared.call.Reply.TheVariants.{Found as FoundReply
 use Rattle.clover_rule.specs.Steps.{reply_of}
 use Rattle.clover_plain.specs.Plain.{Plain, history}
 use Rattle.clover_get.specs.Getting.{Stage, Seeking, AtMeta, AtValue, AtFound, AtDead, AtBad, Over, FillsFrom, value_in}
-use Rattle.clover_node.specs.Going.{GoesOn}
-use Rattle.clover_node.specs.Node.{HasCommitted, IsUncommitted, copied_flags, flags_at}
-use Rattle.clover_node.specs.Turning.{reply_in}
-use Rattle.clover_node.specs.declared.answer.Answer.{Answer}
-use Rattle.clover_node.specs.declared.answer.Answer.TheVariants.{Stored, Found, Absent, Deleted, Differs}
-use Rattle.clover_node.specs.declared.answer.NodeRefusal.{NodeRefusal}
-use Rattle.clover_node.specs.declared.answer.NodeRefusal.TheVariants.{Unreached, Behind, Linked, TooLong}
-use Rattle.clover_node.specs.declared.answer.NodeTurn.{NodeTurn}
-use Rattle.clover_node.specs.declared.answer.NodeTurn.TheVariants.{More, Decided, Done, Refused as RefusedTurn}
-use Rattle.clover_node.specs.declared.under.Underway.{Underway}
-use Rattle.clover_node.specs.declared.under.Underway.TheVariants.{Nothing, Get, Write}
+use Rattle.clover_call.specs.Going.{GoesOn}
+use Rattle.clover_call.specs.Caller.{HasCommitted, IsUncommitted, copied_flags, flags_at}
+use Rattle.clover_call.specs.Turning.{reply_in}
+use Rattle.clover_call.specs.declared.answer.Answer.{Answer}
+use Rattle.clover_call.specs.declared.answer.Answer.TheVariants.{Stored, Found, Absent, Deleted, Differs}
+use Rattle.clover_call.specs.declared.answer.CallerRefusal.{CallerRefusal}
+use Rattle.clover_call.specs.declared.answer.CallerRefusal.TheVariants.{Unreached, Behind, Linked, TooLong}
+use Rattle.clover_call.specs.declared.answer.CallerTurn.{CallerTurn}
+use Rattle.clover_call.specs.declared.answer.CallerTurn.TheVariants.{More, Decided, Done, Refused as RefusedTurn}
+use Rattle.clover_call.specs.declared.under.Underway.{Underway}
+use Rattle.clover_call.specs.declared.under.Underway.TheVariants.{Nothing, Get, Write}
 use Rattle.clover_sched.specs.declared.client.ClientState.{ClientState}
 use Rattle.clover_sched.specs.declared.event.CallRefusal.{CallRefusal}
 use Rattle.clover_sched.specs.declared.event.Note.TheVariants.{Quiet, Answered, Refused}
@@ -48,7 +48,7 @@ found_fills (AtDead t) f k room room1 e h = absurd cc
 found_fills (AtBad t) f k room room1 e h = absurd cc
 found_fills Over f k room room1 e h = absurd cc
 
-room_kept : (x y : Underway) (r : NodeTurn) (f k : ℕ) (room room1 : ValueBuf) → copied_flags x ≡ Some f → GoesOn x room k r y room1 → room1 ≡ room
+room_kept : (x y : Underway) (r : CallerTurn) (f k : ℕ) (room room1 : ValueBuf) → copied_flags x ≡ Some f → GoesOn x room k r y room1 → room1 ≡ room
 room_kept Nothing y r f k room room1 e go = absurd go
 room_kept (Get g) y r f k room room1 e go = found_fills g.stage f k room room1 e go.2
 room_kept (Write c) y r f k room room1 e go = go.1
@@ -60,7 +60,7 @@ taken_kept (Some call) y c reply z q t h = ap (λ (k : ClientState). k.taken) h.
 
 module _ (i : ℕ) (x y : ClientState) (p q : Plain) (value : Option Value) (found : IsFound x value) where
   -- the value that was found is the one that was taken before
-  pub value_so : (r : NodeTurn) → Accesses i x y p q r → IsValue r value y.room
+  pub value_so : (r : CallerTurn) → Accesses i x y p q r → IsValue r value y.room
   value_so More a = tt
   value_so (Decided (Stored t)) a = tt
   value_so (Decided (Found t f)) a = absurd (no_find _ _ _ _ a.went.decided.1)
@@ -74,17 +74,17 @@ module _ (i : ℕ) (x y : ClientState) (p q : Plain) (value : Option Value) (fou
   value_so (Done (Differs t)) a = tt
   value_so (RefusedTurn z) a = tt
 
-module _ (x y : ClientState) (k : ℕ) (p q : Plain) (r : NodeTurn) (told : (o : Opening) (i : ℕ) → suc i ≡ k → Stands o p i x → Accesses i x y p q r) (few : p.made < 2 ^ 64 - 1) (o : Opening) (i : ℕ) (seat : suc i ≡ k) (st : Stands o p i x) where
-  told_as : (s : NodeTurn) → r ≡ s → Accesses i x y p q s
+module _ (x y : ClientState) (k : ℕ) (p q : Plain) (r : CallerTurn) (told : (o : Opening) (i : ℕ) → suc i ≡ k → Stands o p i x → Accesses i x y p q r) (few : p.made < 2 ^ 64 - 1) (o : Opening) (i : ℕ) (seat : suc i ≡ k) (st : Stands o p i x) where
+  told_as : (s : CallerTurn) → r ≡ s → Accesses i x y p q s
   told_as s e = subst (Accesses i x y p q) e (told o i seat st)
 
   pub came_more : r ≡ More → Went o i x y p q Quiet
   came_more e = went_more o i x p q st few y (told_as More e)
 
-  pub came_refused : (z : NodeRefusal) (fault : CallRefusal) → r ≡ RefusedTurn z → fault ≡ refusal_of z → Went o i x (record y { asked = None }) p q (Refused k fault)
+  pub came_refused : (z : CallerRefusal) (fault : CallRefusal) → r ≡ RefusedTurn z → fault ≡ refusal_of z → Went o i x (record y { asked = None }) p q (Refused k fault)
   came_refused z fault e is = subst (λ (n : ℕ). Went o i x (record y { asked = None }) p q (Refused n fault)) seat (subst (λ (c : CallRefusal). Went o i x (record y { asked = None }) p q (Refused (suc i) c)) (sym is) (by z (told_as (RefusedTurn z) e)))
     where
-      by : (z : NodeRefusal) → Accesses i x y p q (RefusedTurn z) → Went o i x (record y { asked = None }) p q (Refused (suc i) (refusal_of z))
+      by : (z : CallerRefusal) → Accesses i x y p q (RefusedTurn z) → Went o i x (record y { asked = None }) p q (Refused (suc i) (refusal_of z))
       by Unreached a = went_unreached o i x p q st few y (record y { asked = None }) a refl
       by (Behind turns) a = went_behind o i x p q st few y (record y { asked = None }) turns a refl
       by (Linked t) a = went_linked o i x p q st few y (record y { asked = None }) t a refl

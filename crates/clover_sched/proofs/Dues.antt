@@ -33,22 +33,22 @@ use Rattle.clover_put.specs.Putting.{Putting, Stage, Storing, Flushing, Seeking,
 use Rattle.clover_put.specs.declared.job.Job.{Job}
 use Rattle.clover_put.specs.declared.job.Job.TheVariants.{Put, Delete, Swap}
 use Rattle.clover_put.proofs.Known.{bounded}
-use Rattle.clover_node.specs.Calling.{Calling, Deed, Reads, Links, Ends, Leaves, own_words, begun_call, deed, done, due, after, walks, LeadsTo}
-use Rattle.clover_node.specs.Mirroring.{reads, GetMirrors, PutMirrors, Mirrors, Writes}
-use Rattle.clover_node.specs.Beginning.{size_of}
+use Rattle.clover_call.specs.Calling.{Calling, Deed, Reads, Links, Ends, Leaves, own_words, begun_call, deed, done, due, after, walks, LeadsTo}
+use Rattle.clover_call.specs.Mirroring.{reads, GetMirrors, PutMirrors, Mirrors, Writes}
+use Rattle.clover_call.specs.Beginning.{size_of}
 use Rattle.clover_sched.specs.Client.{MakesDue, Starts, since_of}
 use Rattle.clover_sched.specs.Ends.{ended_by, MayBegin}
 use Rattle.clover_sched.specs.Folds.{Doing, ends}
 use Rattle.clover_sched.specs.Machine.{GoesSoFar}
 use Rattle.clover_sched.specs.Run.{Opening, IsCalling, IsDue, Tells, own_of, room}
-use Rattle.clover_node.specs.declared.under.Underway.{Underway}
-use Rattle.clover_node.specs.declared.under.Underway.TheVariants.{Nothing, Get, Write}
+use Rattle.clover_call.specs.declared.under.Underway.{Underway}
+use Rattle.clover_call.specs.declared.under.Underway.TheVariants.{Nothing, Get, Write}
 use Rattle.clover_sched.specs.declared.client.ClientState.{ClientState}
 use Rattle.clover_sched.specs.declared.event.Note.{Note}
 use Rattle.clover_sched.specs.declared.event.Note.TheVariants.{Quiet, Answered, Refused, Busy, Missing}
-use Rattle.clover_node.specs.Node.{CallHolds}
-use Rattle.clover_node.proofs.Begins.{mirrors}
-use Rattle.clover_node.proofs.Calling.{leads_more}
+use Rattle.clover_call.specs.Caller.{CallHolds}
+use Rattle.clover_call.proofs.Begins.{mirrors}
+use Rattle.clover_call.proofs.Calling.{leads_more}
 use Rattle.clover_sched.proofs.Lefts.{copied_few}
 use Rattle.clover_sched.proofs.Starting.{value_fits}
 

@@ -21,12 +21,12 @@ use Rattle.clover_rule.specs.declared.view.View.{View}
 use Rattle.clover_rule.proofs.Tools.{length_snoc}
 use Rattle.clover_port.specs.Told.{Open, Made, opened}
 use Rattle.clover_plain.specs.Plain.{Plain, Stepped, KeptButEntries, view_at, history, open_of}
-use Rattle.clover_node.specs.Node.{CallHolds, HasCommitted, IsUncommitted, call_under, is_first, new_tag, next_step, slot_of}
-use Rattle.clover_node.specs.Turning.{reply_in}
-use Rattle.clover_node.specs.declared.answer.Answer.{Answer}
-use Rattle.clover_node.specs.declared.answer.NodeTurn.TheVariants.{Decided, Done}
-use Rattle.clover_node.specs.declared.under.Underway.{Underway}
-use Rattle.clover_node.specs.declared.under.Underway.TheVariants.{Nothing}
+use Rattle.clover_call.specs.Caller.{CallHolds, HasCommitted, IsUncommitted, call_under, is_first, new_tag, next_step, slot_of}
+use Rattle.clover_call.specs.Turning.{reply_in}
+use Rattle.clover_call.specs.declared.answer.Answer.{Answer}
+use Rattle.clover_call.specs.declared.answer.CallerTurn.TheVariants.{Decided, Done}
+use Rattle.clover_call.specs.declared.under.Underway.{Underway}
+use Rattle.clover_call.specs.declared.under.Underway.TheVariants.{Nothing}
 use Rattle.clover_sched.specs.declared.client.ClientState.{ClientState}
 use Rattle.clover_sched.specs.declared.event.Note.{Note}
 use Rattle.clover_sched.specs.declared.event.Note.TheVariants.{Quiet, Answered}

@@ -43,11 +43,11 @@ use Rattle.clover_walk.specs.Walking.{made_walk}
 use Rattle.clover_walk.specs.declared.start.Start.TheVariants.{FromCursor, FromShort, FromRoot}
 use Rattle.clover_walk.proofs.Alone.{content_words}
 use Rattle.clover_sched.specs.declared.client.ClientState.{ClientState}
-use Rattle.clover_node.specs.declared.under.Underway.{Underway}
+use Rattle.clover_call.specs.declared.under.Underway.{Underway}
 use Rattle.clover_sched.specs.Alone.{EndsIn, Finds, HasChain, cost_of}
 use Rattle.clover_words.specs.declared.bytes.ValueBuf.{ValueBuf}
-use Rattle.clover_node.specs.Node.{IsCursor}
-use Rattle.clover_node.specs.Beginning.{IsBegun, size_of}
+use Rattle.clover_call.specs.Caller.{IsCursor}
+use Rattle.clover_call.specs.Beginning.{IsBegun, size_of}
 use Rattle.clover_sched.specs.Client.{Stands}
 use Rattle.clover_sched.specs.Ends.{ended, MayBegin}
 use Rattle.clover_sched.specs.Folds.{words_after}

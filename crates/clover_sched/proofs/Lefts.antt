@@ -10,8 +10,8 @@ use Rattle.clover_get.specs.Holding.{StandsOn, copied}
 use Rattle.clover_sched.specs.Client.{since_of}
 use Rattle.clover_sched.specs.Machine.{left_by}
 use Rattle.clover_sched.specs.Run.{most_made}
-use Rattle.clover_node.specs.declared.under.Underway.{Underway}
-use Rattle.clover_node.specs.declared.under.Underway.TheVariants.{Nothing, Get, Write}
+use Rattle.clover_call.specs.declared.under.Underway.{Underway}
+use Rattle.clover_call.specs.declared.under.Underway.TheVariants.{Nothing, Get, Write}
 
 -- the accesses of a get since its last turn
 pub copied_few : (s : GetStage) (w : Walking) (v : View) (into : ValueBuf) → StandsOn s w v into → copied s w.stand w.pool.words ≤ 5 + w.pool.words

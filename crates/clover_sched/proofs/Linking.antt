@@ -23,13 +23,13 @@ use Rattle.clover_put.specs.Answering.{IsBefore}
 use Rattle.clover_put.specs.Holding.{Fills}
 use Rattle.clover_put.specs.Putting.{Putting, Stage, Storing, Flushing, Seeking, AtMeta, AtLink, Deciding, AtBad, AtRaise, AtShort, Over, put_step, put_on, staged, walked}
 use Rattle.clover_walk.specs.Walking.{goes_on}
-use Rattle.clover_node.specs.Going.{GoesOn, Turns}
-use Rattle.clover_node.specs.Node.{CallHolds, HasCommitted, IsUncommitted, call_under, is_first, new_tag, next_step, slot_of}
-use Rattle.clover_node.specs.declared.answer.Answer.{Answer}
-use Rattle.clover_node.specs.declared.answer.NodeTurn.TheVariants.{More, Decided, Done}
-use Rattle.clover_node.specs.declared.under.Underway.{Underway}
-use Rattle.clover_node.specs.declared.under.Underway.TheVariants.{Nothing, Get, Write}
-use Rattle.clover_node.proofs.Staying.{raises_at, shortens_at}
+use Rattle.clover_call.specs.Going.{GoesOn, Turns}
+use Rattle.clover_call.specs.Caller.{CallHolds, HasCommitted, IsUncommitted, call_under, is_first, new_tag, next_step, slot_of}
+use Rattle.clover_call.specs.declared.answer.Answer.{Answer}
+use Rattle.clover_call.specs.declared.answer.CallerTurn.TheVariants.{More, Decided, Done}
+use Rattle.clover_call.specs.declared.under.Underway.{Underway}
+use Rattle.clover_call.specs.declared.under.Underway.TheVariants.{Nothing, Get, Write}
+use Rattle.clover_call.proofs.Staying.{raises_at, shortens_at}
 use Rattle.clover_sched.specs.declared.event.CallRefusal.TheVariants as why
 use Rattle.clover_sched.specs.Client.{HasLinked, LinkedAt, stock_at}
 use Rattle.clover_sched.specs.Folds.{Doing}

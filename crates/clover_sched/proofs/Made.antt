@@ -22,10 +22,10 @@ use Rattle.clover_plain.proofs.Stepping.{nth_default}
 use Rattle.clover_sched.specs.Alone.{AllFound, HasChain}
 use Rattle.clover_sched.specs.Folds.{words_after}
 use Rattle.clover_sched.specs.Record.{Record}
-use Rattle.clover_node.specs.Node.{NodeState, NodeHolds, HasCommitted, IsUncommitted}
-use Rattle.clover_node.specs.declared.under.Underway.{Underway}
-use Rattle.clover_node.specs.declared.under.Underway.TheVariants.{Nothing}
-use Rattle.clover_node.proofs.Begins.{first_cursors}
+use Rattle.clover_call.specs.Caller.{CallerState, CallerHolds, HasCommitted, IsUncommitted}
+use Rattle.clover_call.specs.declared.under.Underway.{Underway}
+use Rattle.clover_call.specs.declared.under.Underway.TheVariants.{Nothing}
+use Rattle.clover_call.proofs.Begins.{first_cursors}
 use Rattle.clover_sched.specs.Client.{HasLinked, IsIdle, Stands, spent_by, stock_at}
 use Rattle.clover_sched.specs.Machine.{Parts, IsAt, IsClientAt, IsOpening, Remembers}
 use Rattle.clover_sched.specs.Run.{Opening}
@@ -112,16 +112,16 @@ made_at m s keys setup names slots apart running fresh clients = record {
           names = ap (λ (v : View). v.pass.names) (view i below);
           stock = ap (λ (v : View). v.pass.stock) (view i below) ∙ ap (dealt_from s (suc i) 0) (whole (buffers_total s.pool)) ∙ ap (stock_at s (suc i)) (sym idle.taken);
           number = idle.number ∙ sym (ap (λ (l : List Entry). length (own l (suc i))) fresh.entries);
-          pool = ap (λ (n : NodeState). n.pool) idle.node;
-          holds = subst (λ (n : NodeState). NodeHolds n (view_at m.pool i) x.room) (sym idle.node) (record {
+          pool = ap (λ (n : CallerState). n.pool) idle.node;
+          holds = subst (λ (n : CallerState). CallerHolds n (view_at m.pool i) x.room) (sym idle.node) (record {
             pool = ap (λ (v : View). v.pass.pool) (view i below);
             client = role ∙ ap ClientRole (sym (ap role_number role));
             cursors = first_cursors s.pool (view_at m.pool i);
             call = tt;
           });
-          asked = λ h. absurd (subst (λ (n : NodeState). IsUncommitted n.under) idle.node h);
-          kept = λ h. absurd (subst (λ (n : NodeState). HasCommitted n.under) idle.node h);
-          linked = subst (λ (n : NodeState). HasLinked n.under (view_at m.pool i).pass.since) (sym idle.node) tt;
+          asked = λ h. absurd (subst (λ (n : CallerState). IsUncommitted n.under) idle.node h);
+          kept = λ h. absurd (subst (λ (n : CallerState). HasCommitted n.under) idle.node h);
+          linked = subst (λ (n : CallerState). HasLinked n.under (view_at m.pool i).pass.since) (sym idle.node) tt;
         }
       where
         whole : (n : ℕ) → n ≡ n - 0
@@ -150,11 +150,11 @@ made_at m s keys setup names slots apart running fresh clients = record {
     each : (i : ℕ) (x : ClientState) → nth m.clients i ≡ Some x → IsClientAt (record { setup = s; words = m.pool.words; names = bindings_from 0 keys }) m.pool i x []
     each i x here =
         let idle = is_idle i x here in
-        let under : x.node.under ≡ Nothing = ap (λ (n : NodeState). n.under) idle.node in
+        let under : x.node.under ≡ Nothing = ap (λ (n : CallerState). n.under) idle.node in
         record {
           stands = stands i x idle (below_so i x here);
           matches = record { refusing = idle.refusing; idle = λ e. (refl, idle.taken); busy = λ b. absurd (b under) };
           spent = let e = ap (λ (u : Underway). spent_by u x.taken) under in let z = idle.taken in omega arith;
-          cursors = subst (λ (n : NodeState). Remembers (bindings_from 0 keys) n.cursors []) (sym idle.node) (remembers_none (bindings_from 0 keys));
+          cursors = subst (λ (n : CallerState). Remembers (bindings_from 0 keys) n.cursors []) (sym idle.node) (remembers_none (bindings_from 0 keys));
           goes = λ busy. absurd (busy under);
         }

@@ -33,7 +33,7 @@ use Rattle.clover_sched.specs.Machine.{Parts, Remembers, GoesSoFar, IsAt, IsPool
 use Rattle.clover_sched.specs.Record.{Record}
 use Rattle.clover_sched.specs.Run.{Opening, Follows, IsStep, IsEntry, AllDue, IsDue, lost, begin_note}
 use Rattle.clover_sched.specs.declared.client.ClientState.{ClientState}
-use Rattle.clover_node.specs.declared.under.Underway.TheVariants.{Nothing}
+use Rattle.clover_call.specs.declared.under.Underway.TheVariants.{Nothing}
 use Rattle.clover_sched.specs.declared.event.Event.{Event}
 use Rattle.clover_sched.specs.declared.event.Event.TheVariants.{Begin, Step, Refuse}
 use Rattle.clover_sched.specs.declared.event.Note.{Note}
@@ -42,9 +42,9 @@ use Rattle.clover_sched.proofs.Pasts.{accesses_more, entries_more, words_more, m
 use Rattle.clover_sched.proofs.Finding.{begins_alone, chain_here}
 use Rattle.clover_sched.proofs.Alone.{all_found_more, alone_more}
 use Rattle.clover_sched.proofs.Bound.{AreBindings, bindings_are}
-use Rattle.clover_node.proofs.Knowing.{cursor_held}
+use Rattle.clover_call.proofs.Knowing.{cursor_held}
 use Rattle.clover_sched.proofs.Dues.{goes_as, goes_first, leads_on, is_due, ended_not}
-use Rattle.clover_node.specs.Node.{slot_of}
+use Rattle.clover_call.specs.Caller.{slot_of}
 use Rattle.clover_sched.proofs.Stepping.{cursors_of, held_of, stands_same}
 use Rattle.clover_sched.proofs.Remembering.{IsOn, AnswersOnly, ended_still, ended_other, answers_own, under_on, remembers_asked, remembers_step, may_begin}
 

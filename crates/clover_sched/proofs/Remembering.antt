@@ -23,14 +23,14 @@ use Rattle.clover_cache.proofs.Known.{held_at, last-asked, All-asked, All-set_cu
 use Rattle.clover_put.specs.Putting.{call_of}
 use Rattle.clover_put.specs.declared.job.Job.{Job}
 use Rattle.clover_put.specs.declared.job.Job.TheVariants.{Put, Delete, Swap}
-use Rattle.clover_node.specs.Node.{CallHolds, call_under, slot_of}
+use Rattle.clover_call.specs.Caller.{CallHolds, call_under, slot_of}
 use Rattle.clover_sched.specs.Client.{IsDoing, SetsCursor, step_record}
 use Rattle.clover_sched.specs.Ends.{ended_by, end_tag, IsLatest, IsElsewhere, MayBegin}
 use Rattle.clover_sched.specs.Folds.{Doing}
 use Rattle.clover_sched.specs.Machine.{Remembers}
 use Rattle.clover_sched.specs.Run.{Opening, IsStep, IsCause, lost}
-use Rattle.clover_node.specs.declared.under.Underway.{Underway}
-use Rattle.clover_node.specs.declared.under.Underway.TheVariants.{Nothing, Get, Write}
+use Rattle.clover_call.specs.declared.under.Underway.{Underway}
+use Rattle.clover_call.specs.declared.under.Underway.TheVariants.{Nothing, Get, Write}
 use Rattle.clover_sched.specs.declared.client.ClientState.{ClientState}
 use Rattle.clover_sched.specs.declared.event.Note.{Note}
 use Rattle.clover_sched.specs.declared.event.Note.TheVariants.{Quiet, Answered, Refused, Busy, Missing}

@@ -29,11 +29,11 @@ use Rattle.clover_put.specs.Putting.{Putting, commits, made_put}
 use Rattle.clover_put.specs.declared.job.Job.{Job}
 use Rattle.clover_put.specs.declared.job.Job.TheVariants.{Put, Delete, Swap}
 use Rattle.clover_put.proofs.Alone.{put_law}
-use Rattle.clover_node.specs.declared.under.Underway.{Underway}
+use Rattle.clover_call.specs.declared.under.Underway.{Underway}
 use Rattle.clover_sched.specs.Alone.{GetEnds, PutEnds, EndsIn, cost}
-use Rattle.clover_node.specs.Beginning.{IsBegun, no_value, size_of}
+use Rattle.clover_call.specs.Beginning.{IsBegun, no_value, size_of}
 use Rattle.clover_sched.specs.Run.{room}
-use Rattle.clover_node.proofs.Begins.{made_pool}
+use Rattle.clover_call.proofs.Begins.{made_pool}
 use Rattle.clover_sched.proofs.Chains.{few_links}
 
 -- a load that shows the tail unlinked makes no turn

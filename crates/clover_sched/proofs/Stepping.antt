@@ -23,7 +23,7 @@ use Rattle.clover_plain.specs.Plain.{Plain, Kept, view_at, history}
 use Rattle.clover_sched.specs.declared.client.ClientState.{ClientState}
 use Rattle.clover_sched.specs.declared.event.Note.{Note}
 use Rattle.clover_sched.specs.Alone.{EndsIn}
-use Rattle.clover_node.specs.Node.{NodeHolds, AreCursors, CallHolds, call_under}
+use Rattle.clover_call.specs.Caller.{CallerHolds, AreCursors, CallHolds, call_under}
 use Rattle.clover_sched.specs.Client.{access, Stands, Moved, Went, Matches, HasLinked, since_of, step_record}
 use Rattle.clover_sched.specs.Folds.{Doing, listed, words_by, made_by, takes_by}
 use Rattle.clover_sched.specs.Run.{Opening, IsStep, IsEntry, IsCause, IsCommit, Wrote}
@@ -72,7 +72,7 @@ stands_same o p q i x setup opened entered seats number e s = record {
   stock = ap (λ (v : View). v.pass.stock) e ∙ s.stock;
   number = s.number ∙ sym number;
   pool = s.pool;
-  holds = subst (λ (v : View). NodeHolds x.node v x.room) (sym e) s.holds;
+  holds = subst (λ (v : View). CallerHolds x.node v x.room) (sym e) s.holds;
   asked = λ h. s.asked h ∙ ap (λ (v : View). Some (call_under x.node.under v)) (sym e);
   kept = s.kept;
   linked = subst (λ (v : View). HasLinked x.node.under v.pass.since) (sym e) s.linked;

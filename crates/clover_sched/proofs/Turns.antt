@@ -22,16 +22,16 @@ use Rattle.clover_rule.specs.declared.access.Act.TheVariants.{Load, Store}
 use Rattle.clover_rule.specs.declared.view.View.{View}
 use Rattle.clover_put.specs.Answering.{IsBefore, IsBehind}
 use Rattle.clover_put.specs.Putting.{Stage, Storing, Flushing, Seeking, AtMeta, AtLink, Deciding, AtBad, AtRaise, AtShort, Over, put_on}
-use Rattle.clover_node.specs.Going.{GoesOn, IsQuiet, Turns}
-use Rattle.clover_node.specs.Node.{HasCommitted, IsUncommitted, is_first}
-use Rattle.clover_node.specs.Turning.{CommitsNothing, IsTagOf, reply_in, left_by}
-use Rattle.clover_node.specs.declared.answer.Answer.{Answer}
-use Rattle.clover_node.specs.declared.answer.Answer.TheVariants.{Stored, Found, Absent, Deleted, Differs}
-use Rattle.clover_node.specs.declared.answer.NodeTurn.{NodeTurn}
-use Rattle.clover_node.specs.declared.answer.NodeTurn.TheVariants.{More}
-use Rattle.clover_node.specs.declared.under.Underway.{Underway}
-use Rattle.clover_node.specs.declared.under.Underway.TheVariants.{Nothing, Get, Write}
-use Rattle.clover_node.proofs.PutStep.{both}
+use Rattle.clover_call.specs.Going.{GoesOn, IsQuiet, Turns}
+use Rattle.clover_call.specs.Caller.{HasCommitted, IsUncommitted, is_first}
+use Rattle.clover_call.specs.Turning.{CommitsNothing, IsTagOf, reply_in, left_by}
+use Rattle.clover_call.specs.declared.answer.Answer.{Answer}
+use Rattle.clover_call.specs.declared.answer.Answer.TheVariants.{Stored, Found, Absent, Deleted, Differs}
+use Rattle.clover_call.specs.declared.answer.CallerTurn.{CallerTurn}
+use Rattle.clover_call.specs.declared.answer.CallerTurn.TheVariants.{More}
+use Rattle.clover_call.specs.declared.under.Underway.{Underway}
+use Rattle.clover_call.specs.declared.under.Underway.TheVariants.{Nothing, Get, Write}
+use Rattle.clover_call.proofs.PutStep.{both}
 use Rattle.clover_sched.specs.Client.{since_of, spent_at, spent_by}
 use Rattle.clover_sched.specs.Ends.{end_tag, seen_tag}
 use Rattle.clover_sched.specs.Run.{IsCommit, Shortens, Wrote}
@@ -147,7 +147,7 @@ spent_more (Write c) y room room1 k n go (inl b) = let e = ap (λ (u : Underway)
 spent_more (Write c) y room room1 k n go (inr b) = let e = spent_committed y n b.1 in let l = (spent_within c.stage n).0 in omega arith
 
 -- nor where it commits
-pub spent_link : (x y : Underway) (room room1 : ValueBuf) (r : NodeTurn) (k n : ℕ) → ((u : Underway) → left_by r u ≡ u) → GoesOn x room k r y room1 → IsUncommitted x → HasCommitted y → spent_by y (suc n) ≤ spent_by x n
+pub spent_link : (x y : Underway) (room room1 : ValueBuf) (r : CallerTurn) (k n : ℕ) → ((u : Underway) → left_by r u ≡ u) → GoesOn x room k r y room1 → IsUncommitted x → HasCommitted y → spent_by y (suc n) ≤ spent_by x n
 spent_link Nothing y room room1 r k n left go b h = absurd go
 spent_link (Get g) y room room1 r k n left go b h = absurd (subst HasCommitted (go.3 ∙ left (Get go.0)) h)
 spent_link (Write c) y room room1 r k n left go b h = let e = spent_committed y (suc n) h in let f = spent_before c.stage n b in omega arith

@@ -19,8 +19,8 @@ use Rattle.clover_put.specs.Alone.{alone, IsOpen as IsPutOpen}
 use Rattle.clover_put.specs.Putting.{Putting, put_step, Over as PutOver}
 use Rattle.clover_sched.specs.declared.client.ClientState.{ClientState}
 use Rattle.clover_words.specs.declared.bytes.ValueBuf.{ValueBuf}
-use Rattle.clover_node.specs.declared.under.Underway.{Underway}
-use Rattle.clover_node.specs.declared.under.Underway.TheVariants.{Nothing, Get, Write}
+use Rattle.clover_call.specs.declared.under.Underway.{Underway}
+use Rattle.clover_call.specs.declared.under.Underway.TheVariants.{Nothing, Get, Write}
 use Rattle.clover_sched.specs.declared.event.Event.TheVariants.{Begin, Step}
 use Rattle.clover_sched.specs.declared.event.Note.{Note}
 use Rattle.clover_sched.specs.declared.event.Note.TheVariants.{Quiet, Answered}

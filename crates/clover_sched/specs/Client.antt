@@ -27,16 +27,16 @@ use Rattle.clover_walk.specs.Standing.{number_of}
 use Rattle.clover_walk.specs.Walking.{made_walk}
 use Rattle.clover_put.specs.Putting.{Stage, AtRaise, AtShort}
 use Rattle.clover_sched.specs.declared.client.ClientState.{ClientState}
-use Rattle.clover_node.specs.declared.under.Underway.{Underway}
-use Rattle.clover_node.specs.declared.under.Underway.TheVariants.{Nothing, Write}
+use Rattle.clover_call.specs.declared.under.Underway.{Underway}
+use Rattle.clover_call.specs.declared.under.Underway.TheVariants.{Nothing, Write}
 use Rattle.clover_sched.specs.declared.event.Event.TheVariants.{Step}
 use Rattle.clover_sched.specs.declared.event.Note.{Note}
 use Rattle.clover_sched.specs.declared.event.Note.TheVariants.{Quiet, Answered}
-use Rattle.clover_node.specs.Beginning.{IsBegun, size_of, ExpectsTag}
-use Rattle.clover_node.specs.Node.{NodeHolds, HasCommitted, IsUncommitted, call_under, first_node, is_first, new_tag, slot_of}
+use Rattle.clover_call.specs.Beginning.{IsBegun, size_of, ExpectsTag}
+use Rattle.clover_call.specs.Caller.{CallerHolds, HasCommitted, IsUncommitted, call_under, first_caller, is_first, new_tag, slot_of}
 use Rattle.clover_sched.specs.Alone.{EndsIn, Advances}
-use Rattle.clover_node.specs.Calling.{Calling, due, after}
-use Rattle.clover_node.specs.Mirroring.{Mirrors}
+use Rattle.clover_call.specs.Calling.{Calling, due, after}
+use Rattle.clover_call.specs.Mirroring.{Mirrors}
 use Rattle.clover_sched.specs.Ends.{end_tag}
 use Rattle.clover_sched.specs.Folds.{Doing, listed, words_by, made_by, begun, stepped}
 use Rattle.clover_sched.specs.Record.{Record}
@@ -44,7 +44,7 @@ use Rattle.clover_sched.specs.Run.{Opening, Flushes, IsStep, Tells, begin_note, 
 
 -- a client of this pool that has done nothing
 pub record IsIdle (p : Pool) (x : ClientState) : Type 0 where
-  pub node : x.node ≡ first_node p
+  pub node : x.node ≡ first_caller p
   pub refusing : x.refusing ≡ false
   pub taken : x.taken ≡ 0
   pub number : x.number ≡ 0
@@ -80,7 +80,7 @@ pub record Stands (o : Opening) (p : Plain) (i : ℕ) (x : ClientState) : Type 0
   pub stock : (view_at p i).pass.stock ≡ stock_at o.setup (suc i) x.taken
   pub number : x.number ≡ length (own p.entries (suc i))
   pub pool : x.node.pool ≡ o.setup.pool
-  pub holds : NodeHolds x.node (view_at p i) x.room
+  pub holds : CallerHolds x.node (view_at p i) x.room
   pub asked : IsUncommitted x.node.under → x.asked ≡ Some (call_under x.node.under (view_at p i))
   pub kept : HasCommitted x.node.under → x.asked ≡ None
   pub linked : HasLinked x.node.under (view_at p i).pass.since

@@ -22,14 +22,14 @@ use Rattle.clover_plain.specs.Plain.{Plain, Kept, history, view_at}
 use Rattle.clover_plain.specs.Preset.{IsPreset, AreDistinct}
 use Rattle.clover_sched.specs.declared.client.ClientState.{ClientState}
 use Rattle.clover_words.specs.declared.bytes.ValueBuf.{ValueBuf}
-use Rattle.clover_node.specs.declared.under.Underway.{Underway}
-use Rattle.clover_node.specs.declared.under.Underway.TheVariants.{Nothing}
+use Rattle.clover_call.specs.declared.under.Underway.{Underway}
+use Rattle.clover_call.specs.declared.under.Underway.TheVariants.{Nothing}
 use Rattle.clover_sched.specs.declared.event.Event.{Event}
 use Rattle.clover_sched.specs.declared.event.Event.TheVariants.{Begin, Step, Refuse}
 use Rattle.clover_sched.specs.declared.event.Note.{Note}
 use Rattle.clover_sched.specs.Alone.{AllFound, AloneSoFar}
-use Rattle.clover_node.specs.Calling.{Calling, own_words}
-use Rattle.clover_node.specs.Mirroring.{Mirrors}
+use Rattle.clover_call.specs.Calling.{Calling, own_words}
+use Rattle.clover_call.specs.Mirroring.{Mirrors}
 use Rattle.clover_sched.specs.Client.{Stands, Matches, IsLast, IsTask, spent, since_of}
 use Rattle.clover_sched.specs.Ends.{ended, IsLatest}
 use Rattle.clover_sched.specs.Folds.{Doing, entries_in, accesses_in, words_after, made_in, doing, along}

@@ -8,9 +8,9 @@ ghost use Rattle.clover_map.specs.History.{key_of};
 ghost use Rattle.clover_rule.specs.Lists.{Within};
 ghost use Rattle.clover_rule.specs.declared.view.View.{View};
 ghost use Rattle.clover_walk.specs.Walking.{key_at};
-ghost use Rattle.clover_node.specs.Node.{AreCursors};
-ghost use Rattle.clover_node.specs.Beginning.{IsGiven, given_number};
-ghost use Rattle.clover_node.specs.declared.under.Underway.TheVariants.{Nothing as IsNothing};
+ghost use Rattle.clover_call.specs.Caller.{AreCursors};
+ghost use Rattle.clover_call.specs.Beginning.{IsGiven, given_number};
+ghost use Rattle.clover_call.specs.declared.under.Underway.TheVariants.{Nothing as IsNothing};
 ghost use Rattle.clover_plain.specs.Plain.{Plain, Kept};
 ghost use Rattle.clover_sched.specs.Client.{IsTask, IsIdle, Stands, Begins, Went};
 ghost use Rattle.clover_sched.specs.Run.{Opening, own_of};
@@ -21,7 +21,7 @@ mod step;
 use crate::event::{CallRefusal, Note};
 use clover_list::OutOfMemory;
 use clover_map::Call;
-use clover_node::Node;
+use clover_call::Caller;
 use clover_plain::PlainPool;
 use clover_script::Task;
 use clover_words::{Pool, Setup, Tag, ValueBuf, dealt};
@@ -32,7 +32,7 @@ use std::alloc::Global;
 /// the history has of it.
 #[derive(Drop)]
 pub struct ClientState {
-    pub node: Node,
+    pub node: Caller,
     pub room: ValueBuf,
     pub asked: Option<Call>,
     pub refusing: bool,
@@ -59,7 +59,7 @@ impl ClientState {
         ensures { IfOk result (IsIdle pool) }
     {
         Ok(ClientState {
-            node: Node::make(alloc, pool)?,
+            node: Caller::make(alloc, pool)?,
             room: ValueBuf::new(),
             asked: None,
             refusing: false,

@@ -1,12 +1,12 @@
 // What a turn of the node comes to for the run: with numbers for tags, and with the value that was found.
 ghost use Rattle.std.specs.Prelude.{◌≡◌};
 ghost use Rattle.clover_words.specs.declared.bytes.ValueBuf.{ValueBuf};
-ghost use Rattle.clover_node.specs.Turning.{reply_in};
+ghost use Rattle.clover_call.specs.Turning.{reply_in};
 ghost use Rattle.clover_sched.specs.Stepping.{IsCame, IsValueOf, IsValue, refusal_of};
 
 use crate::event::CallRefusal;
 use clover_map::{Reply, Value};
-use clover_node::{Answer, NodeRefusal, NodeTurn};
+use clover_call::{Answer, CallerRefusal, CallerTurn};
 
 /// What an access of a call came to.
 #[derive(Drop)]
@@ -42,14 +42,14 @@ fn reply_of(answer: &Answer, value: Option<Value>) -> Reply
 }
 
 // Why the call has no answer.
-fn why(refusal: NodeRefusal) -> CallRefusal
+fn why(refusal: CallerRefusal) -> CallRefusal
     ensures { result ≡ refusal_of refusal }
 {
     match refusal {
-        NodeRefusal::Unreached => CallRefusal::Unreached,
-        NodeRefusal::Behind { turns } => CallRefusal::Behind { turns },
-        NodeRefusal::Linked { tag } => CallRefusal::Linked { tag: tag.number() },
-        NodeRefusal::TooLong { length, room } => CallRefusal::TooLong {
+        CallerRefusal::Unreached => CallRefusal::Unreached,
+        CallerRefusal::Behind { turns } => CallRefusal::Behind { turns },
+        CallerRefusal::Linked { tag } => CallRefusal::Linked { tag: tag.number() },
+        CallerRefusal::TooLong { length, room } => CallRefusal::TooLong {
             length: length as u64,
             room: room as u64,
         },
@@ -57,14 +57,14 @@ fn why(refusal: NodeRefusal) -> CallRefusal
 }
 
 /// What this turn comes to. Where a value was found, it is passed twice, for the entry and for the note.
-pub(super) fn came_of(turn: NodeTurn, entered: Option<Value>, noted: Option<Value>) -> Came
+pub(super) fn came_of(turn: CallerTurn, entered: Option<Value>, noted: Option<Value>) -> Came
     requires values { (room : ValueBuf) × IsValue turn entered room × IsValue turn noted room }
     ensures { (room : ValueBuf) → IsValue turn entered room → IsValue turn noted room → IsCame turn room result }
 {
     match turn {
-        NodeTurn::More => Came::More,
-        NodeTurn::Decided(answer) => Came::Decided(reply_of(&answer, entered)),
-        NodeTurn::Done(answer) => Came::Done(reply_of(&answer, entered), reply_of(&answer, noted)),
-        NodeTurn::Refused(refusal) => Came::Refused(why(refusal)),
+        CallerTurn::More => Came::More,
+        CallerTurn::Decided(answer) => Came::Decided(reply_of(&answer, entered)),
+        CallerTurn::Done(answer) => Came::Done(reply_of(&answer, entered), reply_of(&answer, noted)),
+        CallerTurn::Refused(refusal) => Came::Refused(why(refusal)),
     }
 }

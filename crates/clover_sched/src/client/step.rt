@@ -3,7 +3,7 @@
 ghost use Prim.Native.Nat.{suc};
 ghost use Rattle.std.specs.Prelude.{◌≡◌, ◌≢◌, ◌<◌, ◌≤◌, ◌-◌, ◌^◌, ◌++◌, ◌∷◌, [], ℕ, true, Some, IfOk};
 ghost use Rattle.clover_map.specs.declared.call.Call.{Call as Asked};
-ghost use Rattle.clover_node.specs.declared.under.Underway.TheVariants.{Nothing as IsNothing};
+ghost use Rattle.clover_call.specs.declared.under.Underway.TheVariants.{Nothing as IsNothing};
 ghost use Rattle.clover_plain.specs.Plain.{HasRoom, history};
 ghost use Rattle.clover_sched.specs.Client.{Stands, Went};
 ghost use Rattle.clover_sched.specs.Run.{Opening};
@@ -14,7 +14,7 @@ use crate::client::came::{Came, came_of};
 use crate::event::Note;
 use clover_list::OutOfMemory;
 use clover_map::{Bytes, Entry, Reply, Value};
-use clover_node::NodeTurn;
+use clover_call::CallerTurn;
 use clover_plain::PlainPool;
 use clover_rule::Actor;
 use std::alloc::Global;
@@ -35,7 +35,7 @@ impl ClientState {
     }
 
     // Makes the next access of the node, or has it refused.
-    fn access(&mut self, pool: &mut PlainPool, client: u32) -> NodeTurn
+    fn access(&mut self, pool: &mut PlainPool, client: u32) -> CallerTurn
         requires busy { self.old.node.under ≢ IsNothing }
         requires stands { (o : Opening) × (i : ℕ) × (suc i ≡ client) × Stands o pool.old i self.old }
         requires room { HasRoom pool.old }

@@ -1,8 +1,8 @@
 use Rattle.std.proofs.Common.{refl, subst}
-use Rattle.clover_node.specs.Turning.{OnMade}
-use Rattle.clover_node.specs.declared.answer.NodeRefusal.TheVariants.{Unreached}
-use Rattle.clover_node.specs.declared.answer.NodeTurn.{NodeTurn}
-use Rattle.clover_node.specs.declared.answer.NodeTurn.TheVariants.{Refused}
+use Rattle.clover_call.specs.Turning.{OnMade}
+use Rattle.clover_call.specs.declared.answer.CallerRefusal.TheVariants.{Unreached}
+use Rattle.clover_call.specs.declared.answer.CallerTurn.{CallerTurn}
+use Rattle.clover_call.specs.declared.answer.CallerTurn.TheVariants.{Refused}
 use Rattle.clover_pools.specs.Calls.{Acted}
 use Rattle.clover_pools.specs.Turns.{IsOutcome}
 use Rattle.clover_pools.specs.declared.turns.Outcome.{Outcome}
@@ -18,7 +18,7 @@ loop-preserved c =
     let e = c.in_ok-outcome.ensures in
     let more : IsOutcome e.0 More = subst (λ (z : Outcome). IsOutcome e.0 z) c.in-More.is e.1 in
     goes_on c.args.node.now c.loop.node c.call_next.new.node c.args.pool.now c.loop.pool c.call_next.new.pool c.loop.room c.call_next.new.room c.loop.invariant.0 c.loop.invariant.2
-    (subst (λ (t : NodeTurn). OnMade t (Acted t c.loop.node c.call_next.new.node c.loop.pool c.call_next.new.pool c.loop.room c.call_next.new.room)) more e.2)
+    (subst (λ (t : CallerTurn). OnMade t (Acted t c.loop.node c.call_next.new.node c.loop.pool c.call_next.new.pool c.loop.room c.call_next.new.room)) more e.2)
 
 pub returns : goal.returns
 returns c = (Refused Unreached, tt, tt)

@@ -1,5 +1,5 @@
 use Rattle.std.proofs.Common.{◌≢◌}
-use Rattle.clover_node.specs.declared.under.Underway.TheVariants.{Nothing}
+use Rattle.clover_call.specs.declared.under.Underway.TheVariants.{Nothing}
 use Rattle.clover_pools.specs.Calls.{Serves, Since}
 use Rattle.clover_pools.proofs.calls.call_on.Given as goal
 

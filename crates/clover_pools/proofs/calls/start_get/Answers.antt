@@ -2,7 +2,7 @@ use Rattle.std.proofs.Common.{sym, subst, refl, ◌∷◌, []}
 use Rattle.std.specs.Prelude.{None}
 use Rattle.clover_map.specs.declared.call.Call.{Call}
 use Rattle.clover_plain.specs.Plain.{view_at}
-use Rattle.clover_node.specs.Beginning.{ExpectsTag, HasTag}
+use Rattle.clover_call.specs.Beginning.{ExpectsTag, HasTag}
 use Rattle.clover_pools.proofs.Serving.{slot_inside, get_started}
 use Rattle.clover_pools.proofs.calls.start_get.Goals as goal
 

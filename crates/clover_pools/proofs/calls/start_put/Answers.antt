@@ -1,6 +1,6 @@
 use Rattle.std.proofs.Common.{sym, subst}
 use Rattle.clover_plain.specs.Plain.{view_at}
-use Rattle.clover_node.specs.Beginning.{ExpectsTag}
+use Rattle.clover_call.specs.Beginning.{ExpectsTag}
 use Rattle.clover_pools.proofs.Serving.{slot_inside, owns_first, put_started}
 use Rattle.clover_pools.proofs.calls.start_put.Goals as goal
 

@@ -1,7 +1,7 @@
 use Rattle.std.proofs.Common.{◌≡◌, Bool, rules, sym, ap, ◌∙◌, subst, arith}
 use Rattle.clover_plain.specs.Plain.{Same, Stepped, view_at}
-use Rattle.clover_node.specs.Node.{is_first, next_step}
-use Rattle.clover_node.proofs.Holds.{by_turn}
+use Rattle.clover_call.specs.Caller.{is_first, next_step}
+use Rattle.clover_call.proofs.Holds.{by_turn}
 use Rattle.clover_sched.proofs.Reaching.{reached, where_made, where_refused}
 use Rattle.clover_sched.proofs.client.ClientState.access.Goals as goal
 

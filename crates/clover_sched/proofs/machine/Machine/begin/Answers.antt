@@ -6,7 +6,7 @@ use Rattle.clover_rule.specs.Lists.{nth}
 use Rattle.clover_sched.specs.Kept.{meaning}
 use Rattle.clover_sched.specs.Machine.{Parts, IsAt, Happens, MayCome}
 use Rattle.clover_sched.specs.declared.client.ClientState.{ClientState}
-use Rattle.clover_node.specs.declared.under.Underway.TheVariants.{Nothing}
+use Rattle.clover_call.specs.declared.under.Underway.TheVariants.{Nothing}
 use Rattle.clover_sched.specs.declared.event.Event.TheVariants.{Begin}
 use Rattle.clover_sched.proofs.Happening.{missing_happens, busy_happens, begin_on, behind, may_one, may_stock, may_cursors, may_pool}
 use Rattle.clover_sched.proofs.Turns.{not_busy}
