@@ -9,7 +9,6 @@ use Rattle.clover_map.specs.declared.call.Call.TheVariants.{Get, Put, Delete, Sw
 use Rattle.clover_map.specs.declared.call.Reply.TheVariants.{Absent as AbsentReply}
 use Rattle.clover_rule.specs.Accesses.{Decides, NoBinding}
 use Rattle.clover_rule.specs.Asks.{Asks, MayMiss}
-use Rattle.clover_rule.specs.History.{named}
 use Rattle.clover_rule.specs.Learned.{counts, missed}
 use Rattle.clover_rule.specs.Lists.{Within}
 use Rattle.clover_rule.specs.Steps.{AbsentCount, IsClient, number_of}
@@ -34,20 +33,13 @@ use Rattle.clover_node.specs.declared.answer.NodeTurn.TheVariants.{More, Decided
 use Rattle.clover_node.specs.declared.counting.Counting.{Counting}
 use Rattle.clover_node.specs.declared.counting.Counting.TheVariants.{No, Names, Absence}
 
--- both say the key of a call
-pub named_key : (c : Call) → named c ≡ key_of c
-named_key (Get k) = refl
-named_key (Put k x) = refl
-named_key (Delete k) = refl
-named_key (Swap k e x) = refl
-
 -- a client's role says its number
 pub is_client : (v : View) (k : ℕ) → v.pass.role ≡ Client k → IsClient v
 is_client v k e = subst (λ (r : Role). r ≡ Client (number_of r)) (sym e) refl
 
 -- a key that no pair of the names has
-unnamed : (c : Call) (names view : List (ℕ × List ℕ)) → view ≡ names → IsNew (key_of c) names → (s : ℕ) → Within (s, named c) view → ⊥
-unnamed c names view e new s w = new s (subst (λ (k : List ℕ). Within (s, k) names) (named_key c) (subst (λ (l : List (ℕ × List ℕ)). Within (s, named c) l) e w))
+unnamed : (c : Call) (names view : List (ℕ × List ℕ)) → view ≡ names → IsNew (key_of c) names → (s : ℕ) → Within (s, key_of c) view → ⊥
+unnamed c names view e new s w = new s (subst (λ (l : List (ℕ × List ℕ)). Within (s, key_of c) l) e w)
 
 -- the load may be made
 pub count_asks : (p : Pool) (c : Counting) (call : Call) (v : View) (names : List (ℕ × List ℕ)) → IsClient v → v.pass.names ≡ names → IsNew (key_of call) names → Counts c call → Asks p (count_of c call) v

@@ -13,9 +13,9 @@ ghost use Rattle.clover_pools.specs.Calls.{Acted, Came, HasFirst, IsCommitted, I
 ghost use Rattle.clover_pools.specs.Turns.{IsOutcome};
 
 use crate::turns::{Outcome, outcome_of};
+use clover_call::Caller;
 use clover_list::OutOfMemory;
 use clover_map::{Bytes, Call, Entry, Key, Reply, Value};
-use clover_call::Caller;
 use clover_plain::{Actor, PlainPool};
 use clover_words::{Tag, ValueBuf};
 use std::alloc::Global;
@@ -184,7 +184,11 @@ pub(crate) fn put_up_to_commit(
 }
 
 /// The client puts this value under `a`. The number of the tag under which they are stored.
-pub(crate) fn put(pool: &mut PlainPool, node: &mut Caller, value: Value) -> Result<Option<u64>, Fail>
+pub(crate) fn put(
+    pool: &mut PlainPool,
+    node: &mut Caller,
+    value: Value,
+) -> Result<Option<u64>, Fail>
     requires idle { IsIdle pool.old node.old }
     requires next { IsNext (view_at pool.old 0) }
     requires first { pool.old.entries ≡ [] }

@@ -19,9 +19,9 @@ mod came;
 mod step;
 
 use crate::event::{CallRefusal, Note};
+use clover_call::Caller;
 use clover_list::OutOfMemory;
 use clover_map::Call;
-use clover_call::Caller;
 use clover_plain::PlainPool;
 use clover_script::Task;
 use clover_words::{Pool, Setup, Tag, ValueBuf, dealt};

@@ -5,8 +5,8 @@ ghost use Rattle.clover_call.specs.Turning.{reply_in};
 ghost use Rattle.clover_sched.specs.Stepping.{IsCame, IsValueOf, IsValue, refusal_of};
 
 use crate::event::CallRefusal;
-use clover_map::{Reply, Value};
 use clover_call::{Answer, CallerRefusal, CallerTurn};
+use clover_map::{Reply, Value};
 
 /// What an access of a call came to.
 #[derive(Drop)]
@@ -64,7 +64,10 @@ pub(super) fn came_of(turn: CallerTurn, entered: Option<Value>, noted: Option<Va
     match turn {
         CallerTurn::More => Came::More,
         CallerTurn::Decided(answer) => Came::Decided(reply_of(&answer, entered)),
-        CallerTurn::Done(answer) => Came::Done(reply_of(&answer, entered), reply_of(&answer, noted)),
+        CallerTurn::Done(answer) => Came::Done(
+            reply_of(&answer, entered),
+            reply_of(&answer, noted),
+        ),
         CallerTurn::Refused(refusal) => Came::Refused(why(refusal)),
     }
 }

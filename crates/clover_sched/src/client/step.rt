@@ -12,9 +12,9 @@ ghost use Rattle.clover_sched.specs.Stepping.{Accesses, Enters, IsFound, next_en
 use crate::client::ClientState;
 use crate::client::came::{Came, came_of};
 use crate::event::Note;
+use clover_call::CallerTurn;
 use clover_list::OutOfMemory;
 use clover_map::{Bytes, Entry, Reply, Value};
-use clover_call::CallerTurn;
 use clover_plain::PlainPool;
 use clover_rule::Actor;
 use std::alloc::Global;
