@@ -6,17 +6,16 @@ use Rattle.clover_map.specs.Tagged.{Tagged}
 use Rattle.clover_map.specs.Legal.{used_by}
 use Rattle.clover_rule.specs.Lists.{nth}
 use Rattle.clover_rule.specs.Memory.{gen, Mem}
-use Rattle.clover_rule.specs.Server.{Ready, AtStage, Help, book_of, Whole}
+use Rattle.clover_rule.specs.Server.{Ready, Help, book_of, Whole}
 use Rattle.clover_rule.specs.Story.{Place, Chained, Stocked, Free, Worn, Taken, Loose, Story, Core}
 use Rattle.clover_rule.specs.Views.{Owned, ViewOk, Basis}
 use Rattle.clover_rule.specs.Moves.{note_of}
 use Rattle.clover_rule.specs.declared.view.Role.TheVariants.{Client}
-use Rattle.clover_rule.specs.declared.view.ServerTask.{ServerTask}
-use Rattle.clover_rule.specs.declared.view.ServerTask.TheVariants.{Idle, Storing, Rooted, Waiting, Loaded, Raised, Led, Both, Exchanged}
 use Rattle.clover_rule.specs.declared.view.View.{View}
 use Rattle.clover_words.specs.declared.pool.Pool.{Pool}
 use Rattle.clover_rule.proofs.Steps.{each_map}
 use Rattle.clover_rule.proofs.ServerTools.{tale_copy}
+use Rattle.clover_rule.proofs.Staying.{help_kept}
 use Rattle.clover_rule.proofs.Seats.{split_whole}
 
 abbrev pub moved : (ℕ → ℕ) → Place → Place
@@ -106,25 +105,10 @@ module _ (l : Pool) (m0 : Tagged) (used : List ℕ) (m : Mem) (vs vs' : List Vie
     chained = λ b s a. c.chained b s (back_chained f (st.place b) s a);
   }
 
-  here : (T : ServerTask) → AtStage l m st T → AtStage l m st' T
-  here Idle a = tt
-  here (Storing bind n1) a = record { place = ap (moved f) a.place; now = a.now; safe = a.safe; range = a.range; slot = a.slot; bare = a.bare; unnamed = a.unnamed; absent = a.absent; valid = a.valid; body = a.body; fbody = a.fbody; key = a.key; fkey = a.fkey }
-  here (Rooted bind) a = (record { key = a.0.key; unnamed = a.0.unnamed; alone = a.0.alone; tag = a.0.tag; gone = a.0.gone }, a.1)
-  here (Waiting bind) a = (record { key = a.0.key; unnamed = a.0.unnamed; alone = a.0.alone; tag = a.0.tag; gone = a.0.gone }, a.1)
-  here (Loaded cycle) a = record { root = a.root; next = a.next }
-  here (Raised cycle) a = (record { root = a.0.root; next = a.0.next }, a.1)
-  here (Led cycle) a = (record { root = a.0.root; next = a.0.next }, a.1, a.2, a.3)
-  here (Both cycle) a = (record { root = a.0.root; next = a.0.next }, a.1, a.2, a.3)
-  here (Exchanged cycle) a = record { place = ap (moved f) a.place; now = a.now; safe = a.safe; root = a.root; old = a.old; body = a.body; inside = a.inside; young = a.young }
-
   help' : Help l m st'
-  help' = let p = w.help in record {
-    ranged = let a = p.ranged in record { tags = a.tags; own = a.own; below = a.below; fits = a.fits; ready = λ b e. a.ready b (back_ready f (st.place b) e); worn = λ b i e. a.worn b i (back_worn f (st.place b) e) };
-    keyed = let a = p.keyed in record { valid = a.valid; current = a.current; flushed = a.flushed; bare = a.bare; nameless = a.nameless; filled = a.filled; slots = a.slots };
-    naming = let a = p.naming in record { counted = a.counted; found = a.found; listed = a.listed; waiting = a.waiting; once = a.once };
-    stage = record { settled = p.stage.settled; holds = λ b e. p.stage.holds b (back_held f (st.place b) e); names = p.stage.names; here = here st.task p.stage.here };
-    short = p.short;
-  }
+  help' = let p = w.help in let a = p.ranged in help_kept l m st m.fnext m.body m.fbody m.short st'.place st.sure (λ s j q. q) (λ b e. (ap (moved f) e, refl, refl, refl)) p
+      record { tags = a.tags; own = a.own; below = a.below; fits = a.fits; ready = λ b e. a.ready b (back_ready f (st.place b) e); worn = λ b i e. a.worn b i (back_worn f (st.place b) e) }
+      (λ b e. p.stage.holds b (back_held f (st.place b) e)) p.short
 
   book_moved : (q : Place) (g b : ℕ) → book_of st.task st q g b ≡ book_of st.task st' (moved f q) g b
   book_moved (Chained s) g b = refl
