@@ -13,6 +13,7 @@ use Rattle.clover_rule.specs.Moves.{note_of}
 use Rattle.clover_rule.specs.declared.view.Role.TheVariants.{Client}
 use Rattle.clover_rule.specs.declared.view.View.{View}
 use Rattle.clover_words.specs.declared.pool.Pool.{Pool}
+use Rattle.clover_rule.proofs.Cores.{core_but}
 use Rattle.clover_rule.proofs.Steps.{each_map}
 use Rattle.clover_rule.proofs.ServerTools.{tale_copy}
 use Rattle.clover_rule.proofs.Staying.{help_kept}
@@ -89,21 +90,8 @@ module _ (l : Pool) (m0 : Tagged) (used : List ℕ) (m : Mem) (vs vs' : List Vie
   }
 
   core' : Core m st'
-  core' = let c = r.core in record {
-    spotted = c.spotted;
-    passed = λ s i t e g. let x = c.passed s i t e g in record { later = x.later; safe = x.safe };
-    standing = λ s i t e g. let x = c.standing s i t e g in record { placed = ap (moved f) x.placed; now = x.now; safe = x.safe };
-    sure_most = c.sure_most;
-    sure_all = c.sure_all;
-    rooted = c.rooted;
-    bare = c.bare;
-    led = c.led;
-    root = c.root;
-    froot = λ s. ⊎_elim inl (λ a. inr record { empty = a.empty; unnamed = a.unnamed; alone = a.alone; dead = a.dead }) (c.froot s);
-    loose = λ b a. c.loose b (back_loose f (st.place b) a);
-    held = λ b a. c.held b (back_held f (st.place b) a);
-    chained = λ b s a. c.chained b s (back_chained f (st.place b) s a);
-  }
+  core' = let c = r.core in core_but m st c m.fnext st'.place st.named m.body m.fbody m.key m.fkey m.short m.count st.keys st.first st.bindings st.task st.slot_named (λ s i t x. x.safe) (λ y s e. (ap (moved f) e, refl)) (λ s e n. n)
+      (λ y e. c.loose y (back_loose f (st.place y) e)) (λ y e. c.held y (back_held f (st.place y) e)) (λ y s e. c.chained y s (back_chained f (st.place y) s e))
 
   help' : Help l m st'
   help' = let p = w.help in let a = p.ranged in help_kept l m st m.fnext m.body m.fbody m.short st'.place st.sure (λ s j q. q) (λ b e. (ap (moved f) e, refl, refl, refl)) p

@@ -29,6 +29,7 @@ use Rattle.clover_rule.proofs.Bindings.{nth_among}
 use Rattle.clover_rule.proofs.Tools.{upd_same, upd_else, nth_snoc}
 use Rattle.clover_rule.proofs.Standings.{tag_within}
 use Rattle.clover_rule.proofs.Steps.{prefix_self, within_prefix, within_last, Grows, durable_kept}
+use Rattle.clover_rule.proofs.Cores.{core_but}
 use Rattle.clover_rule.proofs.ServerTools.{IsServed, Moves, same_known, own_whole, core_copy, whole, book_same, tale_copy}
 use Rattle.clover_rule.proofs.Derived.{current_past}
 use Rattle.clover_rule.proofs.ServerLaws.{stage_at, serves_at}
@@ -283,21 +284,8 @@ module _ (l : Pool) (m0 : Tagged) (used : List ℕ) (m : Mem) (vs : List View) (
       sc,
       whole l m0 used m vs st h w id v at role (entered v bind) refl refl refl mc sc
           record {
-            core = record {
-              spotted = c.spotted;
-              passed = λ s1 i y f g. let x = c.passed s1 i y f g in record { later = x.later; safe = x.safe };
-              standing = λ s1 i y f g. let x = c.standing s1 i y f g in record { placed = x.placed; now = x.now; safe = x.safe };
-              sure_most = c.sure_most;
-              sure_all = c.sure_all;
-              rooted = c.rooted;
-              bare = c.bare;
-              led = c.led;
-              root = c.root;
-              froot = λ s1. ⊎_elim inl (λ x. dite (ℕ_discrete s1 bind.slot) (λ d. absurd (cc (ap m.froot d, x.empty, gc.here.1))) (λ d. inr record { empty = x.empty; unnamed = named_else s1 d ∙ x.unnamed; alone = x.alone; dead = x.dead })) (c.froot s1);
-              loose = c.loose;
-              held = c.held;
-              chained = c.chained;
-            };
+            core = core_but m st c m.fnext st.place (upd st.named bind.slot true) m.body m.fbody m.key m.fkey m.short mc.count st.keys st.first (st.bindings ++ (bind.slot, bind.key) ∷ []) Idle st.slot_named (λ s1 i y x. x.safe) (λ y s1 f. (f, refl))
+                (λ s1 f x. dite (ℕ_discrete s1 bind.slot) (λ d. absurd (cc (ap m.froot d, f, gc.here.1))) (λ d. named_else s1 d ∙ x)) c.loose c.held c.chained;
             tale = tale_copy st m0 used h ru.tale st.place st.gone st.lead st.flead (upd st.named bind.slot true) (st.bindings ++ (bind.slot, bind.key) ∷ []) Idle st.slot_named;
             bodies = ru.bodies;
             spent = λ y q. q;
