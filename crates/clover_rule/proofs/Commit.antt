@@ -206,19 +206,11 @@ module _ (m0 : Tagged) (used : List ℕ) (m : Mem) (vs : List View) (st : Story)
   not_home : (y : ℕ) → y ≢ t → Owned m st id y → home y ≢ home t
   not_home y d o q = d (same_tag y t q (sym o.1 ∙ ap gen (ap m.next q) ∙ owned.1))
 
-  written' : (cs : List Content) → Each (λ (c : Content). Owned m st id c.tag × (m.body (home c.tag) c.place ≡ c.word)) cs → Each (λ (c : Content). Owned m' st' id c.tag × (m.body (home c.tag) c.place ≡ c.word)) (without t cs)
-  written' [] a = tt
-  written' (c ∷ cs) a = go (ℕ_discrete c.tag t) (written' cs a.1)
+  contents' : (f : ℕ → ℕ → ℕ) (cs : List Content) → Each (λ (c : Content). Owned m st id c.tag × (f (home c.tag) c.place ≡ c.word)) cs → Each (λ (c : Content). Owned m' st' id c.tag × (f (home c.tag) c.place ≡ c.word)) (without t cs)
+  contents' f [] a = tt
+  contents' f (c ∷ cs) a = go (ℕ_discrete c.tag t) (contents' f cs a.1)
     where
-      go : Dec (c.tag ≡ t) → Each (λ (c : Content). Owned m' st' id c.tag × (m.body (home c.tag) c.place ≡ c.word)) (without t cs) → Each (λ (c : Content). Owned m' st' id c.tag × (m.body (home c.tag) c.place ≡ c.word)) (cond (eqb c.tag t) (without t cs) (c ∷ without t cs))
-      go (yes q) b = rw (eq-eqb c.tag t q) b
-      go (no q) b = rw (ne_eqb c.tag t q) ((owned_else c.tag (not_home c.tag q a.0.0) a.0.0, a.0.1), b)
-
-  flushed' : (cs : List Content) → Each (λ (c : Content). Owned m st id c.tag × (m.fbody (home c.tag) c.place ≡ c.word)) cs → Each (λ (c : Content). Owned m' st' id c.tag × (m.fbody (home c.tag) c.place ≡ c.word)) (without t cs)
-  flushed' [] a = tt
-  flushed' (c ∷ cs) a = go (ℕ_discrete c.tag t) (flushed' cs a.1)
-    where
-      go : Dec (c.tag ≡ t) → Each (λ (c : Content). Owned m' st' id c.tag × (m.fbody (home c.tag) c.place ≡ c.word)) (without t cs) → Each (λ (c : Content). Owned m' st' id c.tag × (m.fbody (home c.tag) c.place ≡ c.word)) (cond (eqb c.tag t) (without t cs) (c ∷ without t cs))
+      go : Dec (c.tag ≡ t) → Each (λ (c : Content). Owned m' st' id c.tag × (f (home c.tag) c.place ≡ c.word)) (without t cs) → Each (λ (c : Content). Owned m' st' id c.tag × (f (home c.tag) c.place ≡ c.word)) (cond (eqb c.tag t) (without t cs) (c ∷ without t cs))
       go (yes q) b = rw (eq-eqb c.tag t q) b
       go (no q) b = rw (ne_eqb c.tag t q) ((owned_else c.tag (not_home c.tag q a.0.0) a.0.0, a.0.1), b)
 
@@ -238,8 +230,8 @@ module _ (m0 : Tagged) (used : List ℕ) (m : Mem) (vs : List View) (st : Story)
     durable = each_map (λ q d. durable_kept m st h m' st' h' grows q.0 q.1 d) v.pass.durable ok.durable;
     links = (link_now, each_map (link_kept m st h m' st' h' grows) v.pass.links ok.links);
     words = (word_now, each_map (λ q d. past_kept m st h m' st' h' grows q.buffer (word q.own q.link) d) v.pass.words ok.words);
-    written = written' v.pass.written ok.written;
-    flushed = flushed' v.pass.flushed ok.flushed;
+    written = contents' m.body v.pass.written ok.written;
+    flushed = contents' m.fbody v.pass.flushed ok.flushed;
     copied = each_map (copied_kept m st h m' st' h' grows) v.pass.copied ok.copied;
     names = ok.names;
     added = ok.added;

@@ -26,40 +26,13 @@ moved f Free = Free
 moved f Worn = Worn
 moved f Taken = Taken
 
-back_chained : (f : ℕ → ℕ) (p : Place) (s : ℕ) → moved f p ≡ Chained s → p ≡ Chained s
-back_chained f (Chained s1) s e = e
-back_chained f (Stocked i) s e = absurd cc
-back_chained f Free s e = absurd cc
-back_chained f Worn s e = absurd cc
-back_chained f Taken s e = absurd cc
-
-back_held : (f : ℕ → ℕ) (p : Place) → moved f p ≡ Taken → p ≡ Taken
-back_held f (Chained s1) e = absurd cc
-back_held f (Stocked i) e = absurd cc
-back_held f Free e = absurd cc
-back_held f Worn e = absurd cc
-back_held f Taken e = e
-
-back_worn : (f : ℕ → ℕ) (p : Place) → moved f p ≡ Worn → p ≡ Worn
-back_worn f (Chained s1) e = absurd cc
-back_worn f (Stocked i) e = absurd cc
-back_worn f Free e = absurd cc
-back_worn f Worn e = e
-back_worn f Taken e = absurd cc
-
-back_loose : (f : ℕ → ℕ) (p : Place) → Loose (moved f p) → Loose p
-back_loose f (Chained s1) e = e
-back_loose f (Stocked i) e = e
-back_loose f Free e = e
-back_loose f Worn e = e
-back_loose f Taken e = e
-
-back_ready : (f : ℕ → ℕ) (p : Place) → Ready (moved f p) → Ready p
-back_ready f (Chained s1) e = e
-back_ready f (Stocked i) e = e
-back_ready f Free e = e
-back_ready f Worn e = e
-back_ready f Taken e = e
+-- what tells no two stocks apart held before
+was : (f : ℕ → ℕ) (P : Place → Type 0) → ((i j : ℕ) → P (Stocked i) → P (Stocked j)) → (p : Place) → P (moved f p) → P p
+was f P g (Chained s) e = e
+was f P g (Stocked i) e = g (f i) i e
+was f P g Free e = e
+was f P g Worn e = e
+was f P g Taken e = e
 
 module _ (l : Pool) (m0 : Tagged) (used : List ℕ) (m : Mem) (vs vs' : List View) (st : Story) (h : List Entry) (w : Whole l m0 used m vs st h) (f : ℕ → ℕ)
     (there : (i : ℕ) (y : View) → nth vs i ≡ Some y → nth vs' (f i) ≡ Some y) (back : (k : ℕ) (y : View) → nth vs' k ≡ Some y → (i : ℕ) × (nth vs i ≡ Some y) × (f i ≡ k)) where
@@ -89,14 +62,17 @@ module _ (l : Pool) (m0 : Tagged) (used : List ℕ) (m : Mem) (vs vs' : List Vie
     calls = k.calls;
   }
 
+  was_held : (b : ℕ) → moved f (st.place b) ≡ Taken → st.place b ≡ Taken
+  was_held b e = was f (λ q. q ≡ Taken) (λ i j d. absurd cc) (st.place b) e
+
   core' : Core m st'
   core' = let c = r.core in core_but m st c m.fnext st'.place st.named m.body m.fbody m.key m.fkey m.short m.count st.keys st.first st.bindings st.task st.slot_named (λ s i t x. x.safe) (λ y s e. (ap (moved f) e, refl)) (λ s e n. n)
-      (λ y e. c.loose y (back_loose f (st.place y) e)) (λ y e. c.held y (back_held f (st.place y) e)) (λ y s e. c.chained y s (back_chained f (st.place y) s e))
+      (λ y e. c.loose y (was f Loose (λ i j d. d) (st.place y) e)) (λ y e. c.held y (was_held y e)) (λ y s e. c.chained y s (was f (λ q. q ≡ Chained s) (λ i j d. absurd cc) (st.place y) e))
 
   help' : Help l m st'
   help' = let p = w.help in let a = p.ranged in help_kept l m st m.fnext m.body m.fbody m.short st'.place st.sure (λ s j q. q) (λ b e. (ap (moved f) e, refl, refl, refl)) p
-      record { tags = a.tags; own = a.own; below = a.below; fits = a.fits; ready = λ b e. a.ready b (back_ready f (st.place b) e); worn = λ b i e. a.worn b i (back_worn f (st.place b) e) }
-      (λ b e. p.stage.holds b (back_held f (st.place b) e)) p.short
+      record { tags = a.tags; own = a.own; below = a.below; fits = a.fits; ready = λ b e. a.ready b (was f Ready (λ i j d. d) (st.place b) e); worn = λ b i e. a.worn b i (was f (λ q. q ≡ Worn) (λ i j d. absurd cc) (st.place b) e) }
+      (λ b e. p.stage.holds b (was_held b e)) p.short
 
   book_moved : (q : Place) (g b : ℕ) → book_of st.task st q g b ≡ book_of st.task st' (moved f q) g b
   book_moved (Chained s) g b = refl
