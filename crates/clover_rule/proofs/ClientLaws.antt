@@ -56,5 +56,5 @@ module _ (l : Pool) (m0 : Tagged) (used : List ℕ) (m : Mem) (vs : List View) (
       (help_kept l m st m.fnext m.body m.fbody (upd m.short s (Some t)) st.place st.sure (λ s1 j q. q) (λ b e. (e, refl, refl, refl)) p
       record { tags = a.tags; own = a.own; below = a.below; ready = a.ready; worn = a.worn; fits = a.fits } p.stage.holds
       (λ s1 y q. dite (ℕ_discrete s1 s) (λ z. let f : t ≡ y = let f1 : Some t ≡ Some y = sym (ap (upd m.short s (Some t)) z ∙ upd_same m.short s (Some t)) ∙ q in cc in
-      rw (z, ← f) (each_within (λ (a : ℕ × ℕ). Durable st a.0 a.1) (s, t) v.pass.durable (r.views id v at).durable d)) (λ z. p.short s1 y (sym (upd_else m.short s s1 (Some t) z) ∙ q))))
+      rw (z, ← f) (each_within (λ (a : ℕ × ℕ). Durable st a.0 a.1) (s, t) v.pass.durable (r.views id v at).knows.durable d)) (λ z. p.short s1 y (sym (upd_else m.short s s1 (Some t) z) ∙ q))))
       (λ sv e. record { task_is = e.task_is; directory = e.directory; roots = e.roots; books = e.books }) w.safe (λ cs x y. y)

@@ -67,13 +67,13 @@ module _ (m0 : Tagged) (used : List ℕ) (m : Mem) (vs : List View) (st : Story)
   ok = r.views id v at
 
   pub tail_durable : Durable st s u
-  tail_durable = each_within (λ (q : ℕ × ℕ). Durable st q.0 q.1) (s, u) v.pass.durable ok.durable p.tail
+  tail_durable = each_within (λ (q : ℕ × ℕ). Durable st q.0 q.1) (s, u) v.pass.durable ok.knows.durable p.tail
 
   abbrev place_of : ℕ
   place_of = tail_durable.0
 
   pub slot_bound : (st.keys s ≡ Some k) × (st.named s ≡ true)
-  slot_bound = r.bound s k (subst (Within (s, k)) (sym ok.names.1) (within_prefix (s, k) v.pass.names ok.names.0 p.name))
+  slot_bound = r.bound s k (subst (Within (s, k)) (sym ok.named.names.1) (within_prefix (s, k) v.pass.names ok.named.names.0 p.name))
 
   pub owned : Owned m st id t
   owned = (subst (Each (Owned m st id)) p.stock ok.stocked).0
@@ -227,15 +227,10 @@ module _ (m0 : Tagged) (used : List ℕ) (m : Mem) (vs : List View) (st : Story)
   new_ok = record {
     stocked = owned_rest rest parts_apart.0 (subst (Each (Owned m st id)) p.stock ok.stocked).1;
     apart = parts_apart.1;
-    durable = each_map (λ q d. durable_kept m st h m' st' h' grows q.0 q.1 d) v.pass.durable ok.durable;
-    links = (link_now, each_map (link_kept m st h m' st' h' grows) v.pass.links ok.links);
-    words = (word_now, each_map (λ q d. past_kept m st h m' st' h' grows q.buffer (word q.own q.link) d) v.pass.words ok.words);
+    knows = record { durable = each_map (λ q d. durable_kept m st h m' st' h' grows q.0 q.1 d) v.pass.durable ok.knows.durable; links = (link_now, each_map (link_kept m st h m' st' h' grows) v.pass.links ok.knows.links); words = (word_now, each_map (λ q d. past_kept m st h m' st' h' grows q.buffer (word q.own q.link) d) v.pass.words ok.knows.words); copied = each_map (copied_kept m st h m' st' h' grows) v.pass.copied ok.knows.copied };
     written = contents' m.body v.pass.written ok.written;
     flushed = contents' m.fbody v.pass.flushed ok.flushed;
-    copied = each_map (copied_kept m st h m' st' h' grows) v.pass.copied ok.copied;
-    names = ok.names;
-    added = ok.added;
-    most = ok.most;
+    named = ok.named;
     history = prefix_self h';
     calls = own_new_calls ok.calls;
   }

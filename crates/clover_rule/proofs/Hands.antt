@@ -139,8 +139,8 @@ module _ (l : Pool) (m0 : Tagged) (used : List ℕ) (m : Mem) (vs : List View) (
 
   pub split_client : Whole l m0 used m views_then st h
   split_client = let p = w.basis in hand_whole l m0 used m vs st h w [] Free (length vs) tt tt views_then
-      (λ i y e. ⊎_elim (λ a. rw (← a.1) (record { stocked = tt; apart = tt; durable = tt; links = tt; words = tt; written = tt; flushed = tt; copied = tt; names = (st.bindings, refl); added = inl refl; most = omega arith; history = (h, refl); calls = sym (none_own v.server.clients h fresh (w.entered id v at role)) }))
-      (λ a. ⊎_elim (λ b. rw (b.0, ← b.1) (let k = p.views id v at in record { stocked = k.stocked; apart = k.apart; durable = k.durable; links = k.links; words = k.words; written = k.written; flushed = k.flushed; copied = k.copied; names = k.names; added = k.added; most = k.most; history = k.history; calls = k.calls })) (λ b. p.views i y b.1) a) (made_case i y e))
+      (λ i y e. ⊎_elim (λ a. rw (← a.1) (record { stocked = tt; apart = tt; knows = record { durable = tt; links = tt; words = tt; copied = tt }; written = tt; flushed = tt; named = record { names = (st.bindings, refl); added = inl refl; most = omega arith }; history = (h, refl); calls = sym (none_own v.server.clients h fresh (w.entered id v at role)) }))
+      (λ a. ⊎_elim (λ b. rw (b.0, ← b.1) (let k = p.views id v at in record { stocked = k.stocked; apart = k.apart; knows = k.knows; written = k.written; flushed = k.flushed; named = k.named; history = k.history; calls = k.calls })) (λ b. p.views i y b.1) a) (made_case i y e))
       (λ i j c y z e f s t. ⊎_elim (λ a. ⊎_elim (λ b. a.0 ∙ sym b.0) (λ b. absurd (fresh (subst (λ (x : ℕ). Within x v.server.clients) a.1 (w.made id j c v z at b role t)))) (client_at j c z f t))
       (λ a. ⊎_elim (λ b. absurd (fresh (subst (λ (x : ℕ). Within x v.server.clients) b.1 (w.made id i c v y at a role s)))) (λ b. p.numbered i j c y z a b s t) (client_at j c z f t)) (client_at i c y e s))
       (let o = p.longest in longest_of o.0 o.1 o.2 o.3 (ℕ_discrete o.0 id))

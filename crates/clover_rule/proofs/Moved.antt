@@ -49,15 +49,10 @@ module _ (l : Pool) (m0 : Tagged) (used : List ℕ) (m : Mem) (vs vs' : List Vie
   view_moved i y k = record {
     stocked = each_map (owned i) y.pass.stock k.stocked;
     apart = k.apart;
-    durable = k.durable;
-    links = k.links;
-    words = k.words;
+    knows = let a = k.knows in record { durable = a.durable; links = a.links; words = a.words; copied = a.copied };
     written = each_map (λ c d. (owned i c.tag d.0, d.1)) y.pass.written k.written;
     flushed = each_map (λ c d. (owned i c.tag d.0, d.1)) y.pass.flushed k.flushed;
-    copied = k.copied;
-    names = k.names;
-    added = k.added;
-    most = k.most;
+    named = k.named;
     history = k.history;
     calls = k.calls;
   }
@@ -106,5 +101,5 @@ module _ (l : Pool) (m0 : Tagged) (used : List ℕ) (m : Mem) (vs vs' : List Vie
 module _ (l : Pool) (m0 : Tagged) (used : List ℕ) (m : Mem) (vs : List View) (st : Story) (h : List Entry) (w : Whole l m0 used m vs st h) (id : ℕ) (v : View) (at : nth vs id ≡ Some v) (n : ℕ) (role : v.pass.role ≡ Client n) where
   pub note_whole : Whole l m0 used m (set vs id v ++ note_of v ∷ []) st h
   note_whole = let k = w.basis.views id v at in split_whole l m0 used m vs st h w id v v (note_of v) at [] tt refl refl refl (λ e. cc) (λ c e. cc) k
-      (record { stocked = tt; apart = tt; durable = tt; links = tt; words = tt; written = tt; flushed = tt; copied = tt; names = k.names; added = inl refl; most = k.most; history = k.history; calls = tt })
+      (record { stocked = tt; apart = tt; knows = record { durable = tt; links = tt; words = tt; copied = tt }; written = tt; flushed = tt; named = record { names = k.named.names; added = inl refl; most = k.named.most }; history = k.history; calls = tt })
       (λ e. absurd (cc (role, e))) (λ sv e q. e)

@@ -57,15 +57,10 @@ module _ (l : Pool) (m0 : Tagged) (used : List ℕ) (m : Mem) (vs : List View) (
   ok_join = let a = okv in record {
     stocked = a.stocked;
     apart = a.apart;
-    durable = a.durable;
-    links = a.links;
-    words = a.words;
+    knows = a.knows;
     written = a.written;
     flushed = a.flushed;
-    copied = a.copied;
-    names = a.names;
-    added = a.added;
-    most = a.most;
+    named = a.named;
     history = long_ok;
     calls = subst (λ (o : Role). OwnCalls o v.pass.calls h) (sym role) tt;
   }

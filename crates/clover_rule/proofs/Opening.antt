@@ -270,17 +270,12 @@ module _ (l : Pool) (im : Image) (sound : Sound l im) (m0 : Tagged) (used : List
     view_starts i v s = subst (ViewOk m opened [] i) s.nothing record {
       stocked = each_map (in_stock i) v.pass.stock s.stock;
       apart = s.apart;
-      names = s.names;
-      most = s.most;
-      added = inl refl;
+      named = record { names = s.names; added = inl refl; most = s.most };
       history = ([], refl);
       calls = none_own v.pass.role;
-      durable = tt;
-      links = tt;
-      words = tt;
+      knows = record { durable = tt; links = tt; words = tt; copied = tt };
       written = tt;
       flushed = tt;
-      copied = tt;
     }
 
     pub open_whole : Whole l m0 used m vs opened []

@@ -49,7 +49,7 @@ no_stock f a q n b i e = dite (ℕ_discrete b a) (λ d. absurd (n i (sym (upd_sa
 
 -- what the server alone knows is in no fact on its view
 pub same_known : (m : Mem) (st : Story) (h : List Entry) (id : ℕ) (v : View) (sv : Server) → ViewOk m st h id v → ViewOk m st h id (record v { server = sv })
-same_known m st h id v sv k = record { stocked = k.stocked; apart = k.apart; durable = k.durable; links = k.links; words = k.words; written = k.written; flushed = k.flushed; copied = k.copied; names = k.names; added = k.added; most = k.most; history = k.history; calls = k.calls }
+same_known m st h id v sv k = record { stocked = k.stocked; apart = k.apart; knows = k.knows; written = k.written; flushed = k.flushed; named = k.named; history = k.history; calls = k.calls }
 
 -- after a step of the server the helping facts hold with the same history, and no buffer came into a stock
 abbrev pub IsServed : Pool → Tagged → List ℕ → Mem → List View → Story → List Entry → Type 0

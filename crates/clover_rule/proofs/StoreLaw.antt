@@ -87,15 +87,10 @@ module _ (l : Pool) (m0 : Tagged) (used : List ℕ) (m : Mem) (vs : List View) (
     ok' = record {
       stocked = ok.stocked;
       apart = ok.apart;
-      durable = ok.durable;
-      links = ok.links;
-      words = ok.words;
+      knows = let k = ok.knows in record { durable = k.durable; links = k.links; words = k.words; copied = k.copied };
       written = stored_ok;
       flushed = flushed_ok;
-      copied = ok.copied;
-      names = ok.names;
-      added = ok.added;
-      most = ok.most;
+      named = ok.named;
       history = ok.history;
       calls = ok.calls;
     }

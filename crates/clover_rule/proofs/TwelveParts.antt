@@ -396,7 +396,7 @@ module _ (p : Pool) (first : Tagged) (used : List ℕ) (ws : List ℕ) (vs : Lis
     falls = rises b;
     current = past_there m st c b (m.next b) (current_past m st c b);
     flushed = past_there m st c b (m.fnext b) (flushed_past b);
-    seen = λ v w. let x = within_there vs v w in each_map {P = λ (q : Shown). Past m st q.buffer (word q.own q.link)} {Q = λ (q : Shown). q.buffer ≡ b → Within (word q.own q.link) (values st b (gen (m.next b)))} (λ q d e. past_there m st c b (word q.own q.link) (subst (λ (z : ℕ). Past m st z (word q.own q.link)) e d)) v.pass.words (r.whole.basis.views x.0 v x.1).words;
+    seen = λ v w. let x = within_there vs v w in each_map {P = λ (q : Shown). Past m st q.buffer (word q.own q.link)} {Q = λ (q : Shown). q.buffer ≡ b → Within (word q.own q.link) (values st b (gen (m.next b)))} (λ q d e. past_there m st c b (word q.own q.link) (subst (λ (z : ℕ). Past m st z (word q.own q.link)) e d)) v.pass.words (r.whole.basis.views x.0 v x.1).knows.words;
   }
 
   -- how the flushed copy of a slot's root is
@@ -476,15 +476,15 @@ module _ (p : Pool) (first : Tagged) (used : List ℕ) (ws : List ℕ) (vs : Lis
   }
 
   part_6 : DurableTagsKnown m vs (chain_of st) st.task
-  part_6 v w = let x = within_there vs v w in each_map (λ q d. known m st c st.task leaves_by_task q.0 q.1 d) v.pass.durable (r.whole.basis.views x.0 v x.1).durable
+  part_6 v w = let x = within_there vs v w in each_map (λ q d. known m st c st.task leaves_by_task q.0 q.1 d) v.pass.durable (r.whole.basis.views x.0 v x.1).knows.durable
 
   part_7 : TargetsStand m vs (chain_of st) st.task
-  part_7 v w = let x = within_there vs v w in each_map (λ l d. target m st c st.task leaves_by_task l d) v.pass.links (r.whole.basis.views x.0 v x.1).links
+  part_7 v w = let x = within_there vs v w in each_map (λ l d. target m st c st.task leaves_by_task l d) v.pass.links (r.whole.basis.views x.0 v x.1).knows.links
 
   part_8 : CopiesAreWhole m vs (value_by st)
   part_8 v w = let x = within_there vs v w in each_map (λ q d. ⊎_elim
       (λ f. inr (λ y e. f y (ap (λ (o : Option Value). nth (content o) q.1.place) (sym (ap (value_by st) (sym d.3) ∙ value_at q.0 d.0 d.1 d.2)) ∙ e)))
-      (λ g. inl (c.passed q.0 d.0 q.1.tag (ap tag_in_version d.2 ∙ ap Some d.3) g).later) d.4) v.pass.copied (r.whole.basis.views x.0 v x.1).copied
+      (λ g. inl (c.passed q.0 d.0 q.1.tag (ap tag_in_version d.2 ∙ ap Some d.3) g).later) d.4) v.pass.copied (r.whole.basis.views x.0 v x.1).knows.copied
 
   part_9 : ShortcutsKnown m (chain_of st) st.task
   part_9 s t e = known m st c st.task leaves_by_task s t (r.whole.help.short s t e)
@@ -526,9 +526,9 @@ module _ (p : Pool) (first : Tagged) (used : List ℕ) (ws : List ℕ) (vs : Lis
     keys_once = λ i j s s1 k e f. let a = bound_at i s k e in let b = bound_at j s1 k f in r.whole.help.naming.once i j s k k e (f ∙ ap (λ (x : ℕ). Some (x, k)) (r.whole.basis.keyed s1 s k b a));
     few = let a = few_bindings p.slots st.bindings r.whole.help.naming.once (λ q w. r.whole.help.keyed.slots q.0 q.1 (r.whole.basis.bound q.0 q.1 w).0) in let b = r.whole.help.naming.counted in omega arith;
     directory = λ v sv. (r.whole.serves sv.0 v sv.1 sv.2).directory;
-    names = λ v w. let x = within_there vs v w in (r.whole.basis.views x.0 v x.1).names;
-    added = λ v w. let x = within_there vs v w in (r.whole.basis.views x.0 v x.1).added;
-    most = λ v w. let x = within_there vs v w in (r.whole.basis.views x.0 v x.1).most;
+    names = λ v w. let x = within_there vs v w in (r.whole.basis.views x.0 v x.1).named.names;
+    added = λ v w. let x = within_there vs v w in (r.whole.basis.views x.0 v x.1).named.added;
+    most = λ v w. let x = within_there vs v w in (r.whole.basis.views x.0 v x.1).named.most;
     waiting = waiting_here st.task refl r.whole.help.stage.here;
   }
     where
