@@ -72,9 +72,6 @@ module _ (l : Pool) (m0 : Tagged) (used : List ℕ) (m : Mem) (vs : List View) (
   abbrev joining : View
   joining = accepted v y
 
-  abbrev pub joined_list : List View
-  joined_list = set (set vs id joining) j (spent v)
-
   okv : ViewOk m st h id v
   okv = w.basis.views id v at
 
@@ -118,6 +115,6 @@ module _ (l : Pool) (m0 : Tagged) (used : List ℕ) (m : Mem) (vs : List View) (
   empty_prefix [] zs f = refl
   empty_prefix (x ∷ xs) zs f = absurd (let g = ap length f in omega arith)
 
-  pub join_whole : Whole l m0 used m joined_list st1 h
+  pub join_whole : Whole l m0 used m (set (set vs id joining) j (spent v)) st1 h
   join_whole = take_in l m0 used m vs st h w id j apart_seats v y at there_at y.pass.stock was joining refl refl ok_join (λ e. e)
       (λ e. let g : [] ≡ h = sym bare ∙ e in let p = subst (IsPrefix v.pass.history) (sym g) okv.history in empty_prefix v.pass.history p.0 p.1 ∙ g)
