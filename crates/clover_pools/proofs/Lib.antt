@@ -6,3 +6,4 @@ pub mod Quiet
 pub mod Calling
 pub mod Granting
 pub mod Serving
+pub mod ServerSteps

@@ -1,6 +1,6 @@
 -- What one access of a small pool's actor leaves of it.
-use Rattle.std.proofs.Common.{◌≡◌, ◌≢◌, ℕ, suc, ◌+◌, ◌≤◌, ◌<◌, List, ◌++◌, length, set, get_or, Bool, true, false, refl, sym, ap, ◌∙◌, subst, arith}
-use Rattle.std.specs.Prelude.{Option, Some, None}
+use Rattle.std.proofs.Common.{◌≡◌, ℕ, ◌<◌, List, ◌++◌, length, get_or, Bool, false, refl, sym, ap, ◌∙◌, subst, arith}
+use Rattle.std.specs.Prelude.{Some}
 use Rattle.std.proofs.lemmas.List.{get_or-set_same, get_or-set_other, length-set}
 use Rattle.std.proofs.lemmas.Option.{same_Some}
 use Rattle.clover_map.specs.declared.call.Entry.{Entry}
@@ -92,7 +92,7 @@ pub ready_after : (seat : ℕ) (a : Step) (x : ℕ) (p q : Plain) → IsReady p 
 ready_after seat a x p q ready done quiet = record { opened = done.opened; entered = done.entries ∙ ready.entered ∙ sym quiet ∙ sym done.history; clients = ap (λ s. s.clients) done.setup ∙ ready.clients; seats = done.seats; room = done.room }
 
 -- a recycling adds none
-quiet_at : (c : RecycleState) (at : Stage) (h : List Entry) (v : View) (x : ℕ) → next_history (recycle_step (record c { stage = at })) h v x ≡ h
+pub quiet_at : (c : RecycleState) (at : Stage) (h : List Entry) (v : View) (x : ℕ) → next_history (recycle_step (record c { stage = at })) h v x ≡ h
 quiet_at c AtVersion h v x = refl
 quiet_at c (AtLink t) h v x = refl
 quiet_at c (AtRoot t) h v x = refl

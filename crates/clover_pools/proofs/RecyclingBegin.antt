@@ -1,36 +1,30 @@
 -- A small pool as its run begins, what the server hands over, and a binding of `a` to its slot.
-use Rattle.std.proofs.Common.{◌≡◌, ◌≢◌, ℕ, zero, suc, ◌+◌, ◌-◌, ◌≤◌, ◌<◌, ◌/◌, ◌%◌, List, [], ◌∷◌, ◌++◌, length, replicate, set, get_or, Bool, true, false, cond, eqb, refl, sym, ap, ◌∙◌, subst, arith}
+use Rattle.std.proofs.Common.{◌≡◌, ◌≢◌, ℕ, zero, suc, ◌+◌, ◌≤◌, ◌<◌, ◌/◌, ◌%◌, List, [], ◌∷◌, ◌++◌, length, replicate, set, get_or, true, refl, sym, ap, ◌∙◌, subst, arith}
 use Rattle.std.specs.Prelude.{Option, Some, None}
 use Rattle.std.specs.Option.{option_map}
 use Rattle.std.proofs.lemmas.List.{get_or-set_same, get_or-set_other, length-set}
-use Rattle.clover_words.specs.declared.pool.Pool.{Pool}
 use Rattle.clover_words.specs.declared.setup.Setup.{Setup}
 use Rattle.clover_words.specs.Place.{IsBuffer}
 use Rattle.clover_words.specs.Tag.{TagParts, tag_number, home, age}
 use Rattle.clover_words.specs.Version.{buffer_at}
-use Rattle.clover_rule.specs.Asks.{IsAt}
 use Rattle.clover_rule.specs.Content.{inside}
 use Rattle.clover_rule.specs.Lists.{nth}
 use Rattle.clover_rule.specs.Moves.{MayHand, given, giving, lines_out, nobody}
 use Rattle.clover_rule.specs.Server.{waiting_name}
-use Rattle.clover_rule.specs.Views.{Book, book, book_at, find_book}
+use Rattle.clover_rule.specs.Views.{book, find_book}
 use Rattle.clover_rule.specs.declared.view.BufferState.TheVariants.{Free}
-use Rattle.clover_rule.specs.declared.view.Role.{Role}
-use Rattle.clover_rule.specs.declared.view.Role.TheVariants.{Serving}
-use Rattle.clover_rule.specs.declared.view.ServerTask.{ServerTask}
-use Rattle.clover_rule.specs.declared.view.ServerTask.TheVariants.{Idle}
 use Rattle.clover_rule.specs.declared.view.View.{View}
 use Rattle.clover_rule.proofs.Keeping.{inside_of}
 use Rattle.clover_dir.specs.Directory.{Bindings, nothing_bound, root_of, with_binding}
-use Rattle.clover_dir.specs.Holding.{BindHolds, IsDirectoryOf}
-use Rattle.clover_dir.specs.Task.{UnderWay, made_bind, bind_on}
+use Rattle.clover_dir.specs.Holding.{BindHolds}
+use Rattle.clover_dir.specs.Task.{UnderWay, made_bind}
 use Rattle.clover_dir.specs.declared.stage.Stage.TheVariants.{Over}
 use Rattle.clover_dir.specs.declared.turn.BindTurn.TheVariants.{More, Bound}
 use Rattle.clover_plain.specs.Handing.{Handed}
 use Rattle.clover_plain.specs.Plain.{Plain, HasRoom, IsFresh, Kept, first_view, history, view_at}
 use Rattle.clover_plain.proofs.Opening.{client_role, server_role}
 use Rattle.clover_plain.proofs.Stepping.{nth_default}
-use Rattle.clover_pools.specs.Recycling.{IsReady, HasNumbers, IsBegun, IsDealt, IsBoundOnce, HasRoot, Binds}
+use Rattle.clover_pools.specs.Recycling.{IsReady, HasNumbers, IsBegun, IsDealt, IsBoundOnce, Binds}
 use Rattle.clover_pools.proofs.RecyclingAccess.{kept_view, kept_history}
 
 pub begun_so : (p q : Plain) (s : Setup) → HasNumbers s → p.setup ≡ s → (length p.views ≡ s.clients + 1) × ((i : ℕ) (v : View) → nth p.views i ≡ Some v → v ≡ first_view s i) → IsFresh p → Kept p q → HasRoom q → IsBegun q

@@ -1,5 +1,5 @@
 -- A plain pool with a server and one client between two accesses, and what one access leaves of it.
-use Rattle.std.specs.Prelude.{List, [], ◌∷◌, Some, ◌≡◌, ◌≢◌, ℕ, ◌≤◌, ◌<◌, length, Bool, true, false}
+use Rattle.std.specs.Prelude.{[], ◌∷◌, Some, ◌≡◌, ◌≢◌, ℕ, length, true, false}
 use Rattle.clover_rule.specs.Learned.{next_view, next_history}
 use Rattle.clover_rule.specs.Steps.{Step}
 use Rattle.clover_rule.specs.declared.access.Actor.{Actor}

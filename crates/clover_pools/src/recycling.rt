@@ -55,7 +55,7 @@ fn tag(index: u32) -> Tag
 }
 
 // One memory node of four buffers, one slot and one client.
-fn numbers() -> Result<Setup, Fail>
+pub(crate) fn numbers() -> Result<Setup, Fail>
     ensures { IfOk result HasNumbers }
 {
     let shape = Pool::check(1, 4, 1, 1, 3)?;
@@ -63,7 +63,7 @@ fn numbers() -> Result<Setup, Fail>
 }
 
 // A pool as its run begins.
-fn begun(alloc: Global, setup: Setup) -> Result<PlainPool, OutOfMemory>
+pub(crate) fn begun(alloc: Global, setup: Setup) -> Result<PlainPool, OutOfMemory>
     requires { HasNumbers setup }
     ensures setup { IfOk result (λ pool. pool.setup ≡ setup) }
     ensures begun { IfOk result IsBegun }
