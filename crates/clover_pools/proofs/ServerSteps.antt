@@ -3,6 +3,7 @@ use Rattle.std.proofs.Common.{◌≡◌, ◌≢◌, ℕ, zero, suc, List, [], �
 use Rattle.std.specs.Prelude.{Option, Some, None}
 use Rattle.std.proofs.lemmas.List.{get_or-set_other, length-set}
 use Rattle.std.proofs.lemmas.Option.{same_Some}
+use Rattle.clover_words.specs.declared.setup.Setup.{Setup}
 use Rattle.clover_map.specs.declared.call.Entry.{Entry}
 use Rattle.clover_port.specs.Told.{Open, Made, opened}
 use Rattle.clover_rule.specs.Learned.{next_view, next_history}
@@ -19,7 +20,7 @@ use Rattle.clover_rule.specs.Lists.{Within}
 use Rattle.clover_dir.specs.Task.{UnderWay, bind_step}
 use Rattle.clover_dir.specs.declared.stage.Stage.{Stage}
 use Rattle.clover_dir.specs.declared.stage.Stage.TheVariants.{Tombstone, FlushedTombstone, Key, FlushedKey, Root, FlushedRoot, Count, Over}
-use Rattle.clover_plain.specs.Plain.{Plain, HasRoom, HasSeat, Kept, Refused, Stepped, history, open_of, view_at}
+use Rattle.clover_plain.specs.Plain.{Plain, HasSeat, Kept, Refused, Stepped, history, open_of, view_at}
 use Rattle.clover_server.specs.Going.{server_step, work_step}
 use Rattle.clover_server.specs.Holding.{Agrees}
 use Rattle.clover_server.specs.Server.{ServerState}
@@ -31,10 +32,10 @@ use Rattle.clover_server.specs.declared.work.Unfinished.{Unfinished}
 use Rattle.clover_server.specs.declared.work.Work.{Work}
 use Rattle.clover_server.specs.declared.work.Work.TheVariants.{Binding, Recycling}
 use Rattle.clover_server.proofs.Repeating.{want_leaves, named_leaves, access_leaves}
-use Rattle.clover_pools.specs.Recycling.{HasNumbers, IsReady}
 use Rattle.clover_pools.specs.Server.{IsLeft, IsPortLeft, Served}
+use Rattle.clover_pools.specs.Small.{IsReady, IsSmall, HasSmallNumbers}
 use Rattle.clover_plain.specs.contracts.port.PlainPortPort.TheImpl.{ghosts}
-use Rattle.clover_pools.proofs.RecyclingAccess.{kept_view, kept_history, quiet_at, seat_is}
+use Rattle.clover_pools.proofs.RecyclingSteps.{quiet_at}
 
 -- a step of the server adds no entry
 bind_quiet : (c : UnderWay) (d : Bindings) (at : Stage) (h : List Entry) (v : View) (x : ℕ) → next_history (bind_step (record c { stage = at }) d) h v x ≡ h
@@ -86,8 +87,15 @@ module _ (s0 p q : Plain) (k : IsLeft s0 p) where
     client = ap (λ (vs : List View). get_or vs 0 nobody) r.views ∙ k.client;
   }
 
-pub left_none : (p : Plain) → IsReady p → IsLeft p p
-left_none p ready = record { opened = ready.opened; entered = ready.entered; setup = refl; seats = ready.seats; client = refl }
+-- making room leaves it so
+left_room : (p q : Plain) → IsReady p → IsSmall p → Kept p q → IsLeft p q
+left_room p q ready small kept = record {
+  opened = kept.opened ∙ ready.opened;
+  entered = kept.entries ∙ ready.entered ∙ sym (λ i. longest (kept.views i ++ kept.absent i));
+  setup = kept.setup;
+  seats = ap length kept.views ∙ small.seats;
+  client = ap (λ (vs : List View). get_or vs 0 nobody) kept.views;
+}
 
 -- steps that are repeated keep what each of them keeps
 leads_keep : {Q : Type 0} (step : Moment Q → Moment Q → ServerTurn → Type 0) (G : Q → Type 0) → ((a b : Moment Q) (r : ServerTurn) → step a b r → G a.port → G b.port) → (n : ℕ) (a b : Moment Q) → Leads step n a b → G a.port → G b.port
@@ -131,25 +139,16 @@ pub recycle_keeps : {Q : Type 0} (slot : ℕ) (made : Making Q) (failed : Failin
 recycle_keeps {Q} slot made failed {most} {a} {b} {r} h G f g start = repeats_keep (SlotStep slot made failed) G (slot_keeps slot made failed G f g) most a b r h start
 
 -- once the pool is given back, the server agrees with its view
-pub served_so : (s : ServerState) (p q q1 r : Plain) (seat : ℕ) → HasNumbers p.setup → seat ≡ 1 → IsLeft p q → Agrees q.setup.pool [] s (view_at q seat) → q ≡ q1 → Kept q1 r → HasRoom r → Served s p r
-served_so s p q q1 r seat few at left agrees back kept room =
-    let setup : r.setup ≡ p.setup = kept.setup ∙ ap (λ (z : Plain). z.setup) (sym back) ∙ left.setup in
-    record {
-      serving = record {
-        ready = record {
-          opened = kept.opened ∙ ap (λ (z : Plain). z.opened) (sym back) ∙ left.opened;
-          entered = kept.entries ∙ ap (λ (z : Plain). z.entries) (sym back) ∙ left.entered ∙ ap history back ∙ sym (kept_history q1 r kept);
-          clients = ap (λ z. z.clients) setup ∙ few.clients;
-          seats = ap length kept.views ∙ ap (λ (z : Plain). length z.views) (sym back) ∙ left.seats;
-          room = room;
-        };
-        numbers = subst HasNumbers (sym setup) few;
-        agrees = subst (λ (z : View). Agrees r.setup.pool [] s z) ((λ i. view_at (back i) (at i)) ∙ sym (kept_view q1 r 1 kept))
-            (subst (λ z. Agrees z.pool [] s (view_at q seat)) (left.setup ∙ sym setup) agrees);
-      };
-      client = kept_view q1 r 0 kept ∙ ap (λ (z : Plain). view_at z 0) (sym back) ∙ left.client;
-      setup = setup;
-    }
+pub served_so : (s : ServerState) (p q r : Plain) (seat : ℕ) → IsSmall p → IsPortLeft p q seat → Agrees q.setup.pool [] s (view_at q seat) → q ≡ r → Served s p r
+served_so s p q r seat small left agrees back = subst (Served s p) back (record {
+  serving = record {
+    ready = record { opened = left.1.opened; entered = left.1.entered };
+    small = record { numbers = subst HasSmallNumbers (sym left.1.setup) small.numbers; seats = left.1.seats };
+    agrees = subst (λ (k : ℕ). Agrees q.setup.pool [] s (view_at q k)) left.0 agrees;
+  };
+  client = left.1.client;
+  setup = left.1.setup;
+})
 
 -- what an access through a port of the server leaves
 pub port_made : (p0 : Plain) → KeepsMade (λ p a b x q. ghosts.made p a b x q) (λ p. IsPortLeft p0 p.pool.now p.seat)
@@ -158,13 +157,10 @@ port_made p0 = λ m p q x h k. (h.2 ∙ k.0, left_made p0 p.pool.now q.pool.now 
 pub port_failed : (p0 : Plain) → KeepsFailed (λ p q. ghosts.failed p q) (λ p. IsPortLeft p0 p.pool.now p.seat)
 port_failed p0 = λ p q h k. (h.1 ∙ k.0, left_refused p0 p.pool.now q.pool.now k.1 (act_of h.0.0 0) p.seat h.0.1)
 
--- a port as it is made
-pub port_first : (p0 p : Plain) (seat : ℕ) → IsReady p0 → HasSeat p0 Server seat → p ≡ p0 → IsPortLeft p0 p seat
-port_first p0 p seat ready has e = (seat_is p0 Server seat ready tt has, subst (IsLeft p0) (sym e) (left_none p0 ready))
-
--- one behind another
-pub served_then : (s s1 : ServerState) (p q r : Plain) → Served s p q → Served s1 q r → Served s1 p r
-served_then s s1 p q r a b = record { serving = b.serving; client = b.client ∙ a.client; setup = b.setup ∙ a.setup }
+-- a port as it is made once there is room
+pub port_first : (p p0 p1 : Plain) (seat : ℕ) → IsReady p → IsSmall p → Kept p p0 → HasSeat p0 Server seat → p1 ≡ p0 → IsPortLeft p p1 seat
+port_first p p0 p1 seat ready small kept has of =
+    (has.0 ∙ ap (λ (s : Setup). s.clients) kept.setup ∙ small.numbers.clients, subst (IsLeft p) (sym of) (left_room p p0 ready small kept))
 
 -- the first binding of a list that is not empty
 pub first_within : (items : List Bound) (b : Bound) (list : List (ℕ × List ℕ)) → (length items == 0) ≡ false → pairs_of items ≡ list → (key : List ℕ) × Within ((get_or items 0 b).slot, key) list

@@ -3,12 +3,12 @@ use Rattle.std.specs.Prelude.{◌≡◌, ℕ, [], length, true}
 use Rattle.clover_plain.specs.Plain.{Plain, history, view_at}
 use Rattle.clover_server.specs.Holding.{Agrees}
 use Rattle.clover_server.specs.Server.{ServerState}
-use Rattle.clover_pools.specs.Recycling.{HasNumbers, IsReady}
+use Rattle.clover_pools.specs.Small.{IsReady, IsSmall}
 
--- the pool is ready, and the server agrees with its view
+-- the pool is ready and small, and the server agrees with its view
 pub record IsServing (s : ServerState) (p : Plain) : Type 0 where
   pub ready : IsReady p
-  pub numbers : HasNumbers p.setup
+  pub small : IsSmall p
   pub agrees : Agrees p.setup.pool [] s (view_at p 1)
 
 -- what steps of the server leave of a pool

@@ -15,8 +15,8 @@ returns c = λ p b e.
     let base = c.first_law.ensures s books (first_view s 1) c.in_ok-books.ensures.whole (ap (λ (l : Ledger). l.pool) c.in_ok-books.ensures.value) c.in_ok-books.ensures.free
     (record { idle = record { server = server_role s 1 (omega arith); task_is = refl }; directory = refl; roots = refl; books = refl }) in
     record {
-      ready = b.ready;
-      numbers = b.numbers;
+      ready = b.new.ready;
+      small = b.new.small;
       agrees = subst (λ (z : Setup). Agrees z.pool [] c.make-3.result (view_at p 1)) (sym e)
           (subst (λ (v : View). Agrees s.pool [] c.make-3.result v) (sym (b.server ∙ ap (λ (z : Setup). first_view z 1) e))
           (subst (λ (z : ServerState). Agrees s.pool [] z (first_view s 1)) (sym (c.make-3.ensures ∙ ap (λ (d : Bindings). new_server s books d) c.in_ok-directory.ensures)) base));

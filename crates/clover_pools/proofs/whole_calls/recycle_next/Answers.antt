@@ -7,7 +7,8 @@ use Rattle.clover_pools.proofs.whole_calls.recycle_next.Goals as goal
 
 pub returns : goal.returns
 returns c =
-    let p0 = c.args.pool.now in let port = c.port-port.result in let new = c.recycle_step-turn.new.port in
-    let first = port_first p0 port.pool.now port.seat c.requires.serving.ready c.port-port.ensures.seat c.port-port.ensures.pool.0 in
-    let k = slot_keeps c.args.slot (λ p a b x q. ghosts.made p a b x q) (λ p q. ghosts.failed p q) (λ p. IsPortLeft p0 p.pool.now p.seat) (port_made p0) (port_failed p0) (moment c.args.server.now port) (moment c.recycle_step-turn.new.self new) c.recycle_step-turn.result c.recycle_step-turn.ensures.step first in
-    served_so c.recycle_step-turn.new.self p0 new.pool.now _ c.reserve.new.self new.seat c.requires.serving.numbers k.0 k.1 c.recycle_step-turn.ensures.agrees (search rules) c.in_ok-reserve.ensures.same c.in_ok-reserve.ensures.room
+    let p0 = c.args.pool.now in let port = c.port-port.result in let new = c.recycle_step.new.port in
+    let start = c.requires.serving in
+    let first = port_first p0 c.reserve.new.self port.pool.now port.seat start.ready start.small c.in_ok-reserve.ensures.same c.port-port.ensures.seat c.port-port.ensures.pool.0 in
+    let k = slot_keeps c.args.slot (λ p a b x q. ghosts.made p a b x q) (λ p q. ghosts.failed p q) (λ p. IsPortLeft p0 p.pool.now p.seat) (port_made p0) (port_failed p0) (moment c.args.server.now port) (moment c.recycle_step.new.self new) c.recycle_step.result c.recycle_step.ensures.step first in
+    served_so c.recycle_step.new.self p0 new.pool.now _ new.seat start.small k c.recycle_step.ensures.agrees (search rules)
