@@ -113,8 +113,9 @@ impl Machine {
         }
     }
 
-    // Begins a task of an actor.
-    fn begin(&mut self, actor: u32, task: Task) -> Note
+    /// Begins a task of an actor.
+    #[inline(always)]
+    pub(crate) fn begin(&mut self, actor: u32, task: Task) -> Note
         requires may { MayCome self.old (BeginOf actor task) }
         ensures happened { Happens self.old self.new (BeginOf actor task) result }
         ensures parts { (self.new.setup ≡ self.old.setup) × (self.new.names ≡ self.old.names) × (self.new.pool.traced ≡ self.old.pool.traced) }
@@ -136,6 +137,7 @@ impl Machine {
     /// Makes the next access of an actor's call; nothing happens where it has none.
     ///
     /// `OutOfMemory` for want of memory, before anything has changed.
+    #[inline(always)]
     pub(crate) fn step(&mut self, actor: u32) -> Result<Note, OutOfMemory>
         requires { 1 ≤ actor }
         ensures happened { IfOk result (Happens self.old self.new (StepOf actor)) }
@@ -153,8 +155,8 @@ impl Machine {
         done
     }
 
-    // Has the next access of an actor refused.
-    fn refuse(&mut self, actor: u32)
+    /// Has the next access of an actor refused.
+    pub(crate) fn refuse(&mut self, actor: u32)
         requires { 1 ≤ actor }
         ensures happened { Happens self.old self.new (RefuseOf actor) IsQuiet }
         ensures parts { (self.new.setup ≡ self.old.setup) × (self.new.names ≡ self.old.names) × (self.new.pool.traced ≡ self.old.pool.traced) }
