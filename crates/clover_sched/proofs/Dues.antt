@@ -82,7 +82,7 @@ put_turns (AtRaise u) w call c h = ap (λ (z : Calling). z.walk.turns) h.1
 put_turns AtShort w call c h = ap (λ (z : Calling). z.walk.turns) h.1
 put_turns Over w call c h = ap (λ (z : Calling). z.walk.turns) h.0
 
-stands_turns : (u : Underway) (call : Call) (own : ℕ) (c : Calling) → u ≢ Nothing → UnderStands u call own c → c.walk.turns ≡ turns_of u
+pub stands_turns : (u : Underway) (call : Call) (own : ℕ) (c : Calling) → u ≢ Nothing → UnderStands u call own c → c.walk.turns ≡ turns_of u
 stands_turns Nothing call own c busy h = absurd (busy refl)
 stands_turns (Get g into asked) call own c busy h = get_turns g.stage g.walk into c h.1
 stands_turns (Write w asked) call own c busy h = put_turns w.stage w call c h.2
@@ -181,7 +181,7 @@ own_body w call (key, is) = ap own_words is ∙ go w.job
     go (Swap t) = refl
 
 -- what is under way has made fewer accesses than its turns allow
-under_within : (p : Pool) (u : Underway) (v : View) (call : Call) (own : ℕ) (c : Calling) → u ≢ Nothing → IsUnder p v u → UnderStands u call own c → length (own_words call) ≤ p.words + 1 → length (since_of u v) < most_accesses p (turns_of u)
+pub under_within : (p : Pool) (u : Underway) (v : View) (call : Call) (own : ℕ) (c : Calling) → u ≢ Nothing → IsUnder p v u → UnderStands u call own c → length (own_words call) ≤ p.words + 1 → length (since_of u v) < most_accesses p (turns_of u)
 under_within p Nothing v call own c busy is at fits = absurd (busy refl)
 under_within p (Get g into asked) v call own c busy is at fits = subst (λ (q : Pool). length (cond g.walk.first [] v.pass.since) < most_accesses q g.walk.turns) is.1 (get_within g v into is.2)
 under_within p (Write w asked) v call own c busy is at fits =
@@ -193,7 +193,7 @@ under_within p (Raise w) v call own c busy is at fits =
     let q : w.walk.pool.words ≡ p.words = ap (λ (z : Pool). z.words) is.0 in
     subst (λ (q : Pool). length (cond w.walk.first [] v.pass.since) < most_accesses q w.walk.turns) is.0 (put_within w v is.1 (omega arith))
 
-more_allow : (a b w : ℕ) → a ≤ b → (a + 1) * (w + 5) + 2 * w + 4 ≤ (b + 1) * (w + 5) + 2 * w + 4
+pub more_allow : (a b w : ℕ) → a ≤ b → (a + 1) * (w + 5) + 2 * w + 4 ≤ (b + 1) * (w + 5) + 2 * w + 4
 more_allow a b w less = let one : (w + 5) * a ≤ (w + 5) * b = mul-le-mul_left (w + 5) less in omega arith
 
 -- the acts of a call are told alike by what is said of the same task

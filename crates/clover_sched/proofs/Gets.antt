@@ -44,13 +44,12 @@ use Rattle.clover_node.specs.Node.{IsCursor, AreCursors}
 use Rattle.clover_sched.specs.Client.{access, Stands, Moved, MakesDue, Went, Matches, UnderMatches, IsUnder, SetsCursor, since_of, slot_of, spent, spent_by, taken_by}
 use Rattle.clover_sched.specs.Ends.{end_tag}
 use Rattle.clover_sched.specs.Folds.{Doing}
-use Rattle.clover_sched.specs.Run.{Opening, IsCommit, lost, most_made}
+use Rattle.clover_sched.specs.Run.{Opening, IsCommit, lost}
 use Rattle.clover_sched.proofs.Advancing.{get_goes_on, get_answers, get_stays_ahead}
 use Rattle.clover_node.proofs.Knowing.{KnowsMore, cursors_kept, cursors_set}
 use Rattle.clover_sched.proofs.Cursoring.{knows_more}
 use Rattle.clover_node.proofs.GetGoes.{Misses}
 use Rattle.clover_sched.proofs.GetCalls.{get_goes, get_falls, get_ends}
-use Rattle.clover_sched.proofs.Lefts.{get_few}
 use Rattle.clover_sched.proofs.Moving.{MadeSo, IsNoLink, IsSeated, made_so, refused_so, names_kept, moved_quiet, moved_entered, moved_refused}
 use Rattle.clover_sched.proofs.Places.{same_snoc}
 use Rattle.clover_sched.proofs.Going.{seat_below, step_refused}
@@ -108,10 +107,6 @@ module _ (o : Opening) (i : ℕ) (p : Plain) (x : ClientState) (g : Getting) (in
 
   since : since_of x.under (view_at p i) ≡ cond g.walk.first [] (view_at p i).pass.since
   since = ap (λ (u : Underway). since_of u (view_at p i)) is
-
-  -- the get has made fewer accesses than a call makes at most
-  fewer : (d : Doing) → Matches x (view_at p i) d → length d.since < most_made o.setup.pool
-  fewer d m = subst (λ (l : List Act). length l < most_made o.setup.pool) (sym (doing d m).2) (get_few o.setup.pool g (view_at p i) into under.1 under.2)
 
   taken_so : (d : Doing) → Matches x (view_at p i) d → x.taken ≡ d.taken
   taken_so d m = subst (λ (u : Underway). x.taken ≡ taken_by u d.taken) is m.taken
@@ -173,7 +168,7 @@ module _ (o : Opening) (i : ℕ) (p : Plain) (x : ClientState) (g : Getting) (in
           stands = stands_made o i p x (with_get x g1 into1 asked) s q a g.walk.first n so (links g.stage g.walk k into) same refl refl (opens, gs.pool ∙ under.1, h, under.3 ∙ sym (λ j. GetOf (key_at (names j) (slot j)))) cursors;
           follows = λ d m.
               let u = doing d m in (
-                made_step o i d p.words (length (own p.entries (suc i))) (ClientTask asked u.0.0) u.0.1 act None Quiet (sym m.refusing ∙ free) (came act so.came) (fewer d m) tt (λ w. absurd ((reads g.stage g.walk k into n).0 w)) (tt, (reads g.stage g.walk k into n).1),
+                made_step o i d p.words (length (own p.entries (suc i))) (ClientTask asked u.0.0) u.0.1 act None Quiet (sym m.refusing ∙ free) (came act so.came) tt (λ w. absurd ((reads g.stage g.walk k into n).0 w)) (tt, (reads g.stage g.walk k into n).1),
                 record { refusing = refl; under = (u.0, u.1, ap (λ (l : List Act). l ++ act ∷ []) u.2 ∙ sym so.since ∙ sym (ap (λ (b : Bool). cond b [] (view_at q i).pass.since) gs.first)); taken = taken_so d m },
               );
           longer = λ ne. ap (λ (b : Bool). length (cond b [] (view_at q i).pass.since)) gs.first ∙ ap length so.since ∙ length_snoc act _ ∙ ap (λ (l : List Act). suc (length l)) (sym since);
@@ -202,7 +197,7 @@ module _ (o : Opening) (i : ℕ) (p : Plain) (x : ClientState) (g : Getting) (in
           stands = stands_made o i p x (at_rest x) s q a g.walk.first n so (links g.stage g.walk k into) same refl refl tt cursors;
           follows = λ d m.
               let u = doing d m in (
-                made_step o i d p.words (length (own p.entries (suc i))) (ClientTask asked u.0.0) u.0.1 act None (Refused (suc i) (Behind turns)) (sym m.refusing ∙ free) (came act so.came) (fewer d m) tt (λ w. absurd ((reads g.stage g.walk k into n).0 w))
+                made_step o i d p.words (length (own p.entries (suc i))) (ClientTask asked u.0.0) u.0.1 act None (Refused (suc i) (Behind turns)) (sym m.refusing ∙ free) (came act so.came) tt (λ w. absurd ((reads g.stage g.walk k into n).0 w))
                     (refl, much ∙ ap (λ (z : Setup). budget z.pool) s.setup, refl, u.1, (reads g.stage g.walk k into n).1),
                 record { refusing = refl; under = refl; taken = taken_so d m ∙ none_taken d.taken d.decided u.1 },
               );
@@ -268,7 +263,7 @@ module _ (o : Opening) (i : ℕ) (p : Plain) (x : ClientState) (g : Getting) (in
                 let d3 : Decides o.setup.pool p.words o.names (d.since ++ act ∷ []) (GetOf k) reply = subst (λ (z : List Act). Decides o.setup.pool p.words o.names z (GetOf k) reply) acts d2 in
                 let d4 : Decides o.setup.pool p.words o.names (d.since ++ act ∷ []) asked reply = subst (λ (z : Call). Decides o.setup.pool p.words o.names (d.since ++ act ∷ []) z reply) (sym under.3) d3 in
                 let number : x.number + 1 ≡ suc (length (own p.entries (suc i))) = (let b = s.number in omega arith) in (
-                  made_step o i d p.words (length (own p.entries (suc i))) (ClientTask asked u.0.0) u.0.1 act (Some entry) (Answered c reply) (sym m.refusing ∙ free) (came act so.came) (fewer d m)
+                  made_step o i d p.words (length (own p.entries (suc i))) (ClientTask asked u.0.0) u.0.1 act (Some entry) (Answered c reply) (sym m.refusing ∙ free) (came act so.came)
                       (record { access = access i act false; last = refl; made = refl; written = u.0.0; task = u.0.1; first = u.1; client = sym mine; number = number; decided = d4 })
                       (λ w. refl) (sym mine, (commit, refl)),
                   record { refusing = refl; under = refl; taken = taken_so d m ∙ plain_taken d.taken reply commit },

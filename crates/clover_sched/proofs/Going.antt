@@ -28,7 +28,6 @@ step_refused o i d ws n act note t task going blank told = record {
   one = λ u h. refl;
   access = record { actor = refl; refused = sym going; blank = λ q. blank; replays = λ q. absurd (let z : true ≡ false = q in cc) };
   entry = tt;
-  few = λ x is made. absurd (let z : true ≡ false = ap (λ (y : Access). y.refused) (same_Some _ _ is) ∙ made in cc);
   commits = λ x is made. absurd (let z : true ≡ false = ap (λ (y : Access). y.refused) (same_Some _ _ is) ∙ made in cc);
   unreached = λ x is made. (refl, told);
   cause = λ x is made. absurd (let z : true ≡ false = ap (λ (y : Access). y.refused) (same_Some _ _ is) ∙ made in cc);

@@ -30,9 +30,10 @@ use Rattle.clover_script.specs.declared.line.Task.{Task}
 use Rattle.clover_script.specs.declared.line.Task.TheVariants.{Client as ClientTask}
 use Rattle.clover_plain.specs.Preset.{AreDistinct}
 use Rattle.clover_sched.specs.Alone.{AloneSoFar}
-use Rattle.clover_sched.specs.Client.{Stands, Matches, Went, Begins, IsUnder, IsLast, spent, spent_by, since_of, step_record}
+use Rattle.clover_sched.specs.Client.{Stands, Matches, Went, Begins, IsLast, spent, spent_by, since_of, step_record}
+use Rattle.clover_sched.specs.Ends.{ended}
 use Rattle.clover_sched.specs.Folds.{accesses_in, doing}
-use Rattle.clover_sched.specs.Machine.{Parts, IsAt, IsBehind, IsSame, IsBusy, IsFitting, HasCall, MayCome, Happens, IsTold, left, left_of, left_by}
+use Rattle.clover_sched.specs.Machine.{Parts, IsAt, IsBehind, IsSame, IsBusy, HasCall, MayCome, Happens, IsTold, left, left_of, left_by}
 use Rattle.clover_sched.specs.Record.{Record}
 use Rattle.clover_sched.specs.Run.{Opening, most_made}
 use Rattle.clover_sched.specs.declared.client.ClientState.{ClientState}
@@ -45,7 +46,8 @@ use Rattle.clover_sched.specs.declared.event.Note.TheVariants.{Quiet, Busy, Miss
 use Rattle.clover_sched.proofs.Stepping.{stands_kept}
 use Rattle.clover_node.proofs.Knowing.{cursor_held}
 use Rattle.clover_sched.proofs.Busies.{busy_within, busy_here}
-use Rattle.clover_sched.proofs.Lefts.{since_few, left_less}
+use Rattle.clover_sched.proofs.Budget.{since_few}
+use Rattle.clover_sched.proofs.Lefts.{left_less}
 use Rattle.clover_sched.proofs.Onward.{with_client, with_pool, refusing, begun_missing, begun_busy, begun_client, idled_far, idled_client, refused_client, refused_far, stepped_client}
 use Rattle.clover_sched.proofs.Bound.{bound_within, bound_key}
 use Rattle.clover_sched.proofs.Places.{nth_here, nth_get, set_same}
@@ -203,13 +205,13 @@ begin_on m a slot x y t note one here idle named begins running = begin_happens 
     (subst (λ (l : List (ℕ × List ℕ)). Within (slot, key_of (call_in t)) l) (sym at.names) (bound_within 0 m.names slot slot (key_of (call_in t)) (omega arith) (sym (nth_get m.names slot) ∙ named)))
     (ap (λ (l : List (ℕ × List ℕ)). key_at l slot) at.names ∙ bound_key 0 m.names slot slot (key_of (call_in t)) (omega arith) (sym (nth_get m.names slot) ∙ named)) s) running
 
-pub step_less : (m p : Parts) (a : ℕ) (x y : ClientState) (q : Plain) (r : Result Note OutOfMemory) → m ≡ p → 1 ≤ a → nth m.clients (a - 1) ≡ Some x → IfOk r (GoesOn m a x y q) → IsBehind m → x.under ≢ Nothing → IsFitting x.under
+pub step_less : (m p : Parts) (a : ℕ) (x y : ClientState) (q : Plain) (r : Result Note OutOfMemory) → m ≡ p → 1 ≤ a → nth m.clients (a - 1) ≡ Some x → IfOk r (GoesOn m a x y q) → IsBehind m → x.under ≢ Nothing
     → IfOk r (λ note. IsBusy p a → left (with_pool m (a - 1) y q) a < left p a)
-step_less m p a x y q r same one here went b busy fits = IfOk-weaker r (GoesOn m a x y q) (λ note. IsBusy p a → left (with_pool m (a - 1) y q) a < left p a) (λ note w is_busy.
+step_less m p a x y q r same one here went b busy = IfOk-weaker r (GoesOn m a x y q) (λ note. IsBusy p a → left (with_pool m (a - 1) y q) a < left p a) (λ note w is_busy.
     let i = a - 1 in
-    let s = (b.2.each i x here).stands in
-    let go = w b.0 i (omega arith) s in
-    let few : length (since_of x.under (view_at m.pool i)) < most_made m.setup.pool = since_few m.setup.pool x.under (view_at m.pool i) (subst (λ (z : Setup). IsUnder z.pool (view_at m.pool i) x.under) (sym b.2.setup) s.under) fits in
+    let was = b.2.each i x here in
+    let go = w b.0 i (omega arith) was.stands in
+    let few : length (since_of x.under (view_at m.pool i)) < most_made m.setup.pool = subst (λ (z : Setup). length (since_of x.under (view_at m.pool i)) < most_made z.pool) (sym b.2.setup) (since_few b.0 (suc i) (doing (suc i) b.1) (ended (suc i) b.1) (view_at m.pool i) x.under busy was.stands.under (was.goes busy)) in
     let less : left_by m.setup.pool y.under (view_at q i) < left_by m.setup.pool x.under (view_at m.pool i) = left_less m.setup.pool x.under y.under (view_at m.pool i) (view_at q i) busy few go.longer in
     let new : left (with_pool m i y q) a ≡ left_by m.setup.pool y.under (view_at q i) = ap (left_of (with_pool m i y q) i) (set_here m.clients i y x here) in
     let old : left m a ≡ left_by m.setup.pool x.under (view_at m.pool i) = ap (left_of m i) here in

@@ -312,7 +312,6 @@ module _ (o : Opening) (m : Parts) (rs : List Record) (at : IsAt o m rs) where
       one = λ t e. absurd (cc (none, e));
       access = tt;
       entry = tt;
-      few = λ z e. absurd cc;
       commits = λ z e. absurd cc;
       unreached = λ z e. absurd cc;
       cause = λ z e. absurd cc;

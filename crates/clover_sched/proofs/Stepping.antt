@@ -1,5 +1,5 @@
 -- What one access of a client is in a run, and where the client stands behind it.
-use Rattle.std.proofs.Common.{◌≡◌, inl, inr, ℕ, suc, ◌+◌, ◌<◌, ◌==◌, List, [], ◌∷◌, ◌++◌, length, get_or, Bool, true, false, cond, if◌then◌else◌, refl, sym, ap, ◌∙◌, subst, arith, eq-eqb}
+use Rattle.std.proofs.Common.{◌≡◌, inl, inr, ℕ, suc, ◌+◌, ◌==◌, List, [], ◌∷◌, ◌++◌, length, get_or, Bool, true, false, cond, if◌then◌else◌, refl, sym, ap, ◌∙◌, subst, arith, eq-eqb}
 use Rattle.std.specs.Prelude.{Option, Some, None, IfSome, IsSome}
 use Rattle.std.proofs.lemmas.List.Elements.{filter-append}
 use Rattle.std.proofs.lemmas.Option.{same_Some}
@@ -27,7 +27,7 @@ use Rattle.clover_sched.specs.Alone.{EndsIn}
 use Rattle.clover_node.specs.Node.{AreCursors}
 use Rattle.clover_sched.specs.Client.{access, stock_at, Stands, Moved, Went, Matches, IsUnder, since_of, step_record}
 use Rattle.clover_sched.specs.Folds.{Doing, listed, words_by, made_by, takes_by}
-use Rattle.clover_sched.specs.Run.{Opening, IsStep, IsEntry, IsCause, IsCommit, Wrote, most_made}
+use Rattle.clover_sched.specs.Run.{Opening, IsStep, IsEntry, IsCause, IsCommit, Wrote}
 use Rattle.clover_sched.proofs.Moving.{MadeSo, RefusedSo, IsNoLink, names_kept, stock_kept}
 
 -- a call under way is none at rest
@@ -133,14 +133,13 @@ own_more h e c is =
 
 module _ (o : Opening) (i : ℕ) (d : Doing) (ws : List ℕ) (n : ℕ) (t : Task) (task : d.task ≡ Some t) (act : Act) where
   -- an access that was made is a step
-  pub made_step : (e : Option Entry) (note : Note) → d.refusing ≡ false → CameBack o.setup.pool ws act → length d.since < most_made o.setup.pool → IfSome e (IsEntry o (suc i) d ws n (step_record i (access i act false) e note))
+  pub made_step : (e : Option Entry) (note : Note) → d.refusing ≡ false → CameBack o.setup.pool ws act → IfSome e (IsEntry o (suc i) d ws n (step_record i (access i act false) e note))
       → (Wrote act → IsSome e) → IsCause o (suc i) d e act note → IsStep o (suc i) d ws n (step_record i (access i act false) e note)
-  made_step e note free came fewer entry commits cause = record {
+  made_step e note free came entry commits cause = record {
     idle = λ q. absurd (task_there d.task t task q);
     one = λ s q. refl;
     access = record { actor = refl; refused = sym free; blank = λ q. absurd cc; replays = λ q. came };
     entry = entry;
-    few = λ z q r. fewer;
     commits = λ z q r w. commits (subst (λ (y : Access). Wrote y.act) (sym (same_Some _ _ q)) w);
     unreached = λ z q r. (let k : false ≡ true = ap (λ (y : Access). y.refused) (same_Some _ _ q) ∙ r in absurd cc);
     cause = λ z q r. subst (λ (y : Access). IsCause o (suc i) d e y.act note) (same_Some _ _ q) cause;

@@ -26,7 +26,6 @@ use Rattle.clover_sched.specs.Run.{Opening}
 use Rattle.clover_sched.specs.Writing.{IsWriting, IsCommitted, IsDecided, PutAccess, next_entry}
 use Rattle.clover_sched.proofs.Stepping.{room_left}
 use Rattle.clover_sched.proofs.Cursoring.{seen_dead}
-use Rattle.clover_sched.proofs.Lefts.{made_few}
 use Rattle.clover_node.proofs.PutGoes.{last_hit}
 use Rattle.clover_sched.proofs.WriteAccess.{same_asked}
 use Rattle.clover_sched.proofs.Writing.{with_under, answered, linked_to, shortened, exact_made, exact_refused, went_more, went_behind, went_unreached, last_enters, went_answered, commit_enters, went_decided, went_raised, went_stored, went_deleted, went_linked}
@@ -188,7 +187,7 @@ module _ (x y : ClientState) (k : ℕ) (p q : Plain) (r : PutTurn) (tells : Tell
           let shows : end_tag Absent (act_of (put_step put.0 (view_at p i)) f.step.made.0) ≡ seen_tag (shows_tail (tag_number t)) = (λ j. end_tag Absent (act_of (at_step put.0 (Deciding (tag_number t) Absent) (view_at p i) f.step.answer.0 j) (hit j))) in
           subst (λ (s : ClientState). Went o i x s p z (Answered k reply)) (sym is2)
           (subst (λ (s : Reply). Went o i x (answered x state2.0) p z (Answered k s)) (sym er)
-          (went_answered o i x put.0 told.0 put.1 p q k seat put.2 st few Absent refl f.step.absent f.accessed at.1.1 z (more2 ∙ ap (λ (s : Reply). q.entries ++ next_entry k x.number put.1 s ∷ []) er) kept (made_few i x.refusing put.0 told.0 p q (AbsentTurn t) f) (exact_made x.refusing (AbsentTurn t) f.exact (λ s. s)) f.step.made (ap (λ (m : Putting). m.stage) f.step.answer.1)
+          (went_answered o i x put.0 told.0 put.1 p q k seat put.2 st few Absent refl f.step.absent f.accessed at.1.1 z (more2 ∙ ap (λ (s : Reply). q.entries ++ next_entry k x.number put.1 s ∷ []) er) kept (exact_made x.refusing (AbsentTurn t) f.exact (λ s. s)) f.step.made (ap (λ (m : Putting). m.stage) f.step.answer.1)
           state2.0 t (shows ∙ seen_dead (tag_number t)) f.step.known (set2 f.step.answer.1)))
 
       pub write_differs_done : r ≡ DiffersTurn t → reply ≡ Differs (tag_number t) → Went o i x y2 p z (Answered k reply)
@@ -198,7 +197,7 @@ module _ (x y : ClientState) (k : ℕ) (p q : Plain) (r : PutTurn) (tells : Tell
           let at = at_stage put.0 (Deciding (tag_number t) (Differs (tag_number t))) (view_at p i) f.step.answer.0 h in
           subst (λ (s : ClientState). Went o i x s p z (Answered k reply)) (sym is2)
           (subst (λ (s : Reply). Went o i x (answered x state2.0) p z (Answered k s)) (sym er)
-          (went_answered o i x put.0 told.0 put.1 p q k seat put.2 st few (Differs (tag_number t)) refl f.step.differs f.accessed at.1.1 z (more2 ∙ ap (λ (s : Reply). q.entries ++ next_entry k x.number put.1 s ∷ []) er) kept (made_few i x.refusing put.0 told.0 p q (DiffersTurn t) f) (exact_made x.refusing (DiffersTurn t) f.exact (λ s. s)) f.step.made (ap (λ (m : Putting). m.stage) f.step.answer.1)
+          (went_answered o i x put.0 told.0 put.1 p q k seat put.2 st few (Differs (tag_number t)) refl f.step.differs f.accessed at.1.1 z (more2 ∙ ap (λ (s : Reply). q.entries ++ next_entry k x.number put.1 s ∷ []) er) kept (exact_made x.refusing (DiffersTurn t) f.exact (λ s. s)) f.step.made (ap (λ (m : Putting). m.stage) f.step.answer.1)
           state2.0 t refl f.step.known (set2 f.step.answer.1)))
 
 -- the turns of a call behind its exchange
@@ -231,7 +230,7 @@ module _ (x y : ClientState) (k : ℕ) (p q : Plain) (r : PutTurn) (tells : Tell
     raise_more e =
         let f = subst (PutAccess i x.refusing put1.0 told1.0 p q) e told1.2 in
         let at = on_raises put1.0.stage put1.0 told1.0 is_behind f.step.answer in
-        subst (λ (z : ClientState). Went o i x z p q Quiet) (sym told1.1) (went_raised o i x put1.0 told1.0 p q k seat put1.1 st few f.step.made f.accessed (made_few i x.refusing put1.0 told1.0 p q More f) (exact_made x.refusing More f.exact (λ z. z)) at.0 at.1 at.2 f.step.stands)
+        subst (λ (z : ClientState). Went o i x z p q Quiet) (sym told1.1) (went_raised o i x put1.0 told1.0 p q k seat put1.1 st few f.step.made f.accessed (exact_made x.refusing More f.exact (λ z. z)) at.0 at.1 at.2 f.step.stands)
 
     -- a call that was answered behind its commit
     module _ (y2 : ClientState) (t : TagParts) (n : ℕ) (is : n ≡ tag_number t) (state : (c : Putting) → y.under ≡ Raise c → (known : Known) × IsSet c.walk.slot t y.cursors known × (y2 ≡ record y { under = Nothing; cursors = known })) where
@@ -250,7 +249,7 @@ module _ (x y : ClientState) (k : ℕ) (p q : Plain) (r : PutTurn) (tells : Tell
           let a = f.step.answer in
           subst (λ (m : ℕ). Went o i x y2 p q (Answered k (StoredAs m))) (sym is)
           (subst (λ (z : ClientState). Went o i x z p q (Answered k (StoredAs (tag_number t)))) (sym is3)
-          (went_stored o i x put1.0 told1.0 p q k seat put1.1 st few f.step.made f.accessed (made_few i x.refusing put1.0 told1.0 p q (Stored t) f) (exact_made x.refusing (Stored t) f.exact (λ z. z)) a.0 a.1 state3.0 t a.2 f.step.known (set3 a.1) a.3))
+          (went_stored o i x put1.0 told1.0 p q k seat put1.1 st few f.step.made f.accessed (exact_made x.refusing (Stored t) f.exact (λ z. z)) a.0 a.1 state3.0 t a.2 f.step.known (set3 a.1) a.3))
 
       pub raise_deleted : r ≡ Deleted t → Went o i x y2 p q (Answered k (DeletedAs n))
       raise_deleted e =
@@ -258,7 +257,7 @@ module _ (x y : ClientState) (k : ℕ) (p q : Plain) (r : PutTurn) (tells : Tell
           let a = f.step.answer in
           subst (λ (m : ℕ). Went o i x y2 p q (Answered k (DeletedAs m))) (sym is)
           (subst (λ (z : ClientState). Went o i x z p q (Answered k (DeletedAs (tag_number t)))) (sym is3)
-          (went_deleted o i x put1.0 told1.0 p q k seat put1.1 st few f.step.made f.accessed (made_few i x.refusing put1.0 told1.0 p q (Deleted t) f) (exact_made x.refusing (Deleted t) f.exact (λ z. z)) a.0 a.1 state3.0 t a.2 f.step.known (set3 a.1) a.3))
+          (went_deleted o i x put1.0 told1.0 p q k seat put1.1 st few f.step.made f.accessed (exact_made x.refusing (Deleted t) f.exact (λ z. z)) a.0 a.1 state3.0 t a.2 f.step.known (set3 a.1) a.3))
 
     pub raise_linked : (t : TagParts) (n : ℕ) → r ≡ Linked t → n ≡ tag_number t → Went o i x (idle_of y) p q (Refused k (why.Linked n))
     raise_linked t n e en =

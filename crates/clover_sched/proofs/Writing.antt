@@ -55,14 +55,13 @@ use Rattle.clover_node.specs.Node.{IsCursor, AreCursors}
 use Rattle.clover_sched.specs.Client.{access, Stands, Moved, MakesDue, Matches, UnderMatches, Went, IsUnder, HasLinked, SetsCursor, stock_at, step_record, since_of, slot_of, spent_by, taken_by}
 use Rattle.clover_sched.specs.Folds.{Doing}
 use Rattle.clover_sched.specs.Ends.{end_tag}
-use Rattle.clover_sched.specs.Run.{Opening, IsStep, IsCause, IsAnswer, IsCommit, Flushes, Shortens, EndsCommit, lost, most_made}
+use Rattle.clover_sched.specs.Run.{Opening, IsStep, IsCause, IsAnswer, IsCommit, Flushes, Shortens, EndsCommit, lost}
 use Rattle.clover_sched.specs.Writing.{PutAccess, next_entry}
 use Rattle.clover_sched.proofs.Advancing.{put_goes_on, put_commits, put_answers, put_stays_ahead}
 use Rattle.clover_node.proofs.Knowing.{KnowsMore, cursors_kept, cursors_set}
 use Rattle.clover_sched.proofs.Cursoring.{knows_more}
 use Rattle.clover_sched.proofs.Stepping.{no_more, none_taken, plain_taken, one_taken, made_step, stands_refused}
 use Rattle.clover_sched.proofs.Going.{step_refused, seat_below, stands_moved, number_same, number_more}
-use Rattle.clover_sched.proofs.Lefts.{made_few, fewer_before}
 use Rattle.clover_sched.proofs.Moving.{MadeSo, made_so, RefusedSo, refused_so, names_kept, stock_kept, moved_quiet, moved_entered, moved_refused}
 use Rattle.clover_sched.proofs.Places.{same_snoc}
 use Rattle.clover_sched.proofs.PutCalls.{put_goes, put_raises, put_closes, put_falls, put_ends, put_links}
@@ -176,10 +175,10 @@ module _ (o : Opening) (i : ℕ) (x : ClientState) (c n : Putting) (p q : Plain)
     stands : (u : Underway) (k : Known) → IsUnder o.setup.pool w0 u → AreCursors o.setup.pool w0 k → Stands o q i (record x { under = u; refusing = false; cursors = k })
     stands u k h cursors = stands_moved o i x (record x { under = u; refusing = false; cursors = k }) p q _ None st moved made_it.pool role names stock (number_same x.number (suc i) p.entries q.entries st.number moved.entries) h cursors
 
-    step : (d : Doing) (call : Call) (m : ℕ) (note : Note) → d.task ≡ Some (ClientTask call m) → d.since ≡ cond c.walk.first [] v0.pass.since → length w0.pass.since ≤ most_made p.setup.pool → x.refusing ≡ d.refusing → x.refusing ≡ false → IsCause o (suc i) d None (act_of (put_step c v0) made.0) note
+    step : (d : Doing) (call : Call) (m : ℕ) (note : Note) → d.task ≡ Some (ClientTask call m) → x.refusing ≡ d.refusing → x.refusing ≡ false → IsCause o (suc i) d None (act_of (put_step c v0) made.0) note
         → IsStep o (suc i) d p.words (length (own p.entries (suc i))) (step_record i (access i (act_of (put_step c v0) made.0) false) None note)
-    step d call m note task since most refusing going cause =
-        made_step o i d p.words (length (own p.entries (suc i))) (ClientTask call m) task (act_of (put_step c v0) made.0) None note (sym refusing ∙ going) (subst (λ (z : Setup). CameBack z.pool p.words (act_of (put_step c v0) made.0)) st.setup made_it.came) (fewer_before p.setup o.setup d.since w0.pass.since _ st.setup (made_it.since ∙ ap (λ (l : List Act). l ++ act_of (put_step c v0) made.0 ∷ []) (sym since)) most) tt (λ h. absurd (quiet_writes c v0 made.0 miss h)) cause
+    step d call m note task refusing going cause =
+        made_step o i d p.words (length (own p.entries (suc i))) (ClientTask call m) task (act_of (put_step c v0) made.0) None note (sym refusing ∙ going) (subst (λ (z : Setup). CameBack z.pool p.words (act_of (put_step c v0) made.0)) st.setup made_it.came) tt (λ h. absurd (quiet_writes c v0 made.0 miss h)) cause
 
 -- The accesses of a call that writes, before its exchange.
 module _ (o : Opening) (i : ℕ) (x : ClientState) (c n : Putting) (call : Call) (p q : Plain) (k : ℕ) (seat : suc i ≡ k) (is : x.under ≡ Write c call) (st : Stands o p i x) (few : p.made < 2 ^ 64 - 1) where
@@ -246,7 +245,7 @@ module _ (o : Opening) (i : ℕ) (x : ClientState) (c n : Putting) (call : Call)
         stands = stands o i x c n p q st few m f.accessed miss (Write n call) x.cursors (before, same.pool ∙ under.1, f.step.stands, under.3 ∙ sym (call_stays c n v w same (names o i x c n p q st few m f.accessed))) (cursors m f.accessed);
         follows = λ d h.
             let u : UnderMatches (Write c call) v d = subst (λ (z : Underway). UnderMatches z v d) is h.under in (
-              step o i x c n p q st few m f.accessed miss d call u.0.0 Quiet u.0.1 u.2 (made_few i x.refusing c n p q More f) h.refusing (exact_made x.refusing More f.exact (λ z. z)) (tt, before_shortens c v m.0 under.0),
+              step o i x c n p q st few m f.accessed miss d call u.0.0 Quiet u.0.1 h.refusing (exact_made x.refusing More f.exact (λ z. z)) (tt, before_shortens c v m.0 under.0),
               record { refusing = refl; under = (u.0, u.1, ap (λ (l : List Act). l ++ act_of (put_step c v) m.0 ∷ []) u.2 ∙ sym since); taken = taken_so d h },
             );
         longer = λ b. ap length since ∙ length_snoc (act_of (put_step c v) m.0) (since_of (Write c call) v) ∙ ap (λ (l : List Act). suc (length l)) (sym is_since);
@@ -268,7 +267,7 @@ module _ (o : Opening) (i : ℕ) (x : ClientState) (c n : Putting) (call : Call)
         stands = stands o i x c n p q st few m f.accessed miss Nothing x.cursors tt (cursors m f.accessed);
         follows = λ d h.
             let u : UnderMatches (Write c call) v d = subst (λ (z : Underway). UnderMatches z v d) is h.under in (
-              step o i x c n p q st few m f.accessed miss d call u.0.0 (Refused k (why.Behind turns)) u.0.1 u.2 (made_few i x.refusing c n p q (Behind turns) f) h.refusing (exact_made x.refusing (Behind turns) f.exact (λ z. z)) (sym seat, count, refl, u.1, before_shortens c v m.0 under.0),
+              step o i x c n p q st few m f.accessed miss d call u.0.0 (Refused k (why.Behind turns)) u.0.1 h.refusing (exact_made x.refusing (Behind turns) f.exact (λ z. z)) (sym seat, count, refl, u.1, before_shortens c v m.0 under.0),
               record { refusing = refl; under = refl; taken = taken_so d h ∙ none_taken d.taken d.decided u.1 },
             );
         longer = λ b. absurd (b refl);
@@ -341,13 +340,12 @@ module _ (o : Opening) (i : ℕ) (x : ClientState) (c n : Putting) (call : Call)
       stands2 : (y : ClientState) → y.number ≡ suc x.number → (view_at z i).pass.stock ≡ stock_at o.setup (suc i) y.taken → IsUnder o.setup.pool (view_at z i) y.under → AreCursors o.setup.pool (view_at z i) y.cursors → Stands o z i y
       stands2 y number stock h cursors = stands_moved o i x y p z _ (Some entry) st moved2 (ap (λ (s : View). s.pass.pool) view2 ∙ (stepped p.setup.pool a false v _ found w _ made).pool) role2 names2 stock (number ∙ number_more x.number (suc i) p.entries z.entries entry st.number (sym seat) moved2.entries) h cursors
 
-      step2 : (d : Doing) (note : Note) → Matches x v d → length w.pass.since ≤ most_made p.setup.pool → x.refusing ≡ false → IsCause o (suc i) d (Some entry) (act_of a found) note
+      step2 : (d : Doing) (note : Note) → Matches x v d → x.refusing ≡ false → IsCause o (suc i) d (Some entry) (act_of a found) note
           → IsStep o (suc i) d p.words (length (own p.entries (suc i))) (step_record i (access i (act_of a found) false) (Some entry) note)
-      step2 d note m most going cause =
+      step2 d note m going cause =
           let u : UnderMatches (Write c call) v d = subst (λ (y : Underway). UnderMatches y v d) is m.under in
           let e : w.pass.since ≡ d.since ++ act_of a found ∷ [] = so2.since ∙ ap (λ (b : Bool). cond b [] v.pass.since ++ act_of a found ∷ []) (sym later) ∙ ap (λ (l : List Act). l ++ act_of a found ∷ []) (sym u.2) in
           made_step o i d p.words (length (own p.entries (suc i))) (ClientTask call u.0.0) u.0.1 (act_of a found) (Some entry) note (sym m.refusing ∙ going) (subst (λ (y : Setup). CameBack y.pool p.words (act_of a found)) st.setup so2.came)
-          (fewer_before p.setup o.setup d.since w.pass.since _ st.setup e most)
           (record {
             access = access i (act_of a found) false;
             last = refl;
@@ -379,11 +377,11 @@ module _ (o : Opening) (i : ℕ) (x : ClientState) (c n : Putting) (call : Call)
     pub last_enters : (history q ≡ q.entries ++ next_entry k x.number call r ∷ []) × (q.opened ≡ true)
     last_enters = (to_enter last (unlinked ended.tag) r ended.made acc later last_adds ended.made.now.words last_words ended.decides, open_still last (unlinked ended.tag) r ended.made acc later last_adds ended.made.now.words last_words ended.decides)
 
-    pub went_answered : (z : Plain) → z.entries ≡ q.entries ++ next_entry k x.number call r ∷ [] → KeptButEntries q z → length w.pass.since ≤ most_made p.setup.pool → x.refusing ≡ false
+    pub went_answered : (z : Plain) → z.entries ≡ q.entries ++ next_entry k x.number call r ∷ [] → KeptButEntries q z → x.refusing ≡ false
         → (made : (a : ℕ) × Made p.setup.pool (put_step c v) c.walk.first v (Some (open_of p)) a w (Some (open_of q)) × (n ≡ put_on c a)) → n.stage ≡ Over
         → (known : Known) (t : TagParts) → end_tag r (act_of (put_step c v) made.0) ≡ tag_number t → InRange c.walk.pool (tag_number t) × Within (c.walk.slot, tag_number t) w.pass.durable → IsSet c.walk.slot t x.cursors known
         → Went o i x (answered x known) p z (Answered k r)
-    went_answered z more kept most going made over known t tells durable is_set =
+    went_answered z more kept going made over known t tells durable is_set =
         let y : ClientState = answered x known in
         let so3 = so2 last (unlinked ended.tag) r ended.made acc later last_adds ended.made.now.words last_words ended.decides in
         let stock : (view_at z i).pass.stock ≡ stock_at o.setup (suc i) x.taken = ap (λ (s : View). s.pass.stock) (view2 last (unlinked ended.tag) r ended.made acc later last_adds ended.made.now.words last_words ended.decides z more kept ∙ so3.view) ∙ stock_kept last false (history p) v (unlinked ended.tag) tt ∙ st.stock in
@@ -396,7 +394,7 @@ module _ (o : Opening) (i : ℕ) (x : ClientState) (c n : Putting) (call : Call)
           moved = moved2 last (unlinked ended.tag) r ended.made acc later last_adds ended.made.now.words last_words ended.decides z more kept;
           stands = stands2 last (unlinked ended.tag) r ended.made acc later last_adds ended.made.now.words last_words ended.decides z more kept y refl stock tt
               (cursors_set o.setup.pool v (view_at z i) c.walk.slot t x.cursors known (knows2 last (unlinked ended.tag) r ended.made acc later last_adds ended.made.now.words last_words ended.decides z more kept) st.cursors new is_set);
-          follows = λ d h. (step2 last (unlinked ended.tag) r ended.made acc later last_adds ended.made.now.words last_words ended.decides z more kept d (Answered k r) h most going (sym seat, (plain, refl)), record { refusing = refl; under = refl; taken = taken_so d h ∙ plain_taken d.taken r plain });
+          follows = λ d h. (step2 last (unlinked ended.tag) r ended.made acc later last_adds ended.made.now.words last_words ended.decides z more kept d (Answered k r) h going (sym seat, (plain, refl)), record { refusing = refl; under = refl; taken = taken_so d h ∙ plain_taken d.taken r plain });
           longer = λ b. absurd (b refl);
           spent = subst (λ (u : Underway). x.taken ≤ spent_by u x.taken) (sym is) (omega arith);
           cursor = subst (λ (u : Underway). SetsCursor (slot_of u) (act_of last (unlinked ended.tag)) (Answered k r) x.cursors known) (sym is) (t, ap (end_tag r) same ∙ tells, is_set);
@@ -503,7 +501,7 @@ module _ (o : Opening) (i : ℕ) (x : ClientState) (c n : Putting) (call : Call)
                 (cursors_kept o.setup.pool v (view_at z i) x.cursors (knows2 link (unlinked tail) reply made3 f.accessed later3 link_adds f.step.decided.made.now.words link_words f.step.decided.decides z more3 kept) st.cursors);
             follows = λ d h.
                 let u : UnderMatches (Write c call) v d = subst (λ (s : Underway). UnderMatches s v d) is h.under in (
-                  step2 link (unlinked tail) reply made3 f.accessed later3 link_adds f.step.decided.made.now.words link_words f.step.decided.decides z more3 kept d Quiet h (made_few i x.refusing c n p q (Decided t) f) (exact_made x.refusing (Decided t) f.exact (λ s. s)) (commits_always c.own (call_at c v), λ s. s),
+                  step2 link (unlinked tail) reply made3 f.accessed later3 link_adds f.step.decided.made.now.words link_words f.step.decided.decides z more3 kept d Quiet h (exact_made x.refusing (Decided t) f.exact (λ s. s)) (commits_always c.own (call_at c v), λ s. s),
                   record { refusing = refl; under = ((u.0.0, u.0.1 ∙ ap (λ (s : Call). Some (ClientTask s u.0.0)) (sym name4)), (λ j. Some (reply_of (sym own4 j) ((sym under.3 ∙ sym name4) j))), ap (λ (l : List Act). l ++ wrote_link tail c.own ∷ []) u.2 ∙ sym since4); taken = ap suc (taken_so d h) },
                 );
             longer = λ b. ap length since4 ∙ length_snoc (wrote_link tail c.own) (since_of (Write c call) v) ∙ ap (λ (l : List Act). suc (length l)) (sym is_since);
@@ -556,7 +554,7 @@ module _ (o : Opening) (i : ℕ) (x : ClientState) (c n : Putting) (p q : Plain)
   spends = subst (λ (u : Underway). x.taken ≤ spent_by u x.taken) (sym is) (omega arith)
 
   -- an access that was made
-  module _ (m : (a : ℕ) × Made p.setup.pool (put_step c v5) c.walk.first v5 (Some (open_of p)) a w5 (Some (open_of q)) × (n ≡ put_on c a)) (acc : Accessed i true p q) (most : length w5.pass.since ≤ most_made p.setup.pool) (going : x.refusing ≡ false) where
+  module _ (m : (a : ℕ) × Made p.setup.pool (put_step c v5) c.walk.first v5 (Some (open_of p)) a w5 (Some (open_of q)) × (n ≡ put_on c a)) (acc : Accessed i true p q) (going : x.refusing ≡ false) where
     -- the raise of its link
     module _ (u : ℕ) (at : c.stage ≡ AtRaise u) (after : n ≡ staged c AtShort) where
       abbrev raise : Act
@@ -594,7 +592,7 @@ module _ (o : Opening) (i : ℕ) (x : ClientState) (c n : Putting) (p q : Plain)
             stands = stands o i x c n p q st few m acc miss5 (Raise n) x.cursors (ap (λ (z : Putting). z.walk.pool) after ∙ under5.0, holds, linked6) (cursors_kept o.setup.pool v5 w5 x.cursors (knows o i x c n p q st few m acc) st.cursors);
             follows = λ d h.
                 let g = doing5 d h in (
-                  step o i x c n p q st few m acc miss5 d (call_at c v5) g.0.0 Quiet g.0.1 g.2 most h.refusing going (tt, λ s. subst Shortens is_raise s),
+                  step o i x c n p q st few m acc miss5 d (call_at c v5) g.0.0 Quiet g.0.1 h.refusing going (tt, λ s. subst Shortens is_raise s),
                   record { refusing = refl; under = ((g.0.0, g.0.1 ∙ ap (λ (s : Call). Some (ClientTask s g.0.0)) (sym name6)), g.1 ∙ (λ j. Some (reply_of (sym after j).own (sym name6 j))), ap (λ (l : List Act). l ++ act_of (put_step c v5) m.0 ∷ []) g.2 ∙ sym since6); taken = taken5 d h },
                 );
             longer = λ b. ap length since6 ∙ length_snoc (act_of (put_step c v5) m.0) (since_of (Raise c) v5) ∙ ap (λ (l : List Act). suc (length l)) (sym is_since);
@@ -635,7 +633,7 @@ module _ (o : Opening) (i : ℕ) (x : ClientState) (c n : Putting) (p q : Plain)
         entry = None;
         moved = moved o i x c n p q st few m acc miss7;
         stands = stands o i x c n p q st few m acc miss7 Nothing known tt new_cursors;
-        follows = λ d h. let g = doing5 d h in (step o i x c n p q st few m acc miss7 d (call_at c v5) g.0.0 (Answered k r) g.0.1 g.2 most h.refusing going (sym seat, answers d g), record { refusing = refl; under = refl; taken = taken5 d h ∙ one_taken d.taken c.own (call_at c v5) d.decided g.1 });
+        follows = λ d h. let g = doing5 d h in (step o i x c n p q st few m acc miss7 d (call_at c v5) g.0.0 (Answered k r) g.0.1 h.refusing going (sym seat, answers d g), record { refusing = refl; under = refl; taken = taken5 d h ∙ one_taken d.taken c.own (call_at c v5) d.decided g.1 });
         longer = λ b. absurd (b refl);
         spent = spends;
         cursor = subst (λ (u : Underway). SetsCursor (slot_of u) (act_of (put_step c v5) m.0) (Answered k r) x.cursors known) (sym is) (t, tells, is_set);

@@ -18,12 +18,11 @@ use Rattle.clover_rule.specs.declared.access.Access.{Access}
 use Rattle.clover_rule.specs.declared.view.View.{View}
 use Rattle.clover_walk.specs.Walking.{key_at}
 use Rattle.clover_cache.specs.Node.{Known}
-use Rattle.clover_put.specs.Putting.{body}
 use Rattle.clover_plain.specs.Plain.{Plain, Kept, history, view_at}
 use Rattle.clover_plain.specs.Preset.{IsPreset, AreDistinct}
 use Rattle.clover_sched.specs.declared.client.ClientState.{ClientState}
 use Rattle.clover_sched.specs.declared.client.Underway.{Underway}
-use Rattle.clover_sched.specs.declared.client.Underway.TheVariants.{Nothing, Write, Raise}
+use Rattle.clover_sched.specs.declared.client.Underway.TheVariants.{Nothing}
 use Rattle.clover_sched.specs.declared.event.Event.{Event}
 use Rattle.clover_sched.specs.declared.event.Event.TheVariants.{Begin, Step, Refuse}
 use Rattle.clover_sched.specs.declared.event.Note.{Note}
@@ -152,12 +151,6 @@ left_of m i (Some x) = left_by m.setup.pool x.under (view_at m.pool i)
 
 abbrev pub left : Parts → ℕ → ℕ
 left m a = left_of m (a - 1) (nth m.clients (a - 1))
-
--- the version that a call is to commit fits into a buffer
-abbrev pub IsFitting : Underway → Type 0
-IsFitting (Write c call) = length (body c) ≤ c.walk.pool.words + 1
-IsFitting (Raise c) = length (body c) ≤ c.walk.pool.words + 1
-IsFitting under = Unit {0}
 
 -- the actor is a client with a call under way
 abbrev pub HasCall : Option ClientState → Type 0

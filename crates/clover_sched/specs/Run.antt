@@ -141,13 +141,12 @@ IsCause o a d e act note = ⊥
 abbrev pub most_made : Pool → ℕ
 most_made p = most_accesses p (budget p)
 
--- A step: an actor without a task does nothing; one with a task makes one access, no more than a call makes at most, and no exchange writes but a commit's.
+-- A step: an actor without a task does nothing; one with a task makes one access, and no exchange writes but a commit's.
 pub record IsStep (o : Opening) (a : ℕ) (d : Doing) (ws : List ℕ) (n : ℕ) (r : Record) : Type 0 where
   pub idle : d.task ≡ None → Still r Quiet
   pub one : (t : Task) → d.task ≡ Some t → IsSome r.access
   pub access : IfSome r.access (IsAccess o.setup.pool a d ws)
   pub entry : IfSome r.entry (IsEntry o a d ws n r)
-  pub few : (x : Access) → r.access ≡ Some x → x.refused ≡ false → length d.since < most_made o.setup.pool
   pub commits : (x : Access) → r.access ≡ Some x → x.refused ≡ false → Wrote x.act → IsSome r.entry
   pub unreached : (x : Access) → r.access ≡ Some x → x.refused ≡ true → (r.entry ≡ None) × (r.note ≡ Refused a (lost d.decided))
   pub cause : (x : Access) → r.access ≡ Some x → x.refused ≡ false → IsCause o a d r.entry x.act r.note

@@ -1,6 +1,6 @@
 -- A call that writes, as a client of the machine has it under way: where it is so, and what its next access came to.
 use Prim.Native.Nat.{suc}
-use Rattle.std.specs.Prelude.{◌≡◌, ℕ, ◌-◌, ◌^◌, ◌<◌, ◌≤◌, ◌++◌, ◌∷◌, [], length, Bool, true, Option, Some}
+use Rattle.std.specs.Prelude.{◌≡◌, ℕ, ◌-◌, ◌^◌, ◌<◌, ◌≤◌, ◌++◌, ◌∷◌, [], Bool, true, Option, Some}
 use Rattle.clover_words.specs.declared.pool.Pool.{Pool}
 use Rattle.clover_words.specs.Tag.{tag_number}
 use Rattle.clover_map.specs.declared.call.Call.{Call}
@@ -13,8 +13,8 @@ use Rattle.clover_rule.specs.declared.view.View.{View}
 use Rattle.clover_port.specs.Told.{Open, Made}
 use Rattle.clover_plain.specs.Plain.{Plain, Accessed, history, view_at, open_of}
 use Rattle.clover_walk.specs.Ending.{Ended, Commits}
-use Rattle.clover_walk.specs.Walking.{budget, most_accesses}
-use Rattle.clover_put.specs.Answering.{Answers, OnReached, OnRefused, OnGoing, OnAhead, IfDecided, IfEnded, IfAbsent, IfDiffers, IfBehind, ExactPut}
+use Rattle.clover_walk.specs.Walking.{budget}
+use Rattle.clover_put.specs.Answering.{Answers, OnReached, OnRefused, OnGoing, IfDecided, IfEnded, IfAbsent, IfDiffers, IfBehind, ExactPut}
 use Rattle.clover_put.specs.Holding.{PutHolds}
 use Rattle.clover_put.specs.Putting.{Putting, put_step, put_on, call_at}
 use Rattle.clover_put.specs.declared.turn.PutTurn.{PutTurn}
@@ -53,10 +53,8 @@ pub record PutStep (p : Pool) (c n : Putting) (v : View) (o : Option Open) (w : 
   pub absent : IfAbsent r (λ t. Ended p (call_at c v) Absent v o w o1)
   pub differs : IfDiffers r (λ t. Ended p (call_at c v) (Differs (tag_number t)) v o w o1)
   pub behind : IfBehind r (λ k. (k ≡ budget p) × (w.pass.turns ≡ budget p))
-  pub ahead : OnAhead r (w.pass.turns < budget p)
   pub refused : OnRefused r (w ≡ v)
   pub stands : OnGoing r (PutHolds n w)
-  pub bound : OnReached r (length w.pass.since ≤ most_accesses p w.pass.turns)
 
 -- The same by the client of seat i, refused where that was asked for, and what the access left of the pool.
 pub record PutAccess (i : ℕ) (refuse : Bool) (c n : Putting) (p q : Plain) (r : PutTurn) : Type 0 where

@@ -5,13 +5,13 @@ ghost use Rattle.clover_map.specs.History.{key_of};
 ghost use Rattle.clover_script.specs.Form.{call_in};
 ghost use Rattle.clover_sched.specs.Client.{idle_client};
 ghost use Rattle.clover_sched.specs.Folds.{entries_in, accesses_in, made_in};
-ghost use Rattle.clover_sched.specs.Machine.{IsAt, IsOpening, Happens, IsSame, MayCome, IsBusy, IsFitting, left};
+ghost use Rattle.clover_sched.specs.Machine.{IsAt, IsOpening, Happens, IsSame, MayCome, IsBusy, left};
 ghost use Rattle.clover_sched.specs.Record.{Record};
 ghost use Rattle.clover_sched.specs.Run.{Opening};
 ghost use Rattle.clover_sched.specs.declared.event.Event.TheVariants.{Begin as BeginOf, Step as StepOf, Refuse as RefuseOf};
 ghost use Rattle.clover_sched.specs.declared.event.Note.TheVariants.{Quiet as IsQuiet};
 
-use crate::client::{ClientState, Underway};
+use crate::client::ClientState;
 use crate::event::{Event, Note};
 use clover_list::OutOfMemory;
 use clover_map::{Call, Entry, Key};
@@ -67,16 +67,6 @@ fn key_in(task: &Task) -> &Key
     match call {
         Call::Get { key } | Call::Put { key, .. } | Call::Delete { key } | Call::Swap { key, .. } =>
             { key }
-    }
-}
-
-// The version that a call is to commit fits into a buffer. This is for the proof, and does nothing.
-fn fits(under: &Underway)
-    ensures { IsFitting under.now }
-{
-    match under {
-        Underway::Write { call, .. } | Underway::Raise { call } => call.fits(),
-        Underway::Nothing | Underway::Get { .. } => {}
     }
 }
 
@@ -146,8 +136,10 @@ impl Machine {
         self.clients[seat].begin(&self.setup, slot, actor, task)
     }
 
-    // Makes the next access of an actor's call.
-    fn step(&mut self, actor: u32) -> Result<Note, OutOfMemory>
+    /// Makes the next access of an actor's call; nothing happens where it has none.
+    ///
+    /// `OutOfMemory` for want of memory, before anything has changed.
+    pub(crate) fn step(&mut self, actor: u32) -> Result<Note, OutOfMemory>
         requires { 1 ≤ actor }
         ensures happened { IfOk result (Happens self.old self.new (StepOf actor)) }
         ensures parts { IfOk result (λ note. (self.new.setup ≡ self.old.setup) × (self.new.names ≡ self.old.names) × (self.new.pool.traced ≡ self.old.pool.traced)) }
@@ -159,7 +151,6 @@ impl Machine {
         }
         let seat = actor as usize - 1;
         let alloc = *self.clients.allocator();
-        fits(&self.clients[seat].under);
         let done = self.clients[seat].step(alloc, &mut self.pool, actor);
         self.pool.stands();
         done

@@ -98,7 +98,7 @@ pub fn work_on(machine: &mut Machine, work: Work) -> Result<Option<Advance>, Out
             if times == 0 || !machine.is_busy(actor) {
                 return Ok(None);
             }
-            let note = machine.event(Event::Step { actor })?;
+            let note = machine.step(actor)?;
             Ok(Some(Advance {
                 note,
                 left: Work::Steps {
@@ -111,7 +111,7 @@ pub fn work_on(machine: &mut Machine, work: Work) -> Result<Option<Advance>, Out
             if !machine.is_busy(actor) {
                 return Ok(None);
             }
-            let note = machine.event(Event::Step { actor })?;
+            let note = machine.step(actor)?;
             Ok(Some(Advance { note, left: work }))
         }
     }

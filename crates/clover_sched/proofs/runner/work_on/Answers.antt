@@ -30,12 +30,12 @@ returns-then-not-is_busy-2-clause-came c =
 pub returns-in_ok-note-in-Steps-clause-came : goal.returns-in_ok-note-in-Steps-clause-came
 returns-in_ok-note-in-Steps-clause-came c =
     let a = c.in-Steps.actor in
-    advances_on c.args.machine.now c.event.new.self _ (line.Step a c.in-Steps.times) (Step a) c.in_ok-note-in-Steps.note (ap steps_line c.in-Steps.is) c.in_ok-note-in-Steps.ensures.happened c.in_ok-note-in-Steps.ensures.parts _ refl (subst (λ (w : Work). 1 ≤ actor_in w) c.in-Steps.is c.requires)
+    advances_on c.args.machine.now c.step.new.self _ (line.Step a c.in-Steps.times) (Step a) c.in_ok-note-in-Steps.note (ap steps_line c.in-Steps.is) c.in_ok-note-in-Steps.ensures.happened c.in_ok-note-in-Steps.ensures.parts _ refl (subst (λ (w : Work). 1 ≤ actor_in w) c.in-Steps.is c.requires)
     (λ o rs r at is note. leaves_steps a rs r c.in-Steps.times (omega (arith, c.if-times-eq0.false)) is)
 
 pub returns-in_ok-note-in-Finish-clause-came : goal.returns-in_ok-note-in-Finish-clause-came
 returns-in_ok-note-in-Finish-clause-came c =
     let m = c.args.machine.now in
     let a = c.in-Finish.actor in
-    advances_on m c.event-in-Finish.new.self _ (line.Finish a) (Step a) c.in_ok-note-in-Finish.note (ap steps_line c.in-Finish.is) c.in_ok-note-in-Finish.ensures.happened c.in_ok-note-in-Finish.ensures.parts _ refl (subst (λ (w : Work). 1 ≤ actor_in w) c.in-Finish.is c.requires)
+    advances_on m c.step-in-Finish.new.self _ (line.Finish a) (Step a) c.in_ok-note-in-Finish.note (ap steps_line c.in-Finish.is) c.in_ok-note-in-Finish.ensures.happened c.in_ok-note-in-Finish.ensures.parts _ refl (subst (λ (w : Work). 1 ≤ actor_in w) c.in-Finish.is c.requires)
     (λ o rs r at is note. leaves_finish a rs r is (busy_task o m rs at a (c.is_busy-in-Finish.ensures.busy.0 c.if-not-is_busy-2.false)))

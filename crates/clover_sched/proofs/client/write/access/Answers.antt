@@ -1,10 +1,10 @@
-use Rattle.std.proofs.Common.{◌≡◌, ◌<◌, ◌-◌, arith, subst, sym, length, rules, ℕ, inl, inr}
-use Rattle.std.specs.Prelude.{Bool, ◌≤◌, Some}
+use Rattle.std.proofs.Common.{◌≡◌, ◌-◌, arith, subst, sym, rules, ℕ, inl, inr}
+use Rattle.std.specs.Prelude.{Bool, Some}
 use Rattle.clover_words.specs.declared.pool.Pool.{Pool}
 use Rattle.clover_plain.specs.Plain.{Accessed, view_at}
 use Rattle.clover_plain.specs.Ports.{refused_view}
-use Rattle.clover_walk.specs.Walking.{budget, most_accesses}
-use Rattle.clover_put.specs.Answering.{IfBehind, OnAhead, OnReached, ExactPut}
+use Rattle.clover_walk.specs.Walking.{budget}
+use Rattle.clover_put.specs.Answering.{IfBehind, ExactPut}
 use Rattle.clover_sched.proofs.WriteAccess.{port_access, made_or_refused, where_made, where_refused, exact_so}
 use Rattle.clover_sched.proofs.client.write.access.Goals as goal
 
@@ -17,8 +17,6 @@ returns c =
     let here : p0.setup.pool ≡ c.args.call.now.walk.pool = cc in
     let same : t ≡ s = made_or_refused {C = t ≡ s} r e.made e.refused (λ m. m.1.2) (λ f. f.1) in
     let behind = subst (λ (p : Pool). IfBehind r (λ (n : ℕ). (n ≡ budget p) × (w.pass.turns ≡ budget p))) (sym here) e.went.behind in
-    let ahead = subst (λ (p : Pool). OnAhead r (w.pass.turns < budget p)) (sym here) e.went.ahead in
-    let bound = subst (λ (p : Pool). OnReached r (length w.pass.since ≤ most_accesses p w.pass.turns)) (sym here) e.went.bound in
     let exact = exact_so c.port-port.result.refuse r (where_made r e.made (λ m. m.1.5)) (where_refused r e.refused (λ f. f.4)) in
     let left = made_or_refused {C = Accessed s c.port-port.result.list p0 q0} r e.made e.refused (λ m. inl (_, _, m.0, m.1.0)) (λ f. inr f.0) in
     port_access p0 c.args.pool.now c.pool-1.given.0 q0 (c.args.client - 1) s t c.args.call.now c.step.new.self r c.args.refuse
@@ -31,10 +29,8 @@ returns c =
       absent = e.went.absent;
       differs = e.went.differs;
       behind = behind;
-      ahead = ahead;
       refused = where_refused r e.refused (λ f. refused_view s t f.1 f.0.1);
       stands = e.went.stands;
-      bound = bound;
     })
     (subst (λ (b : Bool). ExactPut (Some b) r) c.port-port.ensures.fresh.0 exact)
     (subst (λ (b : Bool). Accessed s b p0 q0) c.port-port.ensures.fresh.1 left)

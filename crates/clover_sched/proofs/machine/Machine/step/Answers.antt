@@ -1,7 +1,6 @@
-use Rattle.std.proofs.Common.{◌≡◌, subst, sym, arith}
+use Rattle.std.proofs.Common.{subst, sym, arith}
 use Rattle.clover_sched.specs.Kept.{meaning}
-use Rattle.clover_sched.specs.Machine.{Parts, IsBusy, IsFitting}
-use Rattle.clover_sched.specs.declared.client.ClientState.{ClientState}
+use Rattle.clover_sched.specs.Machine.{Parts, IsBusy}
 use Rattle.clover_sched.proofs.Busies.{busy_within}
 use Rattle.clover_sched.proofs.Happening.{quiet_happens, busy_read, busy_client, client_stands, step_behind, step_ok, step_parts, step_less}
 use Rattle.clover_sched.proofs.machine.Machine.step.Goals as goal
@@ -11,12 +10,6 @@ returns-then-not-is_busy-clause-happened c = quiet_happens c.args.self.now c.arg
 
 pub index_mut-requires : goal.index_mut-requires
 index_mut-requires c =
-    let m : Parts = meaning c.self.inside in
-    let within = busy_within m c.args.actor (subst (λ (p : Parts). IsBusy p c.args.actor) (sym c.self.view_is) (c.is_busy.ensures.busy.0 c.if-not-is_busy.false)) in
-    omega (arith, c.self.inside.clients.ok.0)
-
-pub index-requires : goal.index-requires
-index-requires c =
     let m : Parts = meaning c.self.inside in
     let within = busy_within m c.args.actor (subst (λ (p : Parts). IsBusy p c.args.actor) (sym c.self.view_is) (c.is_busy.ensures.busy.0 c.if-not-is_busy.false)) in
     omega (arith, c.self.inside.clients.ok.0)
@@ -60,8 +53,5 @@ returns-clause-less c =
     let x = c.index_mut.result.now in
     let busy = c.is_busy.ensures.busy.0 c.if-not-is_busy.false in
     let here = busy_read m c.args.self.now c.args.actor x c.self.view_is busy c.index_mut.ensures.value in
-    let was = busy_read m c.args.self.now c.args.actor c.index.result.now c.self.view_is busy c.index.ensures in
-    let same : c.index.result.now ≡ x = cc (here, was) in
-    let fits : IsFitting x.under = subst (λ (z : ClientState). IsFitting z.under) same c.fits.ensures in
     step_less m c.args.self.now c.args.actor x c.step-done.new.self c.step-done.new.pool c.step-done.result c.self.view_is c.requires here c.step-done.ensures.went c.self.invariant
-    (busy_client m c.args.self.now c.args.actor x c.self.view_is busy c.index_mut.ensures.value) fits
+    (busy_client m c.args.self.now c.args.actor x c.self.view_is busy c.index_mut.ensures.value)
