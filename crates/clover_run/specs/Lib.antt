@@ -6,3 +6,5 @@ pub mod Serving
 pub mod Cleaning
 pub mod Ends
 pub mod Run
+pub mod Lines
+pub mod Alone

@@ -9,6 +9,7 @@ use Rattle.clover_words.specs.Next.{root_code}
 use Rattle.clover_words.specs.Tag.{home}
 use Rattle.clover_words.specs.Version.{linked, buffer_at}
 use Rattle.clover_map.specs.History.{own, key_of, is_commit}
+use Rattle.clover_map.specs.Tagged.{Tagged}
 use Rattle.clover_map.specs.declared.call.Call.{Call}
 use Rattle.clover_map.specs.declared.call.Call.TheVariants.{Put}
 use Rattle.clover_map.specs.declared.call.Entry.{Entry}
@@ -37,11 +38,15 @@ use Rattle.clover_run.specs.Served.{Served}
 use Rattle.clover_run.specs.Serving.{IsServed}
 use Rattle.clover_run.specs.Wanting.{Want, Nothing, slot_for, wants}
 
--- where a run begins: the setup, the words of its pool, and the server's side
+-- Where a run begins, and all that was before it: the setup, the words of its pool, the server's side, the map and the used tags, its number among the runs, and how many accesses were made before it.
 pub record Opening : Type 0 where
   pub setup : Setup
   pub words : List ℕ
   pub served : Served
+  pub first : Tagged
+  pub used : List ℕ
+  pub run : ℕ
+  pub made : ℕ
 
 -- what a step finds: the actor, what it has under way, the names that it knows, the tags at which its answered calls ended, how many entries there are of it, the words and the server's side
 pub record Standing : Type 0 where
@@ -63,6 +68,13 @@ standing o a rs = record {
   words = words_after o.setup.pool o.words rs;
   served = served_after o.served rs;
 }
+
+-- the slot of a call's key, where its client knows one, and what the call wants
+abbrev pub slot_in : Standing → Call → Option ℕ
+slot_in st call = slot_for (key_of call) st.names
+
+abbrev pub want_in : Standing → Call → Want
+want_in st call = wants call (slot_in st call) st.does.stock st.does.since
 
 -- how many bytes of a value a buffer has room for
 abbrev pub room : Setup → ℕ
@@ -213,7 +225,7 @@ pub record IsOwn (p : Pool) (st : Standing) (call : Call) (r : Record) : Type 0 
   pub commits : IfSome r.entry (TakesFirst st)
   pub unreached : access.refused ≡ true → (r.note ≡ Refused st.actor (lost st.does.decided)) × (r.entry ≡ None)
   pub cause : access.refused ≡ false → IsCause p st r.entry access.act r.note
-  pub due : access.refused ≡ false → IsDueOn p st (slot_for (key_of call) st.names) call access.act r.note
+  pub due : access.refused ≡ false → IsDueOn p st (slot_in st call) call access.act r.note
 
 -- the step of an actor whose call wants this
 abbrev pub IsStepFor : Pool → Standing → Call → Want → Record → Type 0
@@ -223,7 +235,7 @@ IsStepFor p st call want r = IsServed st.actor st.does want call st.served r
 -- the step of an actor with this task, or without one
 abbrev pub IsStepOf : Pool → Standing → Option Task → Record → Type 0
 IsStepOf p st None r = Still st.served r Quiet
-IsStepOf p st (Some (ClientTask call written)) r = IsStepFor p st call (wants call (slot_for (key_of call) st.names) st.does.stock st.does.since) r
+IsStepOf p st (Some (ClientTask call written)) r = IsStepFor p st call (want_in st call) r
 
 -- a step of an actor, with its access as it must be
 pub record IsStep (p : Pool) (st : Standing) (r : Record) : Type 0 where
