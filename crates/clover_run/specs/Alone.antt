@@ -19,7 +19,7 @@ use Rattle.clover_run.specs.declared.event.Note.TheVariants.{Quiet, Answered, Gr
 use Rattle.clover_run.specs.Ends.{MayBegin}
 use Rattle.clover_run.specs.Folds.{words_after, served_after}
 use Rattle.clover_run.specs.Record.{Record}
-use Rattle.clover_run.specs.Run.{Opening, Standing, standing, slot_in, want_in}
+use Rattle.clover_run.specs.Run.{Opening, Standing, standing, known_slot, want_in}
 use Rattle.clover_run.specs.Wanting.{Nothing}
 
 -- the record starts the call that the client has under way: its begin, or a grant behind which it starts anew
@@ -114,4 +114,4 @@ EndsAlone p st None call c steps = length steps ≤ 1
 EndsAlone p st (Some slot) call c steps = (f : Finds p st slot call) × IsAnsweredAt c (cost_of p st slot call f) steps
 
 abbrev pub AllAlone : Opening → List Record → Type 0
-AllAlone o rs = (x : RunsAlone o rs) → EndsAlone o.setup.pool (standing o x.client x.before) (slot_in (standing o x.client x.before) x.call) x.call x.client x.steps
+AllAlone o rs = (x : RunsAlone o rs) → EndsAlone o.setup.pool (standing o x.client x.before) (known_slot (standing o x.client x.before) x.call) x.call x.client x.steps

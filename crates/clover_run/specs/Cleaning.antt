@@ -1,12 +1,12 @@
 -- A step of the recycler: what is due there, what it comes to, and the server's side behind it.
-use Rattle.std.specs.Prelude.{◌≡◌, ℕ, ◌+◌, ◌-◌, ◌==◌, List, [], length, slice_get, Bool, true, false, if◌then◌else◌, Option, Some, None}
+use Rattle.std.specs.Prelude.{◌≡◌, ℕ, ◌+◌, ◌-◌, ◌==◌, length, slice_get, true, false, if◌then◌else◌, Option, Some, None}
 use Rattle.clover_alloc.specs.Ledger.{count_of}
 use Rattle.clover_alloc.specs.declared.line.Place.TheVariants.{Free, Worn}
 use Rattle.clover_server.specs.Looking.{slot_in}
 use Rattle.clover_server.specs.Server.{ServerState}
 use Rattle.clover_server.specs.Steps.{recycle_due, RecycleStep, FinishStep}
 use Rattle.clover_server.specs.declared.turn.ServerTurn.{ServerTurn}
-use Rattle.clover_server.specs.declared.turn.ServerTurn.TheVariants.{More, Unlinked as TurnUnlinked, Recycled as TurnRecycled, Unreached as TurnUnreached}
+use Rattle.clover_server.specs.declared.turn.ServerTurn.TheVariants.{Unlinked as TurnUnlinked, Recycled as TurnRecycled, Unreached as TurnUnreached}
 use Rattle.clover_server.specs.declared.work.Unfinished.{Unfinished}
 use Rattle.clover_run.specs.declared.event.Note.{Note}
 use Rattle.clover_run.specs.declared.event.Note.TheVariants.{Quiet, Recycled, Unlinked, Swept, Unreached}
@@ -29,7 +29,7 @@ abbrev pub Cleans : Option ℕ → (s n : ServerState) → ServerTurn → Record
 Cleans (Some slot) s n turn r = RecycleStep (recycle_due s slot) s n turn (Makes r) (Fails r)
 Cleans None s n turn r = FinishStep s n turn (Makes r) (Fails r)
 
--- how many buffers the books have as free or worn: one more behind a recycling's last access
+-- how many buffers the books have as free or worn: one more behind the last access of any recycling, also of one that another actor began
 abbrev pub given_back : ServerState → ℕ
 given_back s = count_of Free s.books + count_of Worn s.books
 

@@ -1,6 +1,6 @@
 -- What some records lead to, each thing as a fold of its own: the accesses, the entries, the words, the server's side, and what each actor has under way.
 use Prim.Native.Nat.{suc}
-use Rattle.std.specs.Prelude.{ℕ, ◌+◌, ◌==◌, List, [], ◌∷◌, ◌++◌, length, map, take, drop, fold, Bool, true, false, if◌then◌else◌, Option, Some, None}
+use Rattle.std.specs.Prelude.{ℕ, ◌+◌, ◌==◌, List, [], ◌∷◌, ◌++◌, map, take, Bool, true, false, if◌then◌else◌, Option, Some, None}
 use Rattle.std.specs.Option.{option_to_list}
 use Rattle.clover_alloc.specs.Batch.{tags_of}
 use Rattle.clover_words.specs.declared.pool.Pool.{Pool}
@@ -14,7 +14,7 @@ use Rattle.clover_rule.specs.Learned.{rest_of}
 use Rattle.clover_rule.specs.declared.access.Access.{Access}
 use Rattle.clover_rule.specs.declared.access.Act.{Act}
 use Rattle.clover_rule.specs.declared.access.Actor.{Actor}
-use Rattle.clover_rule.specs.declared.access.Actor.TheVariants.{Client, Server, Restart}
+use Rattle.clover_rule.specs.declared.access.Actor.TheVariants.{Client}
 use Rattle.clover_run.specs.declared.event.Event.{Event}
 use Rattle.clover_run.specs.declared.event.Event.TheVariants.{Begin, Step, Refuse}
 use Rattle.clover_run.specs.declared.event.Note.{Note}
@@ -101,7 +101,7 @@ abbrev pub entered : Doing → Option Entry → Doing
 entered d None = d
 entered d (Some e) = record d { decided = Some e.reply; stock = if is_commit e.reply then rest_of d.stock else d.stock }
 
--- an access for the actor: the call's own is one of its acts where it was made
+-- an access for the actor: the call's own is one of its acts
 abbrev pub acted : Doing → Actor → Access → Doing
 acted d (Client n) x = record d { since = d.since ++ x.act ∷ []; refusing = false }
 acted d actor x = record d { refusing = false }

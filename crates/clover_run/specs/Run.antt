@@ -1,6 +1,6 @@
 -- What a run is: a list of records of which each follows those before it.
 use Prim.Native.Nat.{suc}
-use Rattle.std.specs.Prelude.{◌≡◌, ℕ, ◌*◌, ◌<◌, ◌==◌, ltb, List, [], ◌∷◌, ◌++◌, length, Bool, true, false, if◌then◌else◌, Option, Some, None, IfSome, IsSome}
+use Rattle.std.specs.Prelude.{◌≡◌, ℕ, ◌*◌, ◌<◌, ◌==◌, ltb, List, [], ◌∷◌, ◌++◌, length, true, false, if◌then◌else◌, Option, Some, None, IfSome, IsSome}
 use Rattle.clover_words.specs.declared.pool.Pool.{Pool}
 use Rattle.clover_words.specs.declared.setup.Setup.{Setup}
 use Rattle.clover_words.specs.declared.word.Word.TheVariants.{Next as NextOf, Short, Count}
@@ -14,10 +14,11 @@ use Rattle.clover_map.specs.declared.call.Call.{Call}
 use Rattle.clover_map.specs.declared.call.Call.TheVariants.{Put}
 use Rattle.clover_map.specs.declared.call.Entry.{Entry}
 use Rattle.clover_map.specs.declared.call.Reply.{Reply}
-use Rattle.clover_map.specs.declared.call.Reply.TheVariants.{Stored, Deleted, Absent}
+use Rattle.clover_map.specs.declared.call.Reply.TheVariants.{Stored, Deleted, Absent, Found}
 use Rattle.clover_script.specs.declared.line.Task.{Task}
 use Rattle.clover_script.specs.declared.line.Task.TheVariants.{Client as ClientTask}
 use Rattle.clover_rule.specs.Accesses.{CameBack, Decides, wrote_link}
+use Rattle.clover_rule.specs.Content.{content}
 use Rattle.clover_rule.specs.Lists.{Within}
 use Rattle.clover_rule.specs.declared.access.Access.{Access}
 use Rattle.clover_rule.specs.declared.access.Act.{Act}
@@ -70,11 +71,11 @@ standing o a rs = record {
 }
 
 -- the slot of a call's key, where its client knows one, and what the call wants
-abbrev pub slot_in : Standing → Call → Option ℕ
-slot_in st call = slot_for (key_of call) st.names
+abbrev pub known_slot : Standing → Call → Option ℕ
+known_slot st call = slot_for (key_of call) st.names
 
 abbrev pub want_in : Standing → Call → Want
-want_in st call = wants call (slot_in st call) st.does.stock st.does.since
+want_in st call = wants call (known_slot st call) st.does.stock st.does.since
 
 -- how many bytes of a value a buffer has room for
 abbrev pub room : Setup → ℕ
@@ -163,6 +164,11 @@ IsCause p st e act (Answered c r) = (c ≡ st.actor) × IsAnswer st e act r
 IsCause p st e act (Refused c (Behind n)) = (c ≡ st.actor) × (n ≡ budget p) × (e ≡ None) × (st.does.decided ≡ None) × (Shortens act → ⊥)
 IsCause p st e act note = ⊥
 
+-- an exchange that wrote
+abbrev pub Wrote : Act → Type 0
+Wrote (Exchange w expected new old) = old ≡ expected
+Wrote act = ⊥
+
 -- a commit takes the first buffer of the stock
 abbrev pub TakesFirst : Standing → Entry → Type 0
 TakesFirst st e = (t : ℕ) → (e.reply ≡ Stored t → (rest : List ℕ) × (st.does.stock ≡ t ∷ rest)) × (e.reply ≡ Deleted t → (rest : List ℕ) × (st.does.stock ≡ t ∷ rest))
@@ -187,10 +193,16 @@ pub record IsCalling (p : Pool) (st : Standing) (slot : ℕ) (call : Call) (acts
   pub may : MayBegin st.ended (key_of call) cursor
   pub leads : LeadsTo call (own_tag st) (begun_call p slot cursor (own_tag st) call) acts n
 
+-- the content words that the call has loaded at its tail say the reply
+abbrev pub Says : List ℕ → Reply → Type 0
+Says seen (Found t v) = seen ≡ content (Some v)
+Says seen Absent = seen ≡ content None
+Says seen reply = Unit {0}
+
 -- what a note tells of where its access left the call: it has a step to make, it is over, or its turns have reached the budget
 abbrev pub Tells : Call → ℕ → Calling → Note → Type 0
 Tells call own n Quiet = IsSome (due call own n)
-Tells call own n (Answered a r) = (n.steps ≡ []) × (n.over ≡ true)
+Tells call own n (Answered a r) = (n.steps ≡ []) × (n.over ≡ true) × Says n.seen r
 Tells call own n (Refused a y) = (n.steps ≡ []) × (n.over ≡ false) × (n.walk.stand ≡ Ended)
 Tells call own n note = ⊥
 
@@ -215,17 +227,18 @@ abbrev pub IsDueOn : Pool → Standing → Option ℕ → Call → Act → Note 
 IsDueOn p st None call act note = IsCounting st call act note
 IsDueOn p st (Some slot) call act note = IsDue p st slot call act note
 
--- A step of a call that wants nothing of the server is its own next access: where that was made, it is the one that is due, and the note has its cause; where it was refused, the call ends with what it had done.
+-- A step of a call that wants nothing of the server is its own next access: where that was made, it is the one that is due, and the note has its cause; where it was refused, the call ends with what it had done. An exchange that writes enters the call.
 pub record IsOwn (p : Pool) (st : Standing) (call : Call) (r : Record) : Type 0 where
   pub access : Access
   pub is : r.access ≡ Some access
   pub actor : access.actor ≡ Client st.actor
   pub served : r.served ≡ st.served
   pub entry : IfSome r.entry (IsEntry p st r)
-  pub commits : IfSome r.entry (TakesFirst st)
+  pub takes : IfSome r.entry (TakesFirst st)
+  pub commits : access.refused ≡ false → Wrote access.act → IsSome r.entry
   pub unreached : access.refused ≡ true → (r.note ≡ Refused st.actor (lost st.does.decided)) × (r.entry ≡ None)
   pub cause : access.refused ≡ false → IsCause p st r.entry access.act r.note
-  pub due : access.refused ≡ false → IsDueOn p st (slot_in st call) call access.act r.note
+  pub due : access.refused ≡ false → IsDueOn p st (known_slot st call) call access.act r.note
 
 -- the step of an actor whose call wants this
 abbrev pub IsStepFor : Pool → Standing → Call → Want → Record → Type 0

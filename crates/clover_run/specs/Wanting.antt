@@ -1,11 +1,9 @@
 -- What a call wants of the server: buffers for its client's stock, or bindings.
-use Rattle.std.specs.Prelude.{ℕ, List, [], ◌∷◌, Bool, true, false, if◌then◌else◌, Option, Some, None}
+use Rattle.std.specs.Prelude.{ℕ, List, [], ◌∷◌, if◌then◌else◌, Option, Some, None}
 use Rattle.std.specs.Str.{bytes_eq}
 use Rattle.clover_map.specs.declared.call.Call.{Call}
-use Rattle.clover_map.specs.declared.call.Call.TheVariants.{Get, Put, Delete, Swap}
-use Rattle.clover_map.specs.History.{key_of}
+use Rattle.clover_map.specs.declared.call.Call.TheVariants.{Get, Put}
 use Rattle.clover_rule.specs.declared.access.Act.{Act}
-use Rattle.clover_run.specs.Folds.{Doing}
 
 -- nothing, a batch of buffers, or the bindings that its client does not know
 pub data Want : Type 0 where
@@ -30,7 +28,7 @@ wants_first (Get key) slot stock = Nothing
 wants_first call None stock = Nothing
 wants_first call (Some s) stock = unless_stocked stock
 
--- and behind it: a call whose key has no slot that it knows has loaded the count alone
+-- and behind it: a call whose key has no slot that its client knows has loaded the count alone, since what a client knows changes only where its call starts anew
 abbrev pub wants_later : Option ℕ → Want
 wants_later None = Names
 wants_later (Some s) = Nothing
