@@ -5,8 +5,9 @@ use Rattle.clover_words.specs.declared.pool.Pool.{Pool}
 use Rattle.clover_words.specs.Place.{IsWithin}
 use Rattle.clover_words.specs.Tag.{tag_number, home}
 use Rattle.clover_words.specs.Version.{content_at}
+use Rattle.clover_map.specs.Key.{IsKey}
 use Rattle.clover_rule.specs.Asks.{Asks}
-use Rattle.clover_rule.specs.Content.{spelling, IsKey}
+use Rattle.clover_rule.specs.Content.{spelling}
 use Rattle.clover_rule.specs.Lists.{nth, Within}
 use Rattle.clover_rule.specs.Server.{waiting_name}
 use Rattle.clover_rule.specs.declared.view.ServerTask.{ServerTask}
@@ -29,7 +30,7 @@ unfolding spelling
 word_is key j h = nth_all (length key ∷ key) j (let e : length (length key ∷ key) + 7 ≡ length key + 8 = omega arith in let z = ap (λ (n : ℕ). n / 8) e in omega arith)
 
 few_words : (key : List ℕ) → IsKey key → key_length key ≤ 32
-few_words key k = let m = k.most in omega arith
+few_words key k = let m = k.1 in omega arith
 
 module _ (p : Pool) (c : UnderWay) (d : Bindings) (v : View) where
   from : (at : Stage) → at ≢ Over → IsKey c.key → IsPlaced (key_length c.key) at → BindHolds p (staged c at) d v → Asks p (bind_step (staged c at) d) v

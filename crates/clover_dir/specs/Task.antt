@@ -2,7 +2,7 @@
 use Rattle.std.specs.Prelude.{ℕ, ◌+◌, ◌-◌, ◌*◌, ◌/◌, ◌<◌, nat_lt, if◌then◌else◌, List, ◌∷◌, length}
 use Rattle.clover_words.specs.Pack.{packed}
 use Rattle.clover_words.specs.Tag.{TagParts, tag_number}
-use Rattle.clover_rule.specs.Content.{IsKey}
+use Rattle.clover_map.specs.Key.{IsKey}
 use Rattle.clover_rule.specs.Steps.{Step, StoreTombstone, FlushTombstone, StoreKey, FlushKey, BindRoot, FlushBoundRoot, StoreCount}
 use Rattle.clover_rule.specs.declared.view.NewBinding.{NewBinding}
 use Rattle.clover_dir.specs.Directory.{Bindings}

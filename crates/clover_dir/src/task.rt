@@ -2,7 +2,7 @@
 ghost use Rattle.std.specs.Prelude.{◌≡◌, ◌≢◌, ◌+◌, ◌*◌, ◌/◌, ◌<◌, ℕ, ◌∷◌, length, false, MatchResult};
 ghost use Rattle.clover_words.specs.Pack.{packed};
 ghost use Rattle.clover_words.specs.Tag.{tag_number};
-ghost use Rattle.clover_rule.specs.Content.{IsKey};
+ghost use Rattle.clover_map.specs.Key.{IsKey};
 ghost use Rattle.clover_port.specs.Asked.{IsOp};
 ghost use Rattle.clover_dir.specs.Directory.{Bindings};
 ghost use Rattle.clover_dir.specs.Going.{BindWent, OnMade, OnRefused, Answers};

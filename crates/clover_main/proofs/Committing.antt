@@ -1,5 +1,6 @@
 -- in a legal history each value that was found was committed before
-use Rattle.std.proofs.Common.{◌≡◌, ℕ, Bool, true, false, cond, List, [], ◌∷◌, ◌++◌, Option, Some, None, refl, ap, subst, sym, ◌∙◌, append-nil, append_assoc}
+use Rattle.std.proofs.Common.{◌≡◌, ℕ, Bool, true, false, List, [], ◌∷◌, ◌++◌, Option, Some, None, refl, ap, subst, sym, ◌∙◌, append-nil, append_assoc}
+use Rattle.std.specs.Prelude.{if◌then◌else◌}
 use Rattle.std.specs.Cmp.Lexicographic.{slice_cmp, nat_list_cmp_total}
 use Rattle.std.specs.FinMap.{get, insert, remove, empty, get-empty, get-insert, get-remove}
 use Rattle.std.specs.Ordering.{nat_cmp, eq_by_cmp}
@@ -31,7 +32,7 @@ unfolding AllKept
 kept_still h e m n all same k x is = still h e k x.tag x.value (all k x (ap (λ (w : Tagged). get w k) (sym same) ∙ is))
 
 stored : (h : List Entry) (e : Entry) (m : Tagged) (k q : List ℕ) (t : ℕ) (v : Value) (x : Held) (b : Bool) → AllKept h m → e.reply ≡ Stored t → Stores k v e.call
-    → eq_by_cmp (slice_cmp nat_cmp) q k ≡ b → cond b (Some (held t v)) (get m q) ≡ Some x → IsCommitted (h ++ e ∷ []) q x.tag x.value
+    → eq_by_cmp (slice_cmp nat_cmp) q k ≡ b → (if b then Some (held t v) else get m q) ≡ Some x → IsCommitted (h ++ e ∷ []) q x.tag x.value
 unfolding AllKept
 stored h e m k q t v x true all reply stores is at =
     let here : IsCommitted (h ++ e ∷ []) k t v = (e, within_last e h, reply, stores) in
@@ -45,7 +46,7 @@ unfolding AllKept
 kept_insert h e m n k t v all reply stores is q x at =
     stored h e m k q t v x (eq_by_cmp (slice_cmp nat_cmp) q k) all reply stores refl (sym (get-insert nat_list_cmp_total m k (held t v) q) ∙ ap (λ (w : Tagged). get w q) (sym is) ∙ at)
 
-removed : (b : Bool) (o : Option Held) (x : Held) → cond b None o ≡ Some x → o ≡ Some x
+removed : (b : Bool) (o : Option Held) (x : Held) → (if b then None else o) ≡ Some x → o ≡ Some x
 removed true o x e = cc
 removed false o x e = e
 

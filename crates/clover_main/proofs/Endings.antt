@@ -11,8 +11,9 @@ use Rattle.clover_sched.specs.Machine.{Parts, IsAt, IsOpening}
 use Rattle.clover_sched.specs.Record.{Record}
 use Rattle.clover_sched.specs.Run.{Opening}
 use Rattle.clover_sched.specs.Text.{said, text, ending}
-use Rattle.clover_main.specs.Beginnings.{Opens}
-use Rattle.clover_main.specs.Causes.{Rose, Writes}
+use Rattle.clover_main.specs.Beginnings.{CoversFront}
+use Rattle.clover_port.specs.Told.{Rose}
+use Rattle.clover_main.specs.Causes.{Writes}
 use Rattle.clover_main.specs.Hearing.{Serves, IsReady}
 use Rattle.clover_main.specs.Reading.{Reads}
 use Rattle.clover_main.specs.Refusing.{line_of}
@@ -39,13 +40,13 @@ module _ (o : Opening) (lines : List Line) (t : Bool) where
   begun_all : (m : Parts) (a b : Option (List ℕ)) (w : List ℕ) → (x : Ran o t [] m a b [] w (Covers lines [])) → IsBeginning o lines t (flat_map (said t) x.more)
   begun_all m a b w x = record {
     records = x.more;
-    opens = record { done = lines; rest = []; before = x.more; part = []; split = sym (append-nil lines); all = sym (append-nil x.more); covers = x.kind; begun = refl };
+    covers = record { done = lines; rest = []; before = x.more; part = []; split = sym (append-nil lines); all = sym (append-nil x.more); covers = x.kind; begun = refl };
     lawful = lawful_at o m x.more x.at;
     printed = refl;
   }
 
-  begun_some : (stop : Stop) (a c : Option (List ℕ)) → (f : Fails o t [] stop a c [] (Opens lines)) → IsBeginning o lines t (flat_map (said t) f.more)
-  begun_some stop a c f = record { records = f.more; opens = f.kind; lawful = f.lawful; printed = refl }
+  begun_some : (stop : Stop) (a c : Option (List ℕ)) → (f : Fails o t [] stop a c [] (CoversFront lines)) → IsBeginning o lines t (flat_map (said t) f.more)
+  begun_some stop a c f = record { records = f.more; covers = f.kind; lawful = f.lawful; printed = refl }
 
 -- the text is a script of these lines, which begins there
 abbrev pub Begins : List ℕ → Opening → List Line → Type 1
@@ -109,7 +110,7 @@ module _ (bytes : List ℕ) (o : Opening) (lines : List Line) (t : Bool) (begins
         subst (Appends a c) (append-nil all) (whole_put a b c [] w all [] x.says (subst (Appends b c) (sym (append-nil w)) (close o x.more x.at))),
       )
 
-  pub stops_running : (stop : Stop) (a c : Option (List ℕ)) → Fails o t [] stop a c [] (Opens lines) → HasStopped stop t bytes a c
+  pub stops_running : (stop : Stop) (a c : Option (List ℕ)) → Fails o t [] stop a c [] (CoversFront lines) → HasStopped stop t bytes a c
   stops_running Write a c f = (
     flat_map (said t) f.more,
     begins (λ (p : Opening) (ls : List Line). IsOutput p ls t (flat_map (said t) f.more)) (inr (begun_some o lines t Write a c f)),

@@ -7,7 +7,7 @@ use Rattle.clover_script.specs.Line.{Spoken}
 use Rattle.clover_script.specs.Lines.{IsLinesOf, IsRefusedLine}
 use Rattle.clover_main.specs.declared.refusal.Refusal.{Refusal}
 use Rattle.clover_main.specs.declared.refusal.Refusal.TheVariants.{BadLine, TooMuchInput, ReadFault, OutOfMemory, BadWords}
-use Rattle.clover_main.specs.Causes.{Rose}
+use Rattle.clover_port.specs.Told.{Rose}
 use Rattle.clover_main.specs.Reading.{Reads, input_limit}
 use Rattle.clover_main.specs.Refusing.{status_of, HasShown}
 use Rattle.clover_main.specs.Replay.{Replays, Refuses, IsExact}

@@ -1,5 +1,5 @@
 -- what holds of every run: its accesses replay, and each client's entries are numbered; and of the records behind which a machine stands
-use Rattle.std.proofs.Common.{suc, ◌≡◌, ◌+◌, ℕ, Bool, true, false, cond, List, [], ◌∷◌, ◌++◌, length, Option, Some, None, refl, ap, subst, sym, ◌∙◌, arith, append-nil, append_assoc}
+use Rattle.std.proofs.Common.{suc, ◌≡◌, ◌+◌, ℕ, Bool, true, false, List, [], ◌∷◌, ◌++◌, length, Option, Some, None, refl, ap, subst, sym, ◌∙◌, arith, append-nil, append_assoc}
 use Rattle.std.specs.Prelude.{IfSome, if◌then◌else◌}
 use Rattle.clover_words.specs.declared.pool.Pool.{Pool}
 use Rattle.clover_map.specs.History.{own, IsNumberedByClient}
@@ -35,7 +35,7 @@ fits_entry o before r (Step a) step x is =
     here.number ∙ ap (λ c. suc (length (own (entries_in before) c))) (sym here.client)
 fits_entry o before r (Refuse a) still x is = let no : None ≡ Some x = sym still.1 ∙ is in cc
 
-one_act : (b : Bool) (p : Pool) (ws : List ℕ) (act : Act) (xs : List Access) → (b ≡ false → CameBack p ws act) → ActsReplay p (if b then ws else words_after_act p ws act) (done xs) → ActsReplay p ws (cond b (done xs) (act ∷ done xs))
+one_act : (b : Bool) (p : Pool) (ws : List ℕ) (act : Act) (xs : List Access) → (b ≡ false → CameBack p ws act) → ActsReplay p (if b then ws else words_after_act p ws act) (done xs) → ActsReplay p ws (if b then done xs else act ∷ done xs)
 one_act true p ws act xs came rest = rest
 one_act false p ws act xs came rest = (came refl, rest)
 

@@ -9,7 +9,7 @@ use Rattle.clover_map.specs.declared.call.Call.{Call}
 use Rattle.clover_map.specs.declared.call.Call.TheVariants.{Get, Put, Delete, Swap}
 use Rattle.clover_script.specs.Line.{lines_of, pool_line, numbers_of, IsClientCall, cut_call, task_of, client, Spoken, says_begin, says_step, says_finish, says_call, says_refuse, IsSpoken, kept_line, IsNoLine, IsIgnored}
 use Rattle.clover_script.specs.Lines.{calls_in, takes, taken_by, taken, Say, IsLinesOf}
-use Rattle.clover_script.specs.Naming.{Names}
+use Rattle.clover_script.specs.Naming.{NamesKeys}
 use Rattle.clover_script.specs.declared.line.Line.{Line}
 use Rattle.clover_script.specs.declared.line.PoolLine.{PoolLine}
 use Rattle.clover_script.proofs.SpokenLemmas.{no_pool, not_ignored}
@@ -45,17 +45,17 @@ all_spoken (t ∷ ts) said (inl (over, more)) = all_spoken ts said more
 all_spoken (t ∷ ts) said (inr (s, rest, is, e, f, more)) = subst (Each IsSpoken) (sym f) (is, all_spoken ts rest more)
 
 -- keys that were named stay so
-named_stays : (before : List (List ℕ)) (calls : List Call) (after : List (List ℕ)) (k : List ℕ) → Names before calls after → Contains before k → Contains after k
+named_stays : (before : List (List ℕ)) (calls : List Call) (after : List (List ℕ)) (k : List ℕ) → NamesKeys before calls after → Contains before k → Contains after k
 named_stays before [] after k h has = subst (λ (ks : List (List ℕ)). Contains ks k) (sym h) has
 named_stays before (c ∷ cs) after k (inl h) has = named_stays before cs after k h.1 has
 named_stays before (c ∷ cs) after k (inr h) has = named_stays (before ++ key_of c ∷ []) cs after k h.1 (Contains-append_left before (key_of c ∷ []) k has)
 
 -- the first call names its key
-first_named : (before : List (List ℕ)) (c : Call) (cs : List Call) (after : List (List ℕ)) → Names before (c ∷ cs) after → Contains after (key_of c)
+first_named : (before : List (List ℕ)) (c : Call) (cs : List Call) (after : List (List ℕ)) → NamesKeys before (c ∷ cs) after → Contains after (key_of c)
 first_named before c cs after (inl h) = named_stays before cs after (key_of c) h.1 h.0
 first_named before c cs after (inr h) = named_stays (before ++ key_of c ∷ []) cs after (key_of c) h.1 (Contains-push before (key_of c))
 
-then_named : (before : List (List ℕ)) (c : Call) (cs : List Call) (after : List (List ℕ)) → Names before (c ∷ cs) after → (now : List (List ℕ)) × Names now cs after
+then_named : (before : List (List ℕ)) (c : Call) (cs : List Call) (after : List (List ℕ)) → NamesKeys before (c ∷ cs) after → (now : List (List ℕ)) × NamesKeys now cs after
 then_named before c cs after (inl h) = (before, h.1)
 then_named before c cs after (inr h) = (before ++ key_of c ∷ [], h.1)
 
@@ -80,7 +80,7 @@ takes_cut (Swap k e v) = refl
 is_named : (keys : List (List ℕ)) (c : Call) → IsClientCall c → Contains keys (key_of c) → IsNamed keys (task_of c)
 is_named keys c is has = (is_task c is, subst (Contains keys) (sym (key_cut c)) has)
 
-each_slot : (said : List Spoken) (before keys : List (List ℕ)) → Each IsSpoken said → Names before (flat_map calls_in said) keys → Each (HasSlot keys) (map kept_line said)
+each_slot : (said : List Spoken) (before keys : List (List ℕ)) → Each IsSpoken said → NamesKeys before (flat_map calls_in said) keys → Each (HasSlot keys) (map kept_line said)
 each_slot [] before keys all h = tt
 each_slot (says_begin a (client c) ∷ ss) before keys all h =
     let next = then_named before c (flat_map calls_in ss) keys h in

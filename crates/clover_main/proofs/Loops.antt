@@ -12,7 +12,7 @@ use Rattle.clover_sched.specs.Run.{Opening}
 use Rattle.clover_sched.specs.Running.{steps_line, IsLeft, IsPartOrAll}
 use Rattle.clover_sched.specs.declared.runner.Work.{Work}
 use Rattle.clover_sched.proofs.Working.{left_then, part_then}
-use Rattle.clover_main.specs.Beginnings.{IsBegun, Opens}
+use Rattle.clover_main.specs.Beginnings.{IsBegun, CoversFront}
 use Rattle.clover_main.specs.Hearing.{Heard}
 use Rattle.clover_main.specs.Running.{Ran, Runs, Fails, Stops, Continues, IsSaidBy, IsPartOfSaid, Reaches}
 use Rattle.clover_main.specs.declared.output.Stop.{Stop}
@@ -98,9 +98,9 @@ module _ (o : Opening) (t : Bool) (lines : List Line) (text : List ℕ) (texts :
         }
   ]
 
-  pub lines_stop : (stop : Stop) → Fails o t x.ran.more stop b c v (IsPartOfSaid text x.ran.more) → Fails o t [] stop a c w (Opens lines)
-  lines_stop stop y = fails_then o t [] stop m a b c w v (Covers x.done []) (IsPartOfSaid text x.ran.more) (Opens lines) x.ran y
-      (elim y.kind as (λ _. Opens lines (x.ran.more ++ y.more)) [
+  pub lines_stop : (stop : Stop) → Fails o t x.ran.more stop b c v (IsPartOfSaid text x.ran.more) → Fails o t [] stop a c w (CoversFront lines)
+  lines_stop stop y = fails_then o t [] stop m a b c w v (Covers x.done []) (IsPartOfSaid text x.ran.more) (CoversFront lines) x.ran y
+      (elim y.kind as (λ _. CoversFront lines (x.ran.more ++ y.more)) [
         | inl none ↦ record {
           done = x.done;
           rest = x.todo;

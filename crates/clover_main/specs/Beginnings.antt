@@ -11,7 +11,7 @@ IsBegun [] before rs = rs ≡ []
 IsBegun (l ∷ ls) before rs = (rs ≡ []) ⊎ IsPartOrAll l before rs
 
 -- The lines stand for these records, and maybe for more behind them.
-pub record Opens (lines : List Line) (rs : List Record) : Type 0 where
+pub record CoversFront (lines : List Line) (rs : List Record) : Type 0 where
   pub done : List Line
   pub rest : List Line
   pub before : List Record

@@ -1,15 +1,20 @@
 -- counts of faults, and what a failed call did to the bytes that a sink took
-use Rattle.std.specs.Prelude.{◌≡◌, ℕ, ◌+◌, ◌-◌, ◌^◌, ◌≤◌, ◌⊎◌, min, List, ◌++◌, Option, Result, OnOk, OnErr}
+use Rattle.std.specs.Prelude.{◌≡◌, ℕ, ◌≤◌, ◌⊎◌, List, ◌++◌, Option, Result, OnOk, OnErr, IsErrOf}
 use Rattle.std.specs.Io.KnownBytes.{Appends}
-
--- the count rose, or stands at its last value
-abbrev pub Rose : ℕ → ℕ → Type 0
-Rose before now = min (before + 1) (2 ^ 64 - 1) ≤ now
+use Rattle.clover_port.specs.Told.{Rose}
+use Rattle.clover_main.specs.declared.output.Stop.{Stop}
+use Rattle.clover_main.specs.declared.output.Stop.TheVariants.{Write}
 
 -- a count never falls, rises where a call fails, and stays where none does
 pub record HasCause {T E : Type 0} (before now : ℕ) (result : Result T E) : Type 0 where
   pub later : before ≤ now
   pub failed : OnErr result (Rose before now)
+  pub kept : OnOk result (now ≡ before)
+
+-- a count never falls, rises where a run is cut short at a failed write, and stays where it goes on
+pub record HasStopCause {T : Type 0} (before now : ℕ) (result : Result T Stop) : Type 0 where
+  pub later : before ≤ now
+  pub failed : IsErrOf result Write → Rose before now
   pub kept : OnOk result (now ≡ before)
 
 -- the known bytes grew by a front of these

@@ -2,7 +2,8 @@
 use Rattle.std.specs.Prelude.{◌≡◌, ◌≤◌, ◌↔◌, ◌⊎◌, ℕ, Bool, List, Option, Some, String}
 use Rattle.std.specs.declared.alloc.Global.{Global}
 use Rattle.clover_main.specs.declared.refusal.Refusal.TheVariants.{BadWords}
-use Rattle.clover_main.specs.Causes.{Rose, Writes}
+use Rattle.clover_port.specs.Told.{Rose}
+use Rattle.clover_main.specs.Causes.{Writes}
 use Rattle.clover_main.specs.Reading.{TakesFew}
 use Rattle.clover_main.specs.Refusing.{line_of}
 use Rattle.clover_main.specs.Replay.{Replays, StopsShort, LacksMemory, Refuses, IsExact}

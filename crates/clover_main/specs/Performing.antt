@@ -17,7 +17,7 @@ use Rattle.clover_sched.specs.Lines.{Covers}
 use Rattle.clover_sched.specs.Record.{Record}
 use Rattle.clover_sched.specs.Run.{Opening, IsRun}
 use Rattle.clover_sched.specs.Text.{said, text}
-use Rattle.clover_main.specs.Beginnings.{Opens}
+use Rattle.clover_main.specs.Beginnings.{CoversFront}
 
 -- the call stores this value under this key
 abbrev pub Stores : List ℕ → Value → Call → Type 0
@@ -53,7 +53,7 @@ pub record IsPerformed (o : Opening) (lines : List Line) (t : Bool) (out : List 
 -- Out is what the beginning of a run of the lines prints.
 pub record IsBeginning (o : Opening) (lines : List Line) (t : Bool) (out : List ℕ) : Type 0 where
   pub records : List Record
-  pub opens : Opens lines records
+  pub covers : CoversFront lines records
   pub lawful : IsLawful o records
   pub printed : out ≡ flat_map (said t) records
 

@@ -3,7 +3,7 @@ use Rattle.std.specs.Prelude.{◌≡◌, ℕ, List, ◌++◌, decimal, codes, Op
 use Rattle.clover_script.specs.Lines.{IsRefusedLine}
 use Rattle.clover_main.specs.declared.refusal.Refusal.{Refusal}
 use Rattle.clover_main.specs.declared.refusal.Refusal.TheVariants.{BadLine, TooMuchInput, ReadFault, OutOfMemory, BadWords}
-use Rattle.clover_main.specs.Causes.{Rose}
+use Rattle.clover_port.specs.Told.{Rose}
 use Rattle.clover_main.specs.Reading.{Reads, TakesMore}
 
 abbrev pub status_of : Refusal → ℕ

@@ -1,12 +1,13 @@
 // What waits to be put into the sink. It is put in large pieces, and what one event prints stays together.
-ghost use Rattle.std.specs.Prelude.{◌≡◌, ◌≤◌, ◌++◌, ◌∷◌, ℕ, List, [], length, true, OnOk, OnErr, IfErr, IsErrOf, slice_get};
+ghost use Rattle.std.specs.Prelude.{◌≡◌, ◌≤◌, ◌++◌, ◌∷◌, List, [], length, true, OnOk, OnErr, IfErr, slice_get};
 ghost use Rattle.std.specs.Io.KnownBytes.{Appends};
 ghost use Rattle.clover_sched.specs.Folds.{accesses_in, entries_in, made_in};
 ghost use Rattle.clover_sched.specs.Machine.{IsAt};
 ghost use Rattle.clover_sched.specs.Record.{Record};
 ghost use Rattle.clover_sched.specs.Run.{Opening};
 ghost use Rattle.clover_sched.specs.Text.{said, traced, ending};
-ghost use Rattle.clover_main.specs.Causes.{AppendsFront, Rose};
+ghost use Rattle.clover_port.specs.Told.{Rose};
+ghost use Rattle.clover_main.specs.Causes.{AppendsFront, HasStopCause};
 ghost use Rattle.clover_main.specs.Running.{Says, Puts, PutsEnding};
 
 use crate::io::{Failed, Sink, put_both};
@@ -93,9 +94,7 @@ impl Output {
         ensures ok { OnOk result (Says (K.taken sink.old) (K.taken sink.new) self.old.waiting.items self.new.waiting.items []) }
         ensures err { OnErr result (AppendsFront (K.taken sink.old) (K.taken sink.new) self.old.waiting.items) }
         ensures why { IfErr result (λ stop. stop ≡ Stop.Write) }
-        ensures write { OnErr result (Rose (K.faults sink.old) (K.faults sink.new)) }
-        ensures quiet { OnOk result (K.faults sink.new ≡ K.faults sink.old) }
-        ensures later { K.faults sink.old ≤ K.faults sink.new }
+        ensures cause { HasStopCause (K.faults sink.old) (K.faults sink.new) result }
     {
         if self.waiting.len() < PIECE {
             return Ok(());
@@ -121,9 +120,7 @@ impl Output {
     pub fn close<K: Sink>(mut self, machine: &Machine, sink: &mut K) -> Result<(), Stop>
         ensures ok { OnOk result ((o : Opening) (rs : List Record) → IsAt o machine.now rs → Appends (K.taken sink.old) (K.taken sink.new) (self.waiting.items ++ ending (entries_in rs) (made_in rs))) }
         ensures err { IfErr result (λ stop. (o : Opening) (rs : List Record) → IsAt o machine.now rs → PutsEnding stop (K.taken sink.old) (K.taken sink.new) self.waiting.items (ending (entries_in rs) (made_in rs))) }
-        ensures write { IsErrOf result Stop.Write → Rose (K.faults sink.old) (K.faults sink.new) }
-        ensures quiet { OnOk result (K.faults sink.new ≡ K.faults sink.old) }
-        ensures later { K.faults sink.old ≤ K.faults sink.new }
+        ensures cause { HasStopCause (K.faults sink.old) (K.faults sink.new) result }
     {
         self.piece.clear();
         match push_ending(&mut self.piece, machine.history(), machine.made()) {

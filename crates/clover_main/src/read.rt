@@ -2,7 +2,7 @@
 ghost use Rattle.std.specs.Io.KnownBytes.{Consumes};
 ghost use Rattle.std.specs.Prelude.{◌≡◌, ◌+◌, ℕ, ◌≤◌, List, length, IfOk, IsErrOf};
 ghost use Rattle.clover_main.specs.declared.refusal.Refusal.TheVariants.{ReadFault, OutOfMemory, TooMuchInput, BadLine, BadWords};
-ghost use Rattle.clover_main.specs.Causes.{Rose};
+ghost use Rattle.clover_port.specs.Told.{Rose};
 ghost use Rattle.clover_main.specs.Reading.{Reads, Gets, TakesMore, TakesFew, input_limit};
 
 use crate::io::Source;

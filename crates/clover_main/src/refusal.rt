@@ -1,5 +1,5 @@
 // The refusals of a command: each has a status and a line, and is told without memory.
-ghost use Rattle.std.specs.Prelude.{◌≡◌, ◌++◌, OnOk, OnErr};
+ghost use Rattle.std.specs.Prelude.{◌≡◌, OnOk, OnErr};
 ghost use Rattle.std.specs.Io.KnownBytes.{Appends};
 ghost use Rattle.clover_main.specs.Causes.{AppendsFront, HasCause, Writes};
 ghost use Rattle.clover_main.specs.Refusing.{status_of, line_of};

@@ -1,9 +1,10 @@
 // The command that replays a script.
-ghost use Rattle.std.specs.Prelude.{◌≡◌, ◌≤◌, ℕ, List, Some, OnOk, IfOk, IfErr, IsErrOf};
+ghost use Rattle.std.specs.Prelude.{◌≡◌, ◌≤◌, ℕ, List, Some, OnOk, IfOk, IfErr};
 ghost use Rattle.std.specs.Io.KnownBytes.{Appends};
 ghost use Rattle.clover_script.specs.Line.{Spoken};
 ghost use Rattle.clover_script.specs.Lines.{IsLinesOf};
-ghost use Rattle.clover_main.specs.Causes.{Rose};
+ghost use Rattle.clover_port.specs.Told.{Rose};
+ghost use Rattle.clover_main.specs.Causes.{HasStopCause};
 ghost use Rattle.clover_main.specs.Reading.{Reads, TakesFew};
 ghost use Rattle.clover_main.specs.Refusing.{HasShown};
 ghost use Rattle.clover_main.specs.Replay.{IsReplay, Replays, StopsShort, LacksMemory, HasStopped, Refuses, IsExact};
@@ -98,9 +99,7 @@ fn run_script<K: Sink>(
     requires { (said : List Spoken) × IsLinesOf text.now outline.setup said outline.names }
     ensures ok { OnOk result ((out : List ℕ) × IsReplay trace text.now out × Appends (K.taken sink.old) (K.taken sink.new) out) }
     ensures err { IfErr result (λ stop. HasStopped stop trace text.now (K.taken sink.old) (K.taken sink.new)) }
-    ensures write { IsErrOf result Stop.Write → Rose (K.faults sink.old) (K.faults sink.new) }
-    ensures quiet { OnOk result (K.faults sink.new ≡ K.faults sink.old) }
-    ensures later { K.faults sink.old ≤ K.faults sink.new }
+    ensures cause { HasStopCause (K.faults sink.old) (K.faults sink.new) result }
 {
     let Outline { setup, names } = outline;
     let mut machine = Machine::make(alloc, setup, names, trace)?;

@@ -1,6 +1,6 @@
 // Running the lines of a script: each is read, run over the machine one event at a time, and what its events print
 // goes to the sink in pieces. Nothing is kept of a line.
-ghost use Rattle.std.specs.Prelude.{◌≡◌, ◌≤◌, ◌<◌, ◌++◌, ℕ, List, [], length, true, OnOk, IfOk, IfErr, IfSome, IsErrOf};
+ghost use Rattle.std.specs.Prelude.{◌≡◌, ◌≤◌, ◌<◌, ◌++◌, List, [], length, true, OnOk, IfOk, IfErr, IfSome};
 ghost use Rattle.clover_script.specs.Line.{lines_of, IsLineOf};
 ghost use Rattle.clover_script.specs.declared.line.Line.{Line as LineData};
 ghost use Rattle.clover_sched.specs.Folds.{accesses_in};
@@ -9,8 +9,8 @@ ghost use Rattle.clover_sched.specs.Machine.{IsAt};
 ghost use Rattle.clover_sched.specs.Record.{Record};
 ghost use Rattle.clover_sched.specs.Run.{Opening};
 ghost use Rattle.clover_sched.specs.Running.{Comes, IsLeft, IsPartOrAll, MayRun, actor_in, steps_line};
-ghost use Rattle.clover_main.specs.Beginnings.{Opens};
-ghost use Rattle.clover_main.specs.Causes.{Rose};
+ghost use Rattle.clover_main.specs.Beginnings.{CoversFront};
+ghost use Rattle.clover_main.specs.Causes.{HasStopCause};
 ghost use Rattle.clover_main.specs.Hearing.{Heard, IsReady};
 ghost use Rattle.clover_main.specs.Performing.{IsLawful};
 ghost use Rattle.clover_main.specs.Running.{Ran, Runs, Fails, Stops, left_of, most_steps, IsSaidBy, IsPartOfSaid};
@@ -38,9 +38,7 @@ fn tell<K: Sink>(
     ensures left { IfOk result (λ left. left ≡ left_of came) }
     ensures err { IfErr result (λ stop. (o : Opening) (rs more : List Record) (line : LineData) → IsLawful o rs → IsAt o machine.now (rs ++ more) → Comes line came rs more → (trace ≡ true → listed ≡ length (accesses_in rs))
         → Fails o trace rs stop (K.taken sink.old) (K.taken sink.new) out.old.waiting.items (IsPartOrAll line rs)) }
-    ensures write { IsErrOf result Stop.Write → Rose (K.faults sink.old) (K.faults sink.new) }
-    ensures quiet { OnOk result (K.faults sink.new ≡ K.faults sink.old) }
-    ensures later { K.faults sink.old ≤ K.faults sink.new }
+    ensures cause { HasStopCause (K.faults sink.old) (K.faults sink.new) result }
 {
     let Some(Advance { note, left }) = came else {
         return Ok(None);
@@ -66,9 +64,7 @@ fn begin<K: Sink>(
     ensures ok { IfOk result (λ left. Runs trace machine.old machine.new (K.taken sink.old) (K.taken sink.new) out.old.waiting.items out.new.waiting.items (IsLeft line left)) }
     ensures actor { IfOk result (λ left. IfSome left (λ work. 1 ≤ actor_in work)) }
     ensures err { IfErr result (λ stop. Stops trace machine.old stop (K.taken sink.old) (K.taken sink.new) out.old.waiting.items (IsPartOrAll line)) }
-    ensures write { IsErrOf result Stop.Write → Rose (K.faults sink.old) (K.faults sink.new) }
-    ensures quiet { OnOk result (K.faults sink.new ≡ K.faults sink.old) }
-    ensures later { K.faults sink.old ≤ K.faults sink.new }
+    ensures cause { HasStopCause (K.faults sink.old) (K.faults sink.new) result }
 {
     let listed = machine.accesses().len();
     match begin_line(machine, line) {
@@ -92,9 +88,7 @@ fn go_on<K: Sink>(
     ensures actor { IfOk result (λ left. IfSome left (λ work. 1 ≤ actor_in work)) }
     ensures less { IfOk result (λ left. most_steps machine.new left < most_steps machine.old (Some work)) }
     ensures err { IfErr result (λ stop. Stops trace machine.old stop (K.taken sink.old) (K.taken sink.new) out.old.waiting.items (IsPartOrAll (steps_line work))) }
-    ensures write { IsErrOf result Stop.Write → Rose (K.faults sink.old) (K.faults sink.new) }
-    ensures quiet { OnOk result (K.faults sink.new ≡ K.faults sink.old) }
-    ensures later { K.faults sink.old ≤ K.faults sink.new }
+    ensures cause { HasStopCause (K.faults sink.old) (K.faults sink.new) result }
 {
     let listed = machine.accesses().len();
     match work_on(machine, work) {
@@ -115,9 +109,7 @@ fn run_line<K: Sink>(
     requires traced { machine.old.pool.traced ≡ trace }
     ensures ok { OnOk result (Runs trace machine.old machine.new (K.taken sink.old) (K.taken sink.new) out.old.waiting.items out.new.waiting.items (Stands line)) }
     ensures err { IfErr result (λ stop. Stops trace machine.old stop (K.taken sink.old) (K.taken sink.new) out.old.waiting.items (IsPartOrAll line)) }
-    ensures write { IsErrOf result Stop.Write → Rose (K.faults sink.old) (K.faults sink.new) }
-    ensures quiet { OnOk result (K.faults sink.new ≡ K.faults sink.old) }
-    ensures later { K.faults sink.old ≤ K.faults sink.new }
+    ensures cause { HasStopCause (K.faults sink.old) (K.faults sink.new) result }
 {
     let mut left = begin(machine, line, out, sink, trace)?;
     while let Some(work) = left {
@@ -127,7 +119,7 @@ fn run_line<K: Sink>(
 }
 
 /// The events of the line that a text says; none where it says none.
-fn run_said<K: Sink>(
+fn run_text<K: Sink>(
     alloc: Global,
     machine: &mut Machine,
     text: &[u8],
@@ -139,9 +131,7 @@ fn run_said<K: Sink>(
     requires traced { machine.old.pool.traced ≡ trace }
     ensures ok { OnOk result (Runs trace machine.old machine.new (K.taken sink.old) (K.taken sink.new) out.old.waiting.items out.new.waiting.items (IsSaidBy text.now)) }
     ensures err { IfErr result (λ stop. Stops trace machine.old stop (K.taken sink.old) (K.taken sink.new) out.old.waiting.items (IsPartOfSaid text.now)) }
-    ensures write { IsErrOf result Stop.Write → Rose (K.faults sink.old) (K.faults sink.new) }
-    ensures quiet { OnOk result (K.faults sink.new ≡ K.faults sink.old) }
-    ensures later { K.faults sink.old ≤ K.faults sink.new }
+    ensures cause { HasStopCause (K.faults sink.old) (K.faults sink.new) result }
 {
     match line_of(alloc, text) {
         Ok(Some(line)) => run_line(machine, line, out, sink, trace),
@@ -162,15 +152,13 @@ pub fn run_lines<K: Sink>(
     requires ready { (lines : List LineData) × Heard (lines_of text.now) lines × IsReady machine.old lines }
     requires traced { machine.old.pool.traced ≡ trace }
     ensures ok { OnOk result ((o : Opening) (lines : List LineData) → IsAt o machine.old [] → Heard (lines_of text.now) lines → Ran o trace [] machine.new (K.taken sink.old) (K.taken sink.new) out.old.waiting.items out.new.waiting.items (Covers lines [])) }
-    ensures err { IfErr result (λ stop. (o : Opening) (lines : List LineData) → IsAt o machine.old [] → Heard (lines_of text.now) lines → Fails o trace [] stop (K.taken sink.old) (K.taken sink.new) out.old.waiting.items (Opens lines)) }
-    ensures write { IsErrOf result Stop.Write → Rose (K.faults sink.old) (K.faults sink.new) }
-    ensures quiet { OnOk result (K.faults sink.new ≡ K.faults sink.old) }
-    ensures later { K.faults sink.old ≤ K.faults sink.new }
+    ensures err { IfErr result (λ stop. (o : Opening) (lines : List LineData) → IsAt o machine.old [] → Heard (lines_of text.now) lines → Fails o trace [] stop (K.taken sink.old) (K.taken sink.new) out.old.waiting.items (CoversFront lines)) }
+    ensures cause { HasStopCause (K.faults sink.old) (K.faults sink.new) result }
 {
     let mut rest = text;
     while !rest.is_empty() {
         let (line, after) = first_line(rest);
-        run_said(alloc, machine, line, out, sink, trace)?;
+        run_text(alloc, machine, line, out, sink, trace)?;
         rest = after;
     }
     Ok(())

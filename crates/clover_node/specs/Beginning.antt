@@ -1,80 +1,56 @@
--- A call as a node starts it, and what its client has to have for it.
-use Rattle.std.specs.Prelude.{◌≡◌, ℕ, ◌<◌, ◌^◌, [], ◌∷◌, List, length, Option, Some, None}
+-- A call as a node starts it, and where it does not.
+use Rattle.std.specs.Prelude.{◌≡◌, ◌≢◌, ℕ, ◌*◌, ◌<◌, ◌≤◌, List, [], slice_get, true}
 use Rattle.clover_words.specs.declared.bytes.ValueBuf.{ValueBuf}
-use Rattle.clover_words.specs.declared.pool.Pool.{Pool}
-use Rattle.clover_words.specs.Tag.{TagParts, tag_number}
-use Rattle.clover_map.specs.declared.bytes.Value.{Value}
-use Rattle.clover_map.specs.declared.call.Call.{Call}
-use Rattle.clover_map.specs.declared.call.Call.TheVariants.{Get as GetOf, Put as PutOf, Delete as DeleteOf, Swap as SwapOf}
 use Rattle.clover_map.specs.History.{key_of}
-use Rattle.clover_rule.specs.Content.{InRange}
+use Rattle.clover_map.specs.declared.call.Call.{Call}
+use Rattle.clover_map.specs.declared.call.Call.TheVariants.{Get, Put, Delete, Swap}
 use Rattle.clover_rule.specs.Lists.{Within}
 use Rattle.clover_rule.specs.declared.view.View.{View}
-use Rattle.clover_cache.specs.Node.{cursor_at, asked}
-use Rattle.clover_walk.specs.Standing.{number_of}
-use Rattle.clover_walk.specs.Walking.{Walking, made_walk, key_at}
-use Rattle.clover_get.specs.Getting.{getting, Seeking}
-use Rattle.clover_put.specs.Putting.{made_put}
-use Rattle.clover_put.specs.declared.job.Job.TheVariants.{Put, Delete, Swap}
-use Rattle.clover_node.specs.declared.under.Underway.{Underway}
-use Rattle.clover_node.specs.declared.under.Underway.TheVariants.{Get, Write}
-use Rattle.clover_node.specs.Calling.{begun_call}
-use Rattle.clover_node.specs.Mirroring.{Mirrors}
-use Rattle.clover_node.specs.Node.{NodeState, NodeHolds, call_under}
+use Rattle.clover_dir.specs.Names.{IsNew}
+use Rattle.clover_call.specs.Beginning.{Starts, given_number, size_of}
+use Rattle.clover_node.specs.Node.{NodeState, NodeHolds, IsIdle, node_first}
+use Rattle.clover_node.specs.declared.answer.NodeRefusal.{NodeRefusal}
+use Rattle.clover_node.specs.declared.answer.NodeRefusal.TheVariants.{TooLong, NeedsStock}
+use Rattle.clover_node.specs.declared.counting.Counting.{Counting}
+use Rattle.clover_node.specs.declared.counting.Counting.TheVariants.{Names, Absence}
 
--- how many bytes the value of a call has
-abbrev pub size_of : Call → ℕ
-size_of (GetOf k) = 0
-size_of (PutOf k v) = length v.bytes
-size_of (DeleteOf k) = 0
-size_of (SwapOf k t v) = length v.bytes
+-- how many bytes a value may have
+abbrev pub room_of : NodeState → ℕ
+room_of n = 8 * n.caller.pool.words
 
--- the number of an expected tag is one
-abbrev pub ExpectsTag : Call → Type 0
-ExpectsTag (SwapOf k t v) = t < 2 ^ 42
-ExpectsTag call = Unit {0}
+-- the key has a slot in the node's copy
+abbrev pub IsNamed : NodeState → List ℕ → Type 0
+IsNamed n key = (slot : ℕ) × Within (slot, key) n.names
 
--- this tag of the pool was given
-abbrev pub IsGiven : Pool → Option TagParts → Type 0
-IsGiven p None = ⊥
-IsGiven p (Some t) = InRange p (tag_number t)
+-- the call may commit a version of the node's before any names are handed to it: it is a put, or writes on a known key
+abbrev pub NeedsBuffer : NodeState → Call → Type 0
+NeedsBuffer n (Get key) = ⊥
+NeedsBuffer n (Put key value) = Unit {0}
+NeedsBuffer n (Delete key) = IsNamed n key
+NeedsBuffer n (Swap key expected value) = IsNamed n key
 
--- for a call that writes a tag was given; a get takes none
-abbrev pub HasTag : Pool → Option TagParts → Call → Type 0
-HasTag p own (GetOf k) = Unit {0}
-HasTag p own call = IsGiven p own
+-- why a call does not start: its value has more bytes than there is room for; else it needs a buffer, and the stock is empty
+abbrev pub Refuses : NodeState → Call → NodeRefusal → Type 0
+Refuses n call (TooLong length room) = (length ≡ size_of call) × (room ≡ room_of n) × (room_of n < size_of call)
+Refuses n call NeedsStock = (size_of call ≤ room_of n) × (n.stock ≡ []) × NeedsBuffer n call
+Refuses n call y = ⊥
 
--- the number of the tag that was given; 0 where none was
-abbrev pub given_number : Option TagParts → ℕ
-given_number None = 0
-given_number (Some t) = tag_number t
+-- the tag for a call's version: the first of the stock; a get takes none
+abbrev pub own_tag : NodeState → Call → ℕ
+own_tag n (Get key) = 0
+own_tag n call = given_number (slice_get n.stock 0)
 
--- no flags and no bytes, for a delete
-abbrev pub no_value : Value
-no_value = record { flags = 0; bytes = [] }
+-- what a call whose key is not known loads the count for
+abbrev pub counts_for : Call → Counting
+counts_for (Put key value) = Names
+counts_for call = Absence
 
--- The call is under way from the walk's start, with this tag for its version.
-abbrev pub IsBegun : Walking → ℕ → Call → Underway → Type 0
-IsBegun w own (GetOf key) u = u ≡ Get (getting w Seeking)
-IsBegun w own (PutOf key value) u = u ≡ Write (made_put w Put own value)
-IsBegun w own (DeleteOf key) u = u ≡ Write (made_put w Delete own no_value)
-IsBegun w own (SwapOf key expected value) u = (t : TagParts) × (tag_number t ≡ expected) × (u ≡ Write (made_put w (Swap t) own value))
-
--- the tag is the next one of the client's stock; a get takes none
-abbrev pub IsNext : View → ℕ → Call → Type 0
-IsNext v own (GetOf k) = Unit {0}
-IsNext v own call = (rest : List ℕ) × (v.pass.stock ≡ own ∷ rest)
-
--- what the client has that may ask for a call on the slot: it knows the slot to be bound to the call's key, and the tag is the next one of its stock
-pub record MayStart (slot own : ℕ) (call : Call) (v : View) : Type 0 where
-  pub named : Within (slot, key_of call) v.pass.names
-  pub key : key_at v.pass.names slot ≡ key_of call
-  pub next : IsNext v own call
-
--- The node n has started the call on the slot, from the cursor that it had for that: it is where the call of the definition begins, and the client whose view held before holds what it needs.
-pub record Starts (n : NodeState) (slot own : ℕ) (call : Call) (n1 : NodeState) : Type 0 where
-  pub pool : n1.pool ≡ n.pool
-  pub cursors : n1.cursors ≡ asked slot n.cursors
-  pub begun : IsBegun (made_walk n.pool slot (number_of (cursor_at slot n.cursors))) own call n1.under
-  pub mirrors : (room : ValueBuf) → Mirrors n1.under room call own (begun_call n.pool slot (number_of (cursor_at slot n.cursors)) own call)
-  pub holds : (v : View) (room : ValueBuf) → NodeHolds n v room → MayStart slot own call v → NodeHolds n1 v room × (call_under n1.under v ≡ call)
+-- The node n has started the call: no cause of a refusal is there; on the slot of its key, with the first tag of the stock, or where the key is not in the copy by the load of the count. What its client held before still holds, of this call now.
+pub record NodeStarts (n : NodeState) (call : Call) (n1 : NodeState) : Type 0 where
+  pub fits : size_of call ≤ room_of n
+  pub stocked : NeedsBuffer n call → n.stock ≢ []
+  pub named : (slot : ℕ) → Within (slot, key_of call) n.names → (n1 ≡ record n { caller = n1.caller }) × Starts n.caller slot (own_tag n call) call n1.caller
+  pub unnamed : IsNew (key_of call) n.names → n1 ≡ record n { counting = counts_for call }
+  pub busy : IsIdle n1 → ⊥
+  pub first : node_first n1 ≡ true
+  pub holds : (other : Call) (v : View) (room : ValueBuf) → NodeHolds n other v room → NodeHolds n1 call v room

@@ -1,6 +1,8 @@
-pub mod Calling
-pub mod Mirroring
 pub mod Node
 pub mod Turning
-pub mod Going
+pub mod Asking
 pub mod Beginning
+pub mod Mirroring
+pub mod Going
+pub mod Accepting
+pub mod Trying

@@ -1,92 +1,105 @@
--- A compute node: the call that it has under way, the cursors that it keeps, and what its client knows while that is so.
-use Rattle.std.specs.Prelude.{◌≡◌, ℕ, [], Bool, false, All, None, IfSome}
+-- A compute node: what it has of the server and under way, and what its client knows while that is so.
+use Rattle.std.specs.Prelude.{◌≡◌, ℕ, ◌<◌, List, [], map, Bool, true}
 use Rattle.clover_words.specs.declared.bytes.ValueBuf.{ValueBuf}
 use Rattle.clover_words.specs.declared.pool.Pool.{Pool}
 use Rattle.clover_words.specs.Tag.{TagParts, tag_number}
+use Rattle.clover_map.specs.History.{key_of}
 use Rattle.clover_map.specs.declared.call.Call.{Call}
-use Rattle.clover_map.specs.declared.call.Call.TheVariants.{Get as GetOf}
+use Rattle.clover_map.specs.declared.call.Call.TheVariants.{Put}
+use Rattle.clover_rule.specs.Asks.{MayMiss}
 use Rattle.clover_rule.specs.Content.{InRange}
-use Rattle.clover_rule.specs.Lists.{Within}
-use Rattle.clover_rule.specs.Steps.{Step, ReadRoot, IsClient}
+use Rattle.clover_rule.specs.Lists.{Each}
+use Rattle.clover_rule.specs.Steps.{Step, ReadCount, AbsentCount}
+use Rattle.clover_rule.specs.Views.{SlotsOnce}
+use Rattle.clover_rule.specs.declared.view.Role.TheVariants.{Client}
 use Rattle.clover_rule.specs.declared.view.View.{View}
-use Rattle.clover_cache.specs.Node.{Known}
-use Rattle.clover_get.specs.Getting.{get_step}
-use Rattle.clover_get.specs.Going.{key_of}
-use Rattle.clover_get.specs.Holding.{GetHolds}
-use Rattle.clover_put.specs.Answering.{IsBefore, IsBehind}
-use Rattle.clover_put.specs.Holding.{PutHolds}
-use Rattle.clover_put.specs.Putting.{put_step, call_at}
-use Rattle.clover_node.specs.declared.under.Underway.{Underway}
-use Rattle.clover_node.specs.declared.under.Underway.TheVariants.{Nothing, Get, Write}
+use Rattle.clover_dir.specs.Names.{IsNew}
+use Rattle.clover_call.specs.Caller.{CallerState, CallerHolds, call_under, first_caller, next_step, is_first}
+use Rattle.clover_call.specs.declared.under.Underway.{Underway}
+use Rattle.clover_call.specs.declared.under.Underway.TheVariants.{Nothing, Get, Write}
+use Rattle.clover_node.specs.declared.counting.Counting.{Counting}
+use Rattle.clover_node.specs.declared.counting.Counting.TheVariants.{No, Names, Absence}
 
--- what contracts see of a node
+-- what contracts see of a node: its client's number, the call on a slot, what the count is to be loaded for, the tags in the order in which they came, and the copy of the bindings
 pub record NodeState : Type 0 where
-  pub pool : Pool
-  pub cursors : Known
-  pub under : Underway
+  pub client : ℕ
+  pub caller : CallerState
+  pub counting : Counting
+  pub stock : List TagParts
+  pub names : List (ℕ × List ℕ)
 
--- a node that has answered no call yet
-abbrev pub first_node : Pool → NodeState
-first_node p = record { pool = p; cursors = record { last = None; list = [] }; under = Nothing }
+-- a node that has nothing yet
+abbrev pub first_node : Pool → ℕ → NodeState
+first_node p client = record { client = client; caller = first_caller p; counting = No; stock = []; names = [] }
 
--- the slot of the call under way
-abbrev pub slot_of : Underway → ℕ
-slot_of Nothing = 0
-slot_of (Get g) = g.walk.slot
-slot_of (Write c) = c.walk.slot
+-- no call is under way
+pub record IsIdle (n : NodeState) : Type 0 where
+  pub counts : n.counting ≡ No
+  pub calls : n.caller.under ≡ Nothing
 
--- the tag that it is to commit; a get has none
-abbrev pub new_tag : Underway → ℕ
-new_tag Nothing = 0
-new_tag (Get g) = 0
-new_tag (Write c) = c.own
+-- the call is a put
+abbrev pub IsPut : Call → Type 0
+IsPut (Put key value) = Unit {0}
+IsPut call = ⊥
 
--- the call itself, on the key that its client knows the slot to have; where nothing is under way no clause asks for it
-abbrev pub call_under : Underway → View → Call
-call_under Nothing v = GetOf []
-call_under (Get g) v = GetOf (key_of g v)
-call_under (Write c) v = call_at c v
+-- the count is loaded for such a call
+abbrev pub Counts : Counting → Call → Type 0
+Counts No call = ⊥
+Counts Names call = IsPut call
+Counts Absence call = MayMiss call
 
--- the step that its next access is
-abbrev pub next_step : Underway → View → ValueBuf → Step
-next_step Nothing v room = ReadRoot 0
-next_step (Get g) v room = get_step g (key_of g v) room
-next_step (Write c) v room = put_step c v
+-- what is under way on a slot is this call
+abbrev pub IsUnder : Underway → View → Call → Type 0
+IsUnder Nothing v call = Unit {0}
+IsUnder (Get g) v call = call_under (Get g) v ≡ call
+IsUnder (Write c) v call = call_under (Write c) v ≡ call
+
+-- the call whose key has no slot in the copy is this one, and nothing is under way on a slot
+pub record IsCounting (n : NodeState) (call : Call) : Type 0 where
+  pub counts : Counts n.counting call
+  pub unnamed : IsNew (key_of call) n.names
+  pub idle : n.caller.under ≡ Nothing
+
+-- the call that is under way, if any, is this one
+abbrev pub IsAsked : Counting → NodeState → View → Call → Type 0
+IsAsked No n v call = IsUnder n.caller.under v call
+IsAsked Names n v call = IsCounting n call
+IsAsked Absence n v call = IsCounting n call
+
+-- the view is of the node's client, and has its names
+pub record HasNames (n : NodeState) (v : View) : Type 0 where
+  pub role : v.pass.role ≡ Client n.client
+  pub names : v.pass.names ≡ n.names
+
+-- The view is that of the node's client: it has the node's stock and names, tags and slots of the pool and no slot twice, and knows what the caller stands on; and the call that is under way is this one. Where none is under way the call says nothing.
+pub record NodeHolds (n : NodeState) (call : Call) (v : View) (room : ValueBuf) : Type 0 where
+  pub role : v.pass.role ≡ Client n.client
+  pub stock : v.pass.stock ≡ map tag_number n.stock
+  pub names : v.pass.names ≡ n.names
+  pub tags : Each (λ (t : TagParts). InRange n.caller.pool (tag_number t)) n.stock
+  pub slots : Each (λ (q : ℕ × List ℕ). q.0 < n.caller.pool.slots) n.names
+  pub once : SlotsOnce n.names
+  pub caller : CallerHolds n.caller v room
+  pub asked : IsAsked n.counting n v call
+
+-- the load of the count for such a call
+abbrev pub count_of : Counting → Call → Step
+count_of No call = ReadCount
+count_of Names call = ReadCount
+count_of Absence call = AbsentCount call
+
+-- the step that the next access is
+abbrev pub step_of : Counting → NodeState → Call → View → ValueBuf → Step
+step_of No n call v room = next_step n.caller.under v room
+step_of c n call v room = count_of c call
+
+abbrev pub node_step : NodeState → Call → View → ValueBuf → Step
+node_step n call v room = step_of n.counting n call v room
 
 -- whether that is the first access of the call
-abbrev pub is_first : Underway → Bool
-is_first Nothing = false
-is_first (Get g) = g.walk.first
-is_first (Write c) = c.walk.first
+abbrev pub first_of : Counting → NodeState → Bool
+first_of No n = is_first n.caller.under
+first_of c n = true
 
--- the call has committed its new tag
-abbrev pub HasCommitted : Underway → Type 0
-HasCommitted (Write c) = IsBehind c.stage
-HasCommitted u = ⊥
-
--- a call is under way that has committed nothing
-abbrev pub IsUncommitted : Underway → Type 0
-IsUncommitted Nothing = ⊥
-IsUncommitted (Get g) = Unit {0}
-IsUncommitted (Write c) = IsBefore c.stage
-
--- a cursor of a slot is a tag of the pool that the client knows to be durable there
-abbrev pub IsCursor : Pool → View → ℕ × TagParts → Type 0
-IsCursor p v q = InRange p (tag_number q.1) × Within (q.0, tag_number q.1) v.pass.durable
-
-pub record AreCursors (p : Pool) (v : View) (k : Known) : Type 0 where
-  pub last : IfSome k.last (IsCursor p v)
-  pub list : All (IsCursor p v) k.list
-
--- what the client knows where its call is, and what the room has of the value that a get reads
-abbrev pub CallHolds : Pool → Underway → View → ValueBuf → Type 0
-CallHolds p Nothing v room = Unit {0}
-CallHolds p (Get g) v room = (g.walk.pool ≡ p) × GetHolds g v room
-CallHolds p (Write c) v room = (c.walk.pool ≡ p) × PutHolds c v
-
--- The view is that of the node's client, in the node's pool: the client knows each cursor to be durable in its slot, and what the call under way needs.
-pub record NodeHolds (n : NodeState) (v : View) (room : ValueBuf) : Type 0 where
-  pub pool : v.pass.pool ≡ n.pool
-  pub client : IsClient v
-  pub cursors : AreCursors n.pool v n.cursors
-  pub call : CallHolds n.pool n.under v room
+abbrev pub node_first : NodeState → Bool
+node_first n = first_of n.counting n

@@ -1,44 +1,35 @@
 -- What the turn of a node's step says.
-use Rattle.std.specs.Prelude.{◌≡◌, ℕ, [], Bool, false, true, IsSome}
-use Rattle.clover_words.specs.declared.bytes.ValueBuf.{ValueBuf}
-use Rattle.clover_words.specs.Tag.{TagParts, tag_number}
-use Rattle.clover_map.specs.declared.call.Call.{Call}
-use Rattle.clover_map.specs.declared.call.Reply.{Reply}
-use Rattle.clover_map.specs.declared.call.Reply.TheVariants.{Stored as StoredReply, Found as FoundReply, Absent as AbsentReply, Deleted as DeletedReply, Differs as DiffersReply}
-use Rattle.clover_walk.specs.Walking.{Ended}
-use Rattle.clover_get.specs.Getting.{value_in}
-use Rattle.clover_put.specs.declared.job.Job.{Job}
-use Rattle.clover_put.specs.declared.job.Job.TheVariants.{Put, Delete, Swap}
-use Rattle.clover_node.specs.declared.answer.Answer.{Answer}
-use Rattle.clover_node.specs.declared.answer.Answer.TheVariants.{Stored, Found, Absent, Deleted, Differs}
-use Rattle.clover_node.specs.declared.answer.NodeRefusal.TheVariants.{Unreached, Behind, Linked}
+use Rattle.std.specs.Prelude.{ℕ, eqb, if◌then◌else◌}
+use Rattle.clover_call.specs.declared.answer.Answer.TheVariants.{Absent}
+use Rattle.clover_call.specs.declared.answer.CallerRefusal.{CallerRefusal}
+use Rattle.clover_call.specs.declared.answer.CallerRefusal.TheVariants.{Unreached as CallUnreached, Behind as CallBehind, Linked as CallLinked, TooLong as CallTooLong}
+use Rattle.clover_call.specs.declared.answer.CallerTurn.{CallerTurn}
+use Rattle.clover_call.specs.declared.answer.CallerTurn.TheVariants.{More as CallMore, Decided as CallDecided, Done as CallDone, Refused as CallRefused}
+use Rattle.clover_node.specs.declared.answer.NodeRefusal.{NodeRefusal}
+use Rattle.clover_node.specs.declared.answer.NodeRefusal.TheVariants.{Unreached, Behind, Linked, TooLong, NeedsNames}
 use Rattle.clover_node.specs.declared.answer.NodeTurn.{NodeTurn}
 use Rattle.clover_node.specs.declared.answer.NodeTurn.TheVariants.{More, Decided, Done, Refused}
-use Rattle.clover_node.specs.declared.under.Underway.{Underway}
-use Rattle.clover_node.specs.declared.under.Underway.TheVariants.{Nothing}
-use Rattle.clover_node.specs.Calling.{Calling, due}
+use Rattle.clover_node.specs.declared.counting.Counting.{Counting}
+use Rattle.clover_node.specs.declared.counting.Counting.TheVariants.{No, Names, Absence}
 
--- the reply that an answer is, with the value that stands in the room
-abbrev pub reply_in : Answer → ValueBuf → Reply
-reply_in (Stored t) room = StoredReply (tag_number t)
-reply_in (Found t flags) room = FoundReply (tag_number t) (value_in flags room)
-reply_in Absent room = AbsentReply
-reply_in (Deleted t) room = DeletedReply (tag_number t)
-reply_in (Differs t) room = DiffersReply (tag_number t)
+-- a caller's refusal and its turn, as the node's
+abbrev pub of_refusal : CallerRefusal → NodeRefusal
+of_refusal CallUnreached = Unreached
+of_refusal (CallBehind turns) = Behind turns
+of_refusal (CallLinked t) = Linked t
+of_refusal (CallTooLong length room) = TooLong length room
 
--- the answer to a job that committed this tag
-abbrev pub committed_as : Job → TagParts → Answer
-committed_as Put t = Stored t
-committed_as Delete t = Deleted t
-committed_as (Swap expected) t = Stored t
+abbrev pub of_turn : CallerTurn → NodeTurn
+of_turn CallMore = More
+of_turn (CallDecided a) = Decided a
+of_turn (CallDone a) = Done a
+of_turn (CallRefused y) = Refused (of_refusal y)
 
--- the tag is the answer's, where that has one
-abbrev pub IsTagOf : Answer → TagParts → Type 0
-IsTagOf (Stored u) t = u ≡ t
-IsTagOf (Found u flags) t = u ≡ t
-IsTagOf Absent t = Unit {0}
-IsTagOf (Deleted u) t = u ≡ t
-IsTagOf (Differs u) t = u ≡ t
+-- the turn of a load of the count, where the node has so many names and so many bindings there are
+abbrev pub count_turn : Counting → ℕ → ℕ → NodeTurn
+count_turn No known bound = Refused (NeedsNames known bound)
+count_turn Names known bound = Refused (NeedsNames known bound)
+count_turn Absence known bound = if eqb bound known then Done Absent else Refused (NeedsNames known bound)
 
 -- where the access was made
 abbrev pub OnMade : NodeTurn → Type 0 → Type 0
@@ -52,46 +43,13 @@ OnRefused (Refused Unreached) A = A
 OnRefused (Refused (Linked t)) A = A
 OnRefused r A = Unit {0}
 
--- where the access was made and the call has not fallen behind
-abbrev pub OnAhead : NodeTurn → Type 0 → Type 0
-OnAhead (Refused y) A = Unit {0}
-OnAhead r A = A
+-- where the call goes on, and where it is over
+abbrev pub OnGoing : NodeTurn → Type 0 → Type 0
+OnGoing More A = A
+OnGoing (Decided a) A = A
+OnGoing r A = Unit {0}
 
-abbrev pub IfDecided : NodeTurn → (Answer → Type 0) → Type 0
-IfDecided (Decided a) P = P a
-IfDecided r P = Unit {0}
-
-abbrev pub IfDone : NodeTurn → (Answer → Type 0) → Type 0
-IfDone (Done a) P = P a
-IfDone r P = Unit {0}
-
--- where the call has not ended with an answer
-abbrev pub UnlessDone : NodeTurn → Type 0 → Type 0
-UnlessDone (Done a) A = Unit {0}
-UnlessDone r A = A
-
-abbrev pub IfBehind : NodeTurn → (ℕ → Type 0) → Type 0
-IfBehind (Refused (Behind turns)) P = P turns
-IfBehind r P = Unit {0}
-
--- the call is over
-abbrev pub ends : NodeTurn → Bool
-ends More = false
-ends (Decided a) = false
-ends (Done a) = true
-ends (Refused y) = true
-
--- what is under way behind a turn: the call, where it goes on
-abbrev pub left_by : NodeTurn → Underway → Underway
-left_by More u = u
-left_by (Decided a) u = u
-left_by (Done a) u = Nothing
-left_by (Refused y) u = Nothing
-
--- What a turn tells of where its access left the call, which was at c and is at n: it has a step to make, and has committed by this access at `Decided` alone; it is over; or its turns have reached the budget.
-abbrev pub Tells : Call → ℕ → Calling → Calling → NodeTurn → Type 0
-Tells call own c n More = IsSome (due call own n) × (n.over ≡ c.over)
-Tells call own c n (Decided a) = IsSome (due call own n) × (c.over ≡ false) × (n.over ≡ true)
-Tells call own c n (Done a) = (n.steps ≡ []) × (n.over ≡ true)
-Tells call own c n (Refused (Behind turns)) = (n.steps ≡ []) × (n.over ≡ false) × (n.walk.stand ≡ Ended)
-Tells call own c n (Refused y) = ⊥
+abbrev pub OnOver : NodeTurn → Type 0 → Type 0
+OnOver (Done a) A = A
+OnOver (Refused y) A = A
+OnOver r A = Unit {0}

@@ -1,23 +1,10 @@
-// What a step of a node answers. Tags stay tags: who prints them makes numbers of them.
+// What a step of a node answers.
 ghost use Rattle.std.specs.Prelude.{◌≡◌};
-ghost use Rattle.clover_node.specs.Turning.{ends};
+ghost use Rattle.clover_node.specs.Turning.{of_refusal, of_turn, count_turn};
 
+use crate::counting::Counting;
+use clover_call::{Answer, CallerRefusal, CallerTurn};
 use clover_words::Tag;
-
-/// How a call is answered.
-#[derive(Clone, Copy)]
-pub enum Answer {
-    /// The value is stored under this tag.
-    Stored { tag: Tag },
-    /// The key has the value of this tag, with these flags; its bytes stand in the caller's room.
-    Found { tag: Tag, flags: u32 },
-    /// The key has nothing.
-    Absent,
-    /// The key has nothing from this tag on.
-    Deleted { tag: Tag },
-    /// The key has the value of this tag, which is not the expected one.
-    Differs { tag: Tag },
-}
 
 /// Why a call ended without an answer, or did not start.
 #[derive(Clone, Copy)]
@@ -30,6 +17,11 @@ pub enum NodeRefusal {
     Linked { tag: Tag },
     /// The value has more bytes than a buffer has room for.
     TooLong { length: usize, room: usize },
+    /// The call may need a buffer for a new version, and the stock is empty.
+    NeedsStock,
+    /// The node has so many names, not the key's, and so many bindings there are: for a put the key has to be bound,
+    /// and for any other call there are bindings that the node does not know.
+    NeedsNames { known: u32, bound: u32 },
 }
 
 /// What a step of a node came to.
@@ -45,11 +37,36 @@ pub enum NodeTurn {
     Refused(NodeRefusal),
 }
 
-impl NodeTurn {
-    /// Whether the call is over.
-    pub fn is_over(&self) -> bool
-        ensures { result ≡ ends self.now }
-    {
-        matches!(self, NodeTurn::Done(_) | NodeTurn::Refused(_))
+// A caller's refusal as the node's.
+fn refusal_of(refusal: CallerRefusal) -> NodeRefusal
+    ensures { result ≡ of_refusal refusal }
+{
+    match refusal {
+        CallerRefusal::Unreached => NodeRefusal::Unreached,
+        CallerRefusal::Behind { turns } => NodeRefusal::Behind { turns },
+        CallerRefusal::Linked { tag } => NodeRefusal::Linked { tag },
+        CallerRefusal::TooLong { length, room } => NodeRefusal::TooLong { length, room },
+    }
+}
+
+/// A caller's turn as the node's.
+pub(crate) fn turn_of(turn: CallerTurn) -> NodeTurn
+    ensures { result ≡ of_turn turn }
+{
+    match turn {
+        CallerTurn::More => NodeTurn::More,
+        CallerTurn::Decided(answer) => NodeTurn::Decided(answer),
+        CallerTurn::Done(answer) => NodeTurn::Done(answer),
+        CallerTurn::Refused(refusal) => NodeTurn::Refused(refusal_of(refusal)),
+    }
+}
+
+/// The turn of a load of the count that gave so many bindings, where the node has so many names.
+pub(crate) fn counted(counting: Counting, known: u32, bound: u32) -> NodeTurn
+    ensures { result ≡ count_turn counting known bound }
+{
+    match counting {
+        Counting::Absence if bound == known => NodeTurn::Done(Answer::Absent),
+        _ => NodeTurn::Refused(NodeRefusal::NeedsNames { known, bound }),
     }
 }

@@ -1,124 +1,120 @@
-// The node: it starts a call, and makes the call's accesses one at a time.
-ghost use Rattle.std.specs.Prelude.{◌≡◌, ◌≢◌, ◌<◌, ◌*◌, ◌↔◌, ℕ, IsTrue, IsErr, IfOk, IfErr, OnOk};
+// The node: what it has of the metadata server, and the call under way.
+ghost use Rattle.std.specs.Prelude.{◌≡◌, ◌+◌, ◌≤◌, ◌++◌, ◌↔◌, ℕ, [], length, map, IsTrue, IfOk};
+ghost use Rattle.clover_words.specs.Tag.{TagParts, tag_number};
+ghost use Rattle.clover_words.specs.declared.bytes.ValueBuf.{ValueBuf as Room};
+ghost use Rattle.clover_map.specs.declared.call.Call.{Call as Asked};
+ghost use Rattle.clover_rule.specs.Content.{InRange};
+ghost use Rattle.clover_rule.specs.Lists.{Each};
+ghost use Rattle.clover_rule.specs.Moves.{given};
+ghost use Rattle.clover_rule.specs.Names.{KeysOnce};
+ghost use Rattle.clover_rule.specs.Views.{SlotsOnce};
+ghost use Rattle.clover_rule.specs.declared.view.Role.TheVariants.{Client};
 ghost use Rattle.clover_rule.specs.declared.view.View.{View};
-ghost use Rattle.clover_cache.specs.Node.{asked};
-ghost use Rattle.clover_node.specs.Beginning.{Starts, HasTag, ExpectsTag, size_of, given_number};
-ghost use Rattle.clover_node.specs.Going.{GoesOn, IsDue, Went};
-ghost use Rattle.clover_node.specs.Node.{NodeHolds, AreCursors, next_step, is_first, first_node};
-ghost use Rattle.clover_node.specs.Turning.{OnMade, OnRefused, left_by};
-ghost use Rattle.clover_node.specs.declared.answer.NodeRefusal.TheVariants.{TooLong as IsTooLong};
-ghost use Rattle.clover_node.specs.declared.under.Underway.TheVariants.{Nothing as IsNothing};
+ghost use Rattle.clover_alloc.specs.Batch.{tags_of};
+ghost use Rattle.clover_dir.specs.Bindings.{pairs_of};
+ghost use Rattle.clover_node.specs.Accepting.{MayTake};
+ghost use Rattle.clover_node.specs.Node.{NodeHolds, IsIdle, first_node};
 
-mod access;
 mod start;
+mod step;
 #[cfg(test)]
 mod tests;
+mod tries;
 
-use crate::answer::{NodeRefusal, NodeTurn};
-use crate::under::Underway;
-use clover_cache::NodeCursors;
+use crate::counting::Counting;
+use crate::stock::Stock;
+use clover_alloc::Batch;
+use clover_call::Caller;
+use clover_dir::{Binding, Names};
 use clover_list::OutOfMemory;
-use clover_map::Call;
-use clover_port::Port;
-use clover_walk::Walk;
-use clover_words::{Pool, Tag, ValueBuf};
+use clover_words::Setup;
 use std::alloc::Global;
 use std::marker::Model;
 
 /// The compute node of one client, with at most one call under way.
 #[derive(Drop)]
 pub struct Node {
-    pool: Pool,
-    cursors: NodeCursors,
-    under: Underway,
+    client: u32,
+    caller: Caller,
+    counting: Counting,
+    stock: Stock,
+    names: Names,
 }
 
 impl Model for Node {
+    ghost use Rattle.std.specs.Prelude.{◌≡◌};
     ghost use Rattle.clover_node.specs.Node.{NodeState};
 
     ghost Value = { NodeState };
 
-    ghost view = { λ n. record { pool = n.pool; cursors = n.cursors; under = n.under } };
+    ghost view = { λ n. record { client = n.client; caller = n.caller; counting = n.counting; stock = n.stock; names = n.names.list } };
+
+    // There is room for the names of all slots.
+    ghost invariant = { λ n. n.names.most ≡ n.caller.pool.slots };
 }
 
 impl Node {
-    /// A node of this pool with nothing under way and no cursor. `OutOfMemory` for want of memory.
-    pub fn make(alloc: Global, pool: Pool) -> Result<Node, OutOfMemory>
-        ensures { IfOk result (λ node. node ≡ first_node pool) }
+    /// A node of this client with nothing under way, an empty stock, no names and no cursors. It takes the room for
+    /// the names of all slots; no other call takes memory, but for a cursor, whose want changes no answer.
+    /// `OutOfMemory` for want of memory.
+    pub fn make(alloc: Global, setup: Setup, client: u32) -> Result<Node, OutOfMemory>
+        ensures value { IfOk result (λ node. node ≡ first_node setup.pool client) }
+        ensures holds { IfOk result (λ node. (call : Asked) (v : View) (room : Room) → v.pass.pool ≡ setup.pool → v.pass.role ≡ Client client → v.pass.stock ≡ [] → v.pass.names ≡ [] → NodeHolds node call v room) }
     {
         Ok(Node {
-            pool,
-            cursors: NodeCursors::make(alloc)?,
-            under: Underway::Nothing,
+            client,
+            caller: Caller::make(alloc, setup.pool)?,
+            counting: Counting::No,
+            stock: Stock::make(alloc)?,
+            names: Names::make(alloc, setup.pool.slots)?,
         })
     }
 
     /// Whether a call is under way.
     pub fn is_busy(&self) -> bool
-        ensures { IsTrue result ↔ (self.now.under ≢ IsNothing) }
+        ensures { IsTrue result ↔ (IsIdle self.now → ⊥) }
     {
-        !matches!(&self.under, Underway::Nothing)
+        !matches!(self.counting, Counting::No) || self.caller.is_busy()
     }
 
-    /// Starts a call on the slot of its key, with the tag of the buffer that a call that writes may commit: the next
-    /// one of the client's stock. It makes no access, copies no key and takes no memory.
+    /// How many names the node has.
+    pub fn known(&self) -> u32
+        ensures { result ≡ length self.now.names }
+    {
+        self.names.len() as u32
+    }
+
+    /// How many buffers stand in the stock.
+    pub fn stock(&self) -> u32
+        ensures { result ≡ length self.now.stock }
+    {
+        self.stock.len() as u32
+    }
+
+    /// Puts the tags of the batch at the end of the stock, and the names behind those that the node has.
     ///
-    /// The call goes on from the cursor that the node has for the slot. `TooLong`, exactly where the value has more
-    /// bytes than a buffer has room for; then nothing is under way.
-    pub fn start(&mut self, slot: u32, own: Option<Tag>, call: &Call) -> Result<(), NodeRefusal>
-        requires idle { self.old.under ≡ IsNothing }
-        requires slot { slot < self.old.pool.slots }
-        requires cursors { (v : View) × AreCursors self.old.pool v self.old.cursors }
-        requires own { HasTag self.old.pool own call.now }
-        requires expects { ExpectsTag call.now }
-        ensures started { OnOk result (Starts self.old slot (given_number own) call.now self.new) }
-        ensures refused { IfErr result (λ refusal. (refusal ≡ IsTooLong (size_of call.now) (8 * self.old.pool.words)) × (self.new ≡ record self.old { cursors = asked slot self.old.cursors })) }
-        ensures when { IsErr result ↔ (8 * self.old.pool.words < size_of call.now) }
+    /// No call is under way, stock and batch have at most 64 tags, and the names are of other keys than those that the
+    /// node has, and with these at most as many as the pool has slots.
+    pub fn accept(&mut self, batch: &Batch, names: &[Binding])
+        requires idle { IsIdle self.old }
+        requires stock { length self.old.stock + batch.now.count ≤ 64 }
+        requires once { KeysOnce (self.old.names ++ pairs_of names.now) }
+        requires room { length (self.old.names ++ pairs_of names.now) ≤ self.old.caller.pool.slots }
+        ensures value { self.new ≡ record self.old { stock = self.old.stock ++ tags_of batch.now; names = self.old.names ++ pairs_of names.now } }
+        ensures holds { (call : Asked) (v : View) (room : Room) → NodeHolds self.old call v room → MayTake self.old (tags_of batch.now) (pairs_of names.now) → NodeHolds self.new call (given (map tag_number (tags_of batch.now)) (pairs_of names.now) v) room }
     {
-        let walk = Walk::make(self.pool, slot, self.cursors.find(slot));
-        self.under = start::call_on(walk, own, call)?;
-        Ok(())
+        self.stock.add(batch.items());
+        learn(&mut self.names, names);
     }
+}
 
-    /// Makes the next access of the call under way, and goes on by what it found.
-    ///
-    /// The port is of the node's pool, and of the one client for which the node makes all its calls; and the same room
-    /// is passed to all steps of a call. `Decided`, once in a call that writes, exactly where this access was the
-    /// exchange that linked its version. `Done`, where the call is over: a found value stands in the room then, and
-    /// the slot's cursor is the tag at which the call ended. Else the room holds no promise to the caller. `Refused`,
-    /// where the call is over without an answer: `Unreached` and `Linked` only where the access was refused, and
-    /// `Behind` exactly where the turns of the call have reached the budget.
-    pub fn step<P: Port>(&mut self, port: &mut P, into: &mut ValueBuf) -> NodeTurn
-        requires busy { self.old.under ≢ IsNothing }
-        requires pool { P.pool port.old ≡ self.old.pool }
-        requires holds { NodeHolds self.old (P.view port.old) into.old }
-        ensures made { OnMade result ((x : ℕ) × P.made port.old (next_step self.old.under (P.view port.old) into.old) (is_first self.old.under) x port.new × GoesOn self.old.under into.old x result self.new.under into.new × IsDue self.old.under into.old (next_step self.old.under (P.view port.old) into.old) x self.new.under into.new result) }
-        ensures went { Went self.old.pool self.old.under self.new.under self.old.cursors self.new.cursors into.new (P.view port.old) (P.told port.old) (P.view port.new) (P.told port.new) result }
-        ensures refused { OnRefused result (P.failed port.old port.new × (into.new ≡ into.old)) }
-        ensures pool { self.new.pool ≡ self.old.pool }
-        ensures holds { NodeHolds self.new (P.view port.new) into.new }
-    {
-        let turn = self.access(port, into);
-        if turn.is_over() {
-            self.under = Underway::Nothing;
-        }
-        turn
-    }
-
-    // Makes the next access of the call under way, which stays there even where it is over.
-    fn access<P: Port>(&mut self, port: &mut P, into: &mut ValueBuf) -> NodeTurn
-        requires busy { self.old.under ≢ IsNothing }
-        requires pool { P.pool port.old ≡ self.old.pool }
-        requires holds { NodeHolds self.old (P.view port.old) into.old }
-        ensures made { OnMade result ((x : ℕ) × P.made port.old (next_step self.old.under (P.view port.old) into.old) (is_first self.old.under) x port.new × GoesOn self.old.under into.old x result (left_by result self.new.under) into.new × IsDue self.old.under into.old (next_step self.old.under (P.view port.old) into.old) x (left_by result self.new.under) into.new result) }
-        ensures went { Went self.old.pool self.old.under (left_by result self.new.under) self.old.cursors self.new.cursors into.new (P.view port.old) (P.told port.old) (P.view port.new) (P.told port.new) result }
-        ensures refused { OnRefused result (P.failed port.old port.new × (into.new ≡ into.old)) }
-        ensures pool { self.new.pool ≡ self.old.pool }
-    {
-        match &mut self.under {
-            Underway::Nothing => unreachable!(),
-            Underway::Get(call) => access::get(call, &mut self.cursors, port, into),
-            Underway::Write(call) => access::write(call, &mut self.cursors, port),
-        }
+// Puts these bindings behind those that are known.
+fn learn(known: &mut Names, names: &[Binding])
+    requires once { KeysOnce (known.old.list ++ pairs_of names.now) }
+    requires room { length (known.old.list ++ pairs_of names.now) ≤ known.old.most }
+    ensures { known.new ≡ record known.old { list = known.old.list ++ pairs_of names.now } }
+{
+    for binding in names {
+        known.push(binding.slot, binding.key.copy());
     }
 }

@@ -4,6 +4,7 @@ pub mod Acting
 pub mod Stepping
 pub mod Standing
 pub mod Handing
+pub mod Books
 pub mod SmallPool
 pub mod Opening
 pub mod Keys

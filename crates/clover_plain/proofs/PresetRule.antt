@@ -21,7 +21,8 @@ use Rattle.clover_words.specs.Meta.{tombstone}
 use Rattle.clover_words.specs.Tag.{home}
 use Rattle.clover_words.specs.Next.{root_code}
 use Rattle.clover_words.specs.Version.{buffer_at, content_at}
-use Rattle.clover_rule.specs.Content.{inside, spelling, words_from, IsKey}
+use Rattle.clover_map.specs.Key.{IsKey}
+use Rattle.clover_rule.specs.Content.{inside, spelling, words_from}
 use Rattle.clover_rule.specs.Lists.{nth, Within}
 use Rattle.clover_rule.specs.Meets.{Decodes, IsCode}
 use Rattle.clover_rule.specs.Memory.{word, gen}
@@ -99,7 +100,7 @@ module _ (s : Setup) (keys : List (List ℕ)) (ws : List ℕ) (sized : length ws
 
   spelled_below : (k : List ℕ) (j x : ℕ) → IsKey k → nth (spelling k) j ≡ Some x → j < 32
   unfolding spelling
-  spelled_below k j x i e = let z = nth_within (words_from (length k ∷ k) 0 (words_of (length (length k ∷ k)))) j x e in let q = length_words (length k ∷ k) 0 (words_of (length (length k ∷ k))) in let m = i.most in omega arith
+  spelled_below k j x i e = let z = nth_within (words_from (length k ∷ k) 0 (words_of (length (length k ∷ k)))) j x e in let q = length_words (length k ∷ k) 0 (words_of (length (length k ∷ k))) in let m = i.1 in omega arith
 
   keyed : (n j x : ℕ) (k : List ℕ) → nth keys n ≡ Some k → nth (spelling k) j ≡ Some x → guarded (nat_lt n p.slots && nat_lt j 32) (copy_in p ws (Key n j) Current) 0 ≡ x
   keyed n j x k e f =

@@ -1,10 +1,10 @@
 -- What a small pool's server and client may do as its run begins: one node of two buffers, one slot, one client.
-use Rattle.std.proofs.Common.{◌≡◌, ℕ, zero, suc, List, [], ◌∷◌, length, set, get_or, refl, sym, ap, ◌∙◌, inl, subst, arith}
+use Rattle.std.proofs.Common.{◌≡◌, ℕ, zero, suc, List, [], ◌∷◌, length, map, set, get_or, refl, sym, ap, ◌∙◌, inl, subst, arith}
 use Rattle.std.proofs.lemmas.List.{get_or-set_same, length-set}
 use Rattle.clover_words.specs.declared.setup.Setup.{Setup}
 use Rattle.clover_words.specs.Pack.{AreBytes}
 use Rattle.clover_words.specs.Place.{IsBuffer}
-use Rattle.clover_words.specs.Tag.{home, age}
+use Rattle.clover_words.specs.Tag.{home, age, tag_number}
 use Rattle.clover_words.specs.Version.{buffer_at}
 use Rattle.clover_rule.specs.Asks.{MayBegin}
 use Rattle.clover_rule.specs.Lists.{Within}
@@ -17,8 +17,13 @@ use Rattle.clover_rule.specs.declared.view.Role.{Role}
 use Rattle.clover_rule.specs.declared.view.Role.TheVariants.{Client}
 use Rattle.clover_rule.specs.declared.view.View.{View}
 use Rattle.clover_rule.proofs.Keeping.{inside_of}
-use Rattle.clover_plain.specs.Handing.{Handed}
+use Rattle.clover_alloc.specs.Batch.{tags_of}
+use Rattle.clover_alloc.specs.Ledger.{Ledger, IsLedger, new_ledger}
+use Rattle.clover_alloc.specs.Taking.{Takes}
+use Rattle.clover_alloc.specs.declared.batch.Batch.{Batch}
+use Rattle.clover_plain.specs.Handing.{Handed, numbers_of}
 use Rattle.clover_plain.specs.Plain.{Kept, Plain, first_view, view_at}
+use Rattle.clover_plain.proofs.Books.{left_new, takes_next}
 use Rattle.clover_plain.proofs.Opening.{client_role, server_role}
 
 pub home_next : home 1048576 ≡ 1
@@ -29,11 +34,11 @@ pub home_first : home 0 ≡ 0
 unfolding home
 home_first = refl
 
-age_next : age 1048576 ≡ 0
+pub age_next : age 1048576 ≡ 0
 unfolding age
 age_next = refl
 
-age_first : age 0 ≡ 0
+pub age_first : age 0 ≡ 0
 unfolding age
 age_first = refl
 
@@ -61,7 +66,7 @@ module _ (s : Setup) (small : IsSmall s) where
     free = ap (λ (n : ℕ). book n Free) (sym age_next);
     buffer = inside_of s.pool (home 1048576) buffer_next;
     slot = omega arith;
-    key = record { some = omega arith; most = omega arith; bytes = letter };
+    key = (omega arith, omega arith, letter);
     unbound = λ k w. w;
     unnamed = λ n w. w;
   }
@@ -88,11 +93,19 @@ server_begins p q seat same at small view =
     subst (λ (z : Plain). IsBuffer z.setup.pool (buffer_at (home 1048576)) × MayBegin z.setup.pool (view_at z seat) binding) (sym same)
     (buffer_next p.setup small, subst (λ (v : View). MayBegin p.setup.pool v binding) (sym (ap (view_at p) (at ∙ small.0) ∙ view)) (may_begin p.setup small))
 
+-- the first batch of one that its new books give
+pub first_batch : (s : Setup) (books after : Ledger) (batch : Batch) → IsSmall s → (books ≡ new_ledger s.pool) × IsLedger books → Takes books 1 (tags_of batch) after → numbers_of batch ≡ 0 ∷ []
+first_batch s books after batch small new takes =
+    let left = left_new s.pool small.1 (subst IsLedger new.0 new.1) in
+    let b = small.2 in
+    ap (map tag_number) (takes_next s.pool.buffers 1 0 (new_ledger s.pool) (tags_of batch) after left (omega arith) (subst (λ (l : Ledger). Takes l 1 (tags_of batch) after) new.0 takes)).0
+
 -- the server hands buffer 0 over
-pub server_hands : (p : Plain) → IsSmall p.setup → view_at p 0 ≡ first_view p.setup 0 → view_at p 1 ≡ first_view p.setup 1 → MayHand p.setup.pool (view_at p p.setup.clients) (view_at p 0) (0 ∷ []) []
-server_hands p small client server =
-    subst (λ (v : View). MayHand p.setup.pool v (view_at p 0) (0 ∷ []) []) (sym (ap (view_at p) small.0 ∙ server))
-    (subst (λ (v : View). MayHand p.setup.pool (first_view p.setup 1) v (0 ∷ []) []) (sym client) (may_hand p.setup small))
+pub server_hands : (p : Plain) (batch : List ℕ) → batch ≡ 0 ∷ [] → IsSmall p.setup → view_at p 0 ≡ first_view p.setup 0 → view_at p 1 ≡ first_view p.setup 1 → MayHand p.setup.pool (view_at p p.setup.clients) (view_at p 0) batch []
+server_hands p batch is small client server =
+    subst (λ (l : List ℕ). MayHand p.setup.pool (view_at p p.setup.clients) (view_at p 0) l []) (sym is)
+    (subst (λ (v : View). MayHand p.setup.pool v (view_at p 0) (0 ∷ []) []) (sym (ap (view_at p) small.0 ∙ server))
+    (subst (λ (v : View). MayHand p.setup.pool (first_view p.setup 1) v (0 ∷ []) []) (sym client) (may_hand p.setup small)))
 
 is_client : (v : View) (n : ℕ) → v.pass.role ≡ Client n → IsClient v
 is_client v n e = subst (λ (r : Role). r ≡ Client (number_of r)) (sym e) refl

@@ -1,12 +1,14 @@
 -- How a grant of the server changes a plain pool.
 use Rattle.std.specs.Prelude.{◌≡◌, ℕ, ◌-◌, List, map, slice_set}
-use Rattle.clover_words.specs.Tag.{TagParts, tag_number}
+use Rattle.clover_words.specs.Tag.{tag_number}
+use Rattle.clover_alloc.specs.Batch.{tags_of}
+use Rattle.clover_alloc.specs.declared.batch.Batch.{Batch}
 use Rattle.clover_rule.specs.Moves.{given, giving}
 use Rattle.clover_plain.specs.Plain.{Plain, view_at}
 
--- the tags of a batch, as a view has them
-abbrev pub batch_of : List TagParts → List ℕ
-batch_of tags = map tag_number tags
+-- the numbers of a batch's tags, as a view has them
+abbrev pub numbers_of : Batch → List ℕ
+numbers_of batch = map tag_number (tags_of batch)
 
 -- The server has given this client a batch and names: two views are new, and nothing else.
 pub record Handed (client : ℕ) (batch : List ℕ) (names : List (ℕ × List ℕ)) (p q : Plain) : Type 0 where

@@ -7,9 +7,11 @@ ghost use Rattle.clover_plain.specs.Kept.{AllFit, views_of};
 ghost use Rattle.clover_plain.specs.Plain.{actor_at, first_view};
 
 use atomic_table::{Play, Seat, Table, TableRule};
+use clover_alloc::Batch;
+use clover_dir::Binding;
 use clover_map::Key;
 use clover_rule::{Actor, View};
-use clover_words::{Setup, Tag};
+use clover_words::Setup;
 use std::alloc::Global;
 use std::collections::LinkedList;
 use std::marker::{Brand, PhantomData};
@@ -139,8 +141,8 @@ pub fn hand_view<J: ViewName>(
     seats: &mut Vec<Seat<(), View>>,
     at: usize,
     serving: bool,
-    batch: &[Tag],
-    names: &[(u32, Key)],
+    batch: &Batch,
+    names: &[Binding],
 )
     requires at { at < length seats.old.items }
     requires fits { AllFit knowing.now.shared.table_id seats.old.items × (0 < knowing.now.shared.table_id.words) }
@@ -149,7 +151,7 @@ pub fn hand_view<J: ViewName>(
     ensures length { length seats.new.items ≡ length seats.old.items }
 {
     let _ = serving;
-    let _ = batch.len();
+    let _ = batch.count;
     let _ = names.len();
     renew::<J>(knowing, seats, at);
 }

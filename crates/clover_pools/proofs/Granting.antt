@@ -1,71 +1,64 @@
 -- What the server of a small pool may hand over and bind as its run begins, and what that leaves.
-use Rattle.std.proofs.Common.{◌≡◌, ◌≢◌, ℕ, zero, suc, ◌+◌, ◌≤◌, ◌<◌, ◌/◌, ◌%◌, List, [], ◌∷◌, ◌++◌, length, replicate, set, get_or, true, refl, sym, ap, ◌∙◌, subst, arith}
+use Rattle.std.proofs.Common.{◌≡◌, ◌≢◌, ℕ, zero, suc, List, [], ◌∷◌, ◌++◌, length, map, replicate, set, get_or, take, refl, sym, ap, ◌∙◌, subst, arith}
 use Rattle.std.specs.Prelude.{Option, Some, None}
 use Rattle.std.specs.Option.{option_map}
+use Rattle.std.proofs.Math.Nat.{min-eq_left}
 use Rattle.std.proofs.lemmas.List.{get_or-set_same, get_or-set_other, length-set}
 use Rattle.clover_words.specs.declared.setup.Setup.{Setup}
-use Rattle.clover_words.specs.Place.{IsBuffer}
 use Rattle.clover_words.specs.Tag.{TagParts, tag_number, home, age}
-use Rattle.clover_words.specs.Version.{buffer_at}
 use Rattle.clover_rule.specs.Asks.{IsAt}
-use Rattle.clover_rule.specs.Content.{inside}
 use Rattle.clover_rule.specs.Moves.{MayHand, given, giving, lines_out, nobody}
 use Rattle.clover_rule.specs.Server.{waiting_name}
 use Rattle.clover_rule.specs.Views.{book, find_book}
+use Rattle.clover_alloc.specs.Batch.{tags_of}
+use Rattle.clover_alloc.specs.Ledger.{Ledger, IsLedger, new_ledger}
+use Rattle.clover_alloc.specs.Taking.{Takes}
+use Rattle.clover_alloc.specs.declared.batch.Batch.{Batch}
 use Rattle.clover_rule.specs.declared.view.BufferState.TheVariants.{Free}
 use Rattle.clover_rule.specs.declared.view.ServerTask.TheVariants.{Idle}
 use Rattle.clover_rule.specs.declared.view.View.{View}
-use Rattle.clover_rule.proofs.Keeping.{inside_of}
-use Rattle.clover_dir.specs.Directory.{Bindings, nothing_bound, with_binding}
+use Rattle.clover_dir.specs.Directory.{Bindings, nothing_bound, root_of, with_binding}
 use Rattle.clover_dir.specs.Going.{Answers}
 use Rattle.clover_dir.specs.Holding.{BindHolds, IsDirectoryOf}
 use Rattle.clover_dir.specs.Task.{UnderWay, made_bind}
 use Rattle.clover_dir.specs.declared.stage.Stage.TheVariants.{Over}
 use Rattle.clover_dir.specs.declared.turn.BindTurn.TheVariants.{More, Bound}
-use Rattle.clover_plain.specs.Handing.{Handed}
+use Rattle.clover_plain.specs.Handing.{Handed, numbers_of}
 use Rattle.clover_plain.specs.Plain.{Plain, first_view, history, view_at}
+use Rattle.clover_plain.proofs.Books.{AreLeft, left_new, takes_next}
 use Rattle.clover_plain.proofs.Opening.{client_role, server_role}
-use Rattle.clover_pools.specs.Grants.{IsNew, IsBegun, IsDealt, IsBoundOnce, IsNamed, batch, name, dealt_view, named_view}
+use Rattle.clover_plain.proofs.SmallPool.{age_first, age_next, home_first, home_next}
+use Rattle.clover_pools.specs.Grants.{AreNew, HaveGiven, HasRoot, IsNew, IsBegun, IsDealt, IsBoundOnce, IsNamed, batch, name, dealt_view, named_view}
 use Rattle.clover_pools.specs.Small.{IsReady, IsSmall, HasSmallNumbers}
+use Rattle.clover_pools.proofs.SmallPool.{begins, in_pool, third}
 
-home_first : home 0 ≡ 0
-unfolding home
-home_first = refl
-
-home_second : home 1048576 ≡ 1
-unfolding home
-home_second = refl
-
-home_third : home 2097152 ≡ 2
-unfolding home
-home_third = refl
-
-first_free : book 0 Free ≡ book (age 0) Free
-unfolding age
-first_free = refl
-
-second_free : book 0 Free ≡ book (age 1048576) Free
-unfolding age
-second_free = refl
-
-third_free : find_book (lines_out [] batch) (home 2097152) ≡ book (age 2097152) Free
+batch_spares : find_book (lines_out [] batch) (home 2097152) ≡ book (age 2097152) Free
 unfolding home age
-third_free = refl
+batch_spares = refl
 
 two_buffers : home 1048576 ≢ home 0
 unfolding home
 two_buffers e = omega (arith, e)
 
 module _ (s : Setup) (few : HasSmallNumbers s) where
-  in_pool : (t b : ℕ) → home t ≡ b → b < 4 → b % 65536 ≡ b → b / 65536 ≡ 0 → inside s.pool (home t) ≡ true
-  in_pool t b e low m d = let a = few.nodes in let c = few.buffers in
-      inside_of s.pool (home t) (subst (λ (n : ℕ). IsBuffer s.pool (buffer_at n)) (sym e) (record { node = omega arith; index = omega arith }))
+  left_first : (books : Ledger) → AreNew s books → AreLeft 4 books 0
+  left_first books new = subst (λ (l : Ledger). AreLeft 4 l 0) (sym new.value) (subst (λ (n : ℕ). AreLeft n (new_ledger s.pool) 0) few.buffers (left_new s.pool few.nodes (subst IsLedger new.value new.whole)))
+
+  -- the first two buffers of new books are the batch
+  pub first_two : (books after : Ledger) (b : Batch) → AreNew s books → Takes books 2 (tags_of b) after → numbers_of b ≡ batch
+  first_two books after b new takes = ap (map tag_number) (takes_next 4 2 0 books (tags_of b) after (left_first books new) (omega arith) takes).0
+
+  -- and the next one is buffer 2
+  pub next_one : (books after : Ledger) (tags : List TagParts) → HaveGiven s books → Takes books 1 tags after → tags ≡ third ∷ []
+  next_one books after tags given takes =
+      let left = (takes_next 4 2 0 given.before given.tags books (left_first given.before given.new) (omega arith) given.takes).1 in
+      (takes_next 4 1 2 books tags after left (omega arith) takes).0
 
   may_hand : MayHand s.pool (first_view s 1) (first_view s 0) batch []
   may_hand = let a = few.clients in record {
     tags = record {
       server = server_role s 1 (omega arith);
-      free = ((in_pool 0 0 home_first (omega arith) refl refl, first_free), ((in_pool 1048576 1 home_second (omega arith) refl refl, second_free), tt));
+      free = ((in_pool s few 0 0 home_first (omega arith) refl refl, ap (λ (g : ℕ). book g Free) (sym age_first)), ((in_pool s few 1048576 1 home_next (omega arith) refl refl, ap (λ (g : ℕ). book g Free) (sym age_next)), tt));
       apart = ((two_buffers, tt), (tt, tt));
     };
     number = 1;
@@ -115,10 +108,6 @@ dealt_so tags p q e b h same = record {
   server = handed_server tags [] p q b.new h same ∙ (λ i. giving (e i) (b.server i)) ∙ ap (λ (s : Setup). giving batch (first_view s 1)) (sym h.setup);
 }
 
--- buffer 2 at generation 0
-abbrev third : TagParts
-third = record { node = 0; index = 2; generation = 0 }
-
 -- the binding of `a` is under way
 pub record IsBinding (p : Plain) (c : UnderWay) (d : Bindings) : Type 0 where
   pub new : IsNew p
@@ -127,21 +116,8 @@ pub record IsBinding (p : Plain) (c : UnderWay) (d : Bindings) : Type 0 where
   pub going : c.stage ≢ Over
   pub key : c.key ≡ 97 ∷ []
   pub slot : c.slot ≡ 0
-  pub list : d.list ≡ []
-
-none_there : (n i : ℕ) → get_or (replicate n (let x : Option TagParts = None in x)) i None ≡ None
-none_there zero i = refl
-none_there (suc n) zero = refl
-none_there (suc n) (suc i) = none_there n i
-
-first_holds : (s : Setup) → HasSmallNumbers s → BindHolds s.pool (made_bind 0 (97 ∷ []) third) (nothing_bound s.pool) (giving batch (first_view s 1))
-first_holds s few = let a = few.clients in let c = few.slots in record {
-  at = record { server = server_role s 1 (omega arith); task_is = refl };
-  directory = record { pool = refl; list = refl; roots = λ slot. sym (ap (option_map tag_number) (none_there s.pool.slots slot)) };
-  enter = record { inside = omega arith; unbound = λ b. b.1; new = λ slot w. w };
-  buffer = in_pool s few 2097152 2 home_third (omega arith) refl refl;
-  free = third_free;
-}
+  pub own : c.own ≡ third
+  pub directory : d ≡ nothing_bound p.setup.pool
 
 pub bind_begins : (p : Plain) (c : UnderWay) (d : Bindings) (key : List ℕ) (own : TagParts) → IsDealt p → d ≡ nothing_bound p.setup.pool → c ≡ made_bind 0 key own → key ≡ 97 ∷ [] → own ≡ third → IsBinding p c d
 bind_begins p c d key own b e made k o =
@@ -151,29 +127,32 @@ bind_begins p c d key own b e made k o =
       client = b.client;
       holds = subst (λ (z : UnderWay). BindHolds p.setup.pool z d (view_at p 1)) (sym is)
           (subst (λ (z : Bindings). BindHolds p.setup.pool (made_bind 0 (97 ∷ []) third) z (view_at p 1)) (sym e)
-          (subst (λ (v : View). BindHolds p.setup.pool (made_bind 0 (97 ∷ []) third) (nothing_bound p.setup.pool) v) (sym b.server) (first_holds p.setup b.new.small.numbers)));
+          (subst (λ (v : View). BindHolds p.setup.pool (made_bind 0 (97 ∷ []) third) (nothing_bound p.setup.pool) v) (sym b.server) (begins p.setup b.new.small.numbers batch batch_spares)));
       going = λ over. (let z : made_bind 0 (97 ∷ []) third ≡ c = sym is in let y = ap (λ (u : UnderWay). u.stage) z in cc);
       key = ap (λ (u : UnderWay). u.key) is;
       slot = ap (λ (u : UnderWay). u.slot) is;
-      list = ap (λ (z : Bindings). z.list) e;
+      own = ap (λ (u : UnderWay). u.own) is;
+      directory = e;
     }
 
 -- the server may hand the name over
-pub hands_name : (p : Plain) (key : List ℕ) → key ≡ 97 ∷ [] → IsBoundOnce p → MayHand p.setup.pool (view_at p p.setup.clients) (view_at p 0) [] ((0, key) ∷ [])
-hands_name p key k b =
+pub hands_name : (p : Plain) (tags : List ℕ) (names : List (ℕ × List ℕ)) → tags ≡ [] → names ≡ name → IsBoundOnce p → MayHand p.setup.pool (view_at p p.setup.clients) (view_at p 0) tags names
+hands_name p tags names none k b =
     let a = b.new.small.numbers.clients in
     let one : p.setup.clients ≡ 1 = a in
-    subst (λ (n : ℕ). MayHand p.setup.pool (view_at p n) (view_at p 0) [] ((0, key) ∷ [])) (sym one) (record {
-      tags = record { server = b.idle.server; free = tt; apart = tt };
+    subst (λ (l : List ℕ). MayHand p.setup.pool (view_at p p.setup.clients) (view_at p 0) l names) (sym none)
+    (subst (λ (n : ℕ). MayHand p.setup.pool (view_at p n) (view_at p 0) [] names) (sym one) (record {
+      tags = record { server = b.server.idle.server; free = tt; apart = tt };
       number = 1;
       client = ap (λ (v : View). v.pass.role) b.client ∙ client_role p.setup 0 (omega arith);
-      names_are = b.directory ∙ sym (λ i. ((b.client i).pass.names ++ (0, k i) ∷ []) ++ waiting_name (b.idle.task_is i));
-    })
+      names_are = b.server.directory ∙ sym (λ i. ((b.client i).pass.names ++ k i) ++ waiting_name (b.server.idle.task_is i));
+    }))
 
-pub named_so : (p q : Plain) (key : List ℕ) → key ≡ 97 ∷ [] → IsBoundOnce p → Handed 1 [] ((0, key) ∷ []) p q → history q ≡ history p → IsNamed q
-named_so p q key k b h same = record {
-  new = handed_new [] ((0, key) ∷ []) p q b.new h same;
-  client = handed_client [] ((0, key) ∷ []) p q b.new h same ∙ (λ i. given [] ((0, k i) ∷ []) (b.client i)) ∙ ap named_view (sym h.setup);
+pub named_so : (p q : Plain) (tags : List ℕ) (names : List (ℕ × List ℕ)) → tags ≡ [] → names ≡ name → IsBoundOnce p → Handed 1 tags names p q → history q ≡ history p → IsNamed q
+named_so p q tags names none k b h same = record {
+  new = handed_new tags names p q b.new h same;
+  client = handed_client tags names p q b.new h same ∙ (λ i. given (none i) (k i) (b.client i)) ∙ ap named_view (sym h.setup);
+  server = subst HasRoot (sym (handed_server tags names p q b.new h same ∙ ap (λ (l : List ℕ). giving l (view_at p 1)) none)) (record { idle = record { server = b.server.idle.server; task_is = b.server.idle.task_is }; root = b.server.root; directory = b.server.directory });
 }
 
 -- the binding goes on
@@ -185,16 +164,36 @@ bind_goes p q c n d e b a ready small setup entries client holds = record {
   going = a.1;
   key = ap (λ (u : UnderWay). u.key) a.0 ∙ b.key;
   slot = ap (λ (u : UnderWay). u.slot) a.0 ∙ b.slot;
-  list = ap (λ (z : Bindings). z.list) a.2 ∙ b.list;
+  own = ap (λ (u : UnderWay). u.own) a.0 ∙ b.own;
+  directory = a.2 ∙ b.directory ∙ ap (λ (z : Setup). nothing_bound z.pool) (sym setup);
 }
 
 -- and ends
-pub bind_ends : (p q : Plain) (c n : UnderWay) (d e : Bindings) → IsBinding p c d → Answers c n d e Bound → IsReady q → IsSmall q → q.setup ≡ p.setup → q.entries ≡ p.entries → view_at q 0 ≡ view_at p 0 → IsAt (view_at q 1) Idle × IsDirectoryOf q.setup.pool e (view_at q 1) → IsBoundOnce q
+pub bind_ends : (p q : Plain) (c n : UnderWay) (d e : Bindings) → IsBinding p c d → Answers c n d e Bound → IsReady q → IsSmall q → q.setup ≡ p.setup → q.entries ≡ p.entries → view_at q 0 ≡ view_at p 0 → IsAt (view_at q 1) Idle × IsDirectoryOf q.setup.pool e (view_at q 1) → IsBoundOnce q × (e.list ≡ name)
 bind_ends p q c n d e b a ready small setup entries client ends =
-    let list : e.list ≡ name = ap (λ (z : Bindings). z.list) a.2 ∙ (λ i. b.list i ++ (b.slot i, b.key i) ∷ []) in
-    record {
-      new = record { ready = ready; small = small; entries = entries ∙ b.new.entries };
-      client = client ∙ b.client ∙ ap dealt_view (sym setup);
-      idle = ends.0;
-      directory = ends.1.list ∙ (λ i. list i ++ waiting_name (ends.0.task_is i));
-    }
+    let now : e ≡ with_binding (nothing_bound p.setup.pool) 0 (97 ∷ []) third = a.2 ∙ (λ i. with_binding (b.directory i) (b.slot i) (b.key i) (b.own i)) in (
+      record {
+        new = record { ready = ready; small = small; entries = entries ∙ b.new.entries };
+        client = client ∙ b.client ∙ ap dealt_view (sym setup);
+        server = record {
+          idle = ends.0;
+          root = ends.1.roots 0 ∙ ap (λ (z : Bindings). option_map tag_number (root_of z 0)) now ∙ ap (λ (n : ℕ). option_map tag_number (get_or (set (replicate n (let x : Option TagParts = None in x)) 0 (Some third)) 0 None)) b.new.small.numbers.slots;
+          directory = ends.1.list ∙ (λ i. (now i).list ++ waiting_name (ends.0.task_is i));
+        };
+      },
+      ap (λ (z : Bindings). z.list) now,
+    )
+
+-- a list of no tags
+pub nothing_taken : (books after : Ledger) (b : Batch) → Takes books 0 (tags_of b) after → numbers_of b ≡ []
+nothing_taken books after b takes = none (tags_of b) (takes.many ∙ min-eq_left (omega arith))
+  where
+    none : (tags : List TagParts) → length tags ≡ 0 → map tag_number tags ≡ []
+    none [] e = refl
+    none (t ∷ ts) e = absurd (omega arith)
+
+-- the only tag of a batch is its first one
+pub first_is : (n : ℕ) (tags : List TagParts) (d t : TagParts) → take n tags ≡ t ∷ [] → get_or tags 0 d ≡ t
+first_is zero tags d t e = absurd cc
+first_is (suc n) [] d t e = absurd cc
+first_is (suc n) (u ∷ us) d t e = ap (λ (l : List TagParts). get_or l 0 d) e

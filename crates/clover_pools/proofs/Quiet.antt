@@ -1,5 +1,5 @@
 -- What an access changes of a client's names and of the history, where it decides no call.
-use Rattle.std.proofs.Common.{◌≡◌, ℕ, ◌==◌, List, [], ◌∷◌, ◌++◌, length, Bool, true, false, cond, refl, sym, ap, ◌∙◌, subst, eq-eqb}
+use Rattle.std.proofs.Common.{◌≡◌, ℕ, ◌==◌, List, [], ◌∷◌, ◌++◌, length, Bool, true, false, cond, refl, sym, ap, ◌∙◌, eq-eqb}
 use Rattle.std.specs.Prelude.{Option, Some, None}
 use Rattle.std.proofs.lemmas.Option.{same_Some}
 use Rattle.clover_words.specs.declared.bytes.ValueBuf.{ValueBuf}
@@ -20,8 +20,8 @@ use Rattle.clover_rule.specs.declared.view.View.{View}
 use Rattle.clover_walk.specs.Ending.{Ended, Commits}
 use Rattle.clover_walk.specs.Walking.{Walking, Stand, AtShort as ToShort, AtRoot, AtTag, AtLink as OnLink, OnTail, Ended as StandEnded, step_at}
 use Rattle.clover_get.specs.Getting.{Stage as GetStage, Seeking as GetSeeking, AtMeta as GetMeta, AtValue, AtFound, AtDead, AtBad as GetBad, Over as GetOver, step_from, value_in}
-use Rattle.clover_node.proofs.GetGoes.{Misses as GetMisses}
-use Rattle.clover_node.proofs.PutGoes.{Misses}
+use Rattle.clover_call.proofs.GetGoes.{Misses as GetMisses}
+use Rattle.clover_call.proofs.PutGoes.{Misses}
 use Rattle.clover_put.specs.Answering.{IsBehind}
 use Rattle.clover_put.specs.Putting.{Putting, Stage, Storing, Flushing, Seeking, AtMeta, AtLink, Deciding, AtBad, AtRaise, AtShort, Over, put_step}
 

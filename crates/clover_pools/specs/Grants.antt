@@ -1,11 +1,15 @@
 -- A small pool between the run's begin and the client's first call: the server hands over a batch, binds a key, and hands over its name.
-use Rattle.std.specs.Prelude.{◌≡◌, ℕ, List, [], ◌∷◌}
+use Rattle.std.specs.Prelude.{◌≡◌, ℕ, List, [], ◌∷◌, Some}
 use Rattle.clover_rule.specs.Asks.{IsAt}
 use Rattle.clover_rule.specs.Moves.{given, giving}
+use Rattle.clover_rule.specs.Views.{root_at}
 use Rattle.clover_rule.specs.declared.view.ServerTask.TheVariants.{Idle}
 use Rattle.clover_rule.specs.declared.view.View.{View}
 use Rattle.clover_plain.specs.Plain.{Plain, first_view, view_at}
+use Rattle.clover_words.specs.Tag.{TagParts}
 use Rattle.clover_words.specs.declared.setup.Setup.{Setup}
+use Rattle.clover_alloc.specs.Ledger.{Ledger, IsLedger, new_ledger}
+use Rattle.clover_alloc.specs.Taking.{Takes}
 use Rattle.clover_pools.specs.Small.{IsReady, IsSmall}
 
 -- nothing was entered yet
@@ -28,6 +32,17 @@ batch = 0 ∷ 1048576 ∷ []
 abbrev pub name : List (ℕ × List ℕ)
 name = (0, 97 ∷ []) ∷ []
 
+-- the server's books as the run begins, and once they have given the batch
+pub record AreNew (s : Setup) (books : Ledger) : Type 0 where
+  pub value : books ≡ new_ledger s.pool
+  pub whole : IsLedger books
+
+pub record HaveGiven (s : Setup) (books : Ledger) : Type 0 where
+  pub before : Ledger
+  pub new : AreNew s before
+  pub tags : List TagParts
+  pub takes : Takes before 2 tags books
+
 -- what the client knows once it has the batch, and once it has the name too
 abbrev pub dealt_view : Setup → View
 dealt_view s = given batch [] (first_view s 0)
@@ -41,14 +56,20 @@ pub record IsDealt (p : Plain) : Type 0 where
   pub client : view_at p 0 ≡ dealt_view p.setup
   pub server : view_at p 1 ≡ giving batch (first_view p.setup 1)
 
+-- the server is idle, and slot 0 is bound to `a`, with the tombstone in buffer 2 as its root version
+pub record HasRoot (v : View) : Type 0 where
+  pub idle : IsAt v Idle
+  pub root : root_at v.server 0 ≡ Some 2097152
+  pub directory : v.server.directory ≡ name
+
 -- besides, slot 0 is bound to `a`
 pub record IsBoundOnce (p : Plain) : Type 0 where
   pub new : IsNew p
   pub client : view_at p 0 ≡ dealt_view p.setup
-  pub idle : IsAt (view_at p 1) Idle
-  pub directory : (view_at p 1).server.directory ≡ name
+  pub server : HasRoot (view_at p 1)
 
 -- and the client has the name
 pub record IsNamed (p : Plain) : Type 0 where
   pub new : IsNew p
   pub client : view_at p 0 ≡ named_view p.setup
+  pub server : HasRoot (view_at p 1)

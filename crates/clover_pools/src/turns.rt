@@ -1,8 +1,8 @@
 // What the tests over a plain pool tell apart of a node's turns.
-ghost use Rattle.clover_node.specs.declared.answer.NodeTurn.TheVariants.{Decided as IsDecided, Done as IsDone};
+ghost use Rattle.clover_call.specs.declared.answer.CallerTurn.TheVariants.{Decided as IsDecided, Done as IsDone};
 ghost use Rattle.clover_pools.specs.Turns.{IsOutcome};
 
-use clover_node::{Answer, NodeTurn};
+use clover_call::{Answer, CallerTurn};
 
 /// What an access of a call came to, with the number of the tag that it tells.
 #[derive(Clone, Copy)]
@@ -41,13 +41,13 @@ fn done(answer: Answer) -> Outcome
 }
 
 /// What a turn comes to.
-pub fn outcome_of(turn: NodeTurn) -> Outcome
+pub fn outcome_of(turn: CallerTurn) -> Outcome
     ensures { IsOutcome turn result }
 {
     match turn {
-        NodeTurn::More => Outcome::More,
-        NodeTurn::Decided(answer) => decided(answer),
-        NodeTurn::Done(answer) => done(answer),
-        NodeTurn::Refused(_) => Outcome::Other,
+        CallerTurn::More => Outcome::More,
+        CallerTurn::Decided(answer) => decided(answer),
+        CallerTurn::Done(answer) => done(answer),
+        CallerTurn::Refused(_) => Outcome::Other,
     }
 }

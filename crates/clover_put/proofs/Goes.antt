@@ -9,9 +9,9 @@ use Rattle.clover_words.specs.Place.{IsWithin}
 use Rattle.clover_words.specs.Tag.{home}
 use Rattle.clover_words.specs.Version.{unlinked, buffer_at, content_at}
 use Rattle.clover_map.specs.declared.bytes.Value.{Value}
+use Rattle.clover_map.specs.History.{key_of}
 use Rattle.clover_port.specs.Told.{Open, Made}
 use Rattle.clover_rule.specs.Content.{InRange, Fits, content}
-use Rattle.clover_rule.specs.History.{named}
 use Rattle.clover_rule.specs.Lists.{Within, nth}
 use Rattle.clover_rule.specs.Asks.{Asks}
 use Rattle.clover_rule.specs.Steps.{Step, LinkNext, DecideNext, act_of, word_of}
@@ -39,7 +39,7 @@ use Rattle.clover_put.proofs.Tail.{value_is, looked, linked, decided_by, raised,
 use Rattle.clover_put.proofs.Walked.{Onward, Turned, Paid, walked_went, left_turns, step_paid}
 
 -- the key that the call of a job names
-named_is : (j : Job) (k : List ℕ) (x : Value) → named (call_of j k x) ≡ k
+named_is : (j : Job) (k : List ℕ) (x : Value) → key_of (call_of j k x) ≡ k
 named_is Put k x = refl
 named_is Delete k x = refl
 named_is (Swap t) k x = refl
@@ -60,7 +60,7 @@ module _ (p : Pool) (c : Putting) (v : View) (of : p ≡ c.walk.pool) where
     tail_in : Within (c.walk.slot, u) v.pass.durable
     tail_in = subst (λ (z : Stand). StandsOn c.walk.slot z v) at.0 h.stand
 
-    name_in : Within (c.walk.slot, named (call_at c v)) v.pass.names
+    name_in : Within (c.walk.slot, key_of (call_at c v)) v.pass.names
     name_in = subst (λ (k : List ℕ). Within (c.walk.slot, k) v.pass.names) (sym (named_is c.job (key_at v.pass.names c.walk.slot) c.value)) h.named
 
   asks_link : (u : ℕ) → PutHolds (staged c (AtLink u)) v → Fits c.walk.pool (commits c.job c.value) → Asks p (LinkNext c.walk.slot u c.own (call_at c v)) v

@@ -1,24 +1,12 @@
 // The edge of the program over a reader and a writer that make short, failed and long calls: what comes in is what was
 // there, what goes out is the whole text or a front of it, and each failed call is told by the status.
 
-use crate::support::words_of;
+use crate::support::{PRINTED, SCRIPT, words_of};
 use clover_main::{StdSink, StdSource, clover, exit};
 use std::alloc::Global;
 use std::io::{Error, ErrorKind, Read, Write};
 use std::process::ExitCode;
 use std::test::Fail;
-
-const SCRIPT: &[u8] = b"pool nodes=1 buffers=4 slots=2 words=2 wear=3 clients=1 batch=2\n\
-      call 1 put a =hello\n\
-      call 1 get a\n";
-
-const PRINTED: &[u8] = b"1 stored 0.0.0\n\
-      1 found 0.0.0 =hello\n\
-      history\n\
-      h 1 1 1 put a =hello stored 0.0.0\n\
-      h 1 1 2 get a found 0.0.0 =hello\n\
-      accesses 14\n\
-      end\n";
 
 const FAILED_READ: &[u8] = b"error read\n";
 

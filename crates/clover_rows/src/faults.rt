@@ -1,19 +1,7 @@
 // Sources and sinks that fail at each of their calls.
 
-use crate::support::{bulk, run};
+use crate::support::{PRINTED, SCRIPT, bulk, run};
 use std::test::Fail;
-
-const SCRIPT: &[u8] = b"pool nodes=1 buffers=4 slots=2 words=2 wear=3 clients=1 batch=2\n\
-                        call 1 put a =hello\n\
-                        call 1 get a\n";
-
-const PRINTED: &[u8] = b"1 stored 0.0.0\n\
-                         1 found 0.0.0 =hello\n\
-                         history\n\
-                         h 1 1 1 put a =hello stored 0.0.0\n\
-                         h 1 1 2 get a found 0.0.0 =hello\n\
-                         accesses 14\n\
-                         end\n";
 
 // the first of the two pieces in which that is put
 const ANSWERS: &[u8] = b"1 stored 0.0.0\n1 found 0.0.0 =hello\n";

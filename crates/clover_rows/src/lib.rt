@@ -9,6 +9,8 @@ mod edge;
 #[cfg(test)]
 mod faults;
 #[cfg(test)]
+mod idle;
+#[cfg(test)]
 mod long;
 #[cfg(test)]
 mod orders;

@@ -5,6 +5,21 @@ use clover_script::Bulk;
 use std::alloc::Global;
 use std::test::Fail;
 
+/// A put and a get, which several tests replay.
+pub(crate) const SCRIPT: &[u8] =
+    b"pool nodes=1 buffers=4 slots=2 words=2 wear=3 clients=1 batch=2\n\
+                                   call 1 put a =hello\n\
+                                   call 1 get a\n";
+
+/// What it prints.
+pub(crate) const PRINTED: &[u8] = b"1 stored 0.0.0\n\
+                                    1 found 0.0.0 =hello\n\
+                                    history\n\
+                                    h 1 1 1 put a =hello stored 0.0.0\n\
+                                    h 1 1 2 get a found 0.0.0 =hello\n\
+                                    accesses 14\n\
+                                    end\n";
+
 /// A list of these bytes.
 pub(crate) fn bulk(alloc: Global, bytes: &[u8]) -> Result<Bulk, Fail> {
     let mut list = Bulk::make(alloc);

@@ -2,13 +2,16 @@
 use Rattle.std.proofs.Common.{◌≡◌, ℕ, zero, suc, List, [], ◌∷◌, ◌++◌, length, length-append, append-nil, Bool, true, false, refl, sym, ap, ◌∙◌, arith, subst}
 use mathlib.Core.Logic.{dite}
 use Rattle.std.specs.Prelude.{Option, Some, None}
+use Rattle.std.specs.FinMap.{get}
 use Rattle.clover_map.specs.declared.call.Entry.{Entry}
 use Rattle.clover_map.specs.declared.bytes.Held.{Held}
-use Rattle.clover_rule.specs.History.{Version, Map, commits, ends, pair_of, leads}
+use Rattle.clover_map.specs.Tagged.{Tagged}
+use Rattle.clover_rule.specs.History.{Version, commits_at, ends, pair_of}
 use Rattle.clover_rule.specs.Lists.{nth, Within, IsPrefix}
 use Rattle.clover_rule.specs.Memory.{Mem}
 use Rattle.clover_rule.specs.Story.{Story, Tale}
 use Rattle.clover_rule.specs.Views.{Naming}
+use Rattle.clover_rule.proofs.KeyMaps.{leads, shows}
 use Rattle.clover_rule.proofs.Keys.{key_discrete}
 use Rattle.clover_rule.proofs.Histories.{leads_commits}
 use Rattle.clover_rule.proofs.Histories.{ends_more}
@@ -32,17 +35,17 @@ dead_ends (w ∷ ws) h = ap (λ (x : Option Held). ends x ws) (dead w (h zero w 
     dead : (w : Version) → w.value ≡ None → pair_of w ≡ None
     dead w e = rw e refl
 
-pub absent_map : (m : Mem) (st : Story) (f : List ℕ → ℕ) (m0 : Map) (used : List ℕ) (h : List Entry) (names : List (ℕ × List ℕ)) (k : List ℕ)
-    → Naming m st f → Tale st m0 used h → IsPrefix names st.bindings → m.count ≡ length names → ((s : ℕ) → Within (s, k) names → ⊥) → leads m0 h k ≡ None
+pub absent_map : (m : Mem) (st : Story) (f : List ℕ → ℕ) (m0 : Tagged) (used : List ℕ) (h : List Entry) (names : List (ℕ × List ℕ)) (k : List ℕ)
+    → Naming m st f → Tale st m0 used h → IsPrefix names st.bindings → m.count ≡ length names → ((s : ℕ) → Within (s, k) names → ⊥) → leads (shows m0) h k ≡ None
 absent_map m st f m0 used h names k n t p e away = go (same_option (st.keys (f k)) k)
   where
     all_named : st.bindings ≡ names
     all_named = whole_prefix names st.bindings p (sym n.counted ∙ e)
 
-    go : Dec (st.keys (f k) ≡ Some k) → leads m0 h k ≡ None
-    go (no d) = let u = t.unbound k (λ s q. d (ap st.keys (n.found s k q) ∙ q)) in leads_commits m0 h k ∙ ap (ends (m0 k)) u.1 ∙ u.0
+    go : Dec (st.keys (f k) ≡ Some k) → leads (shows m0) h k ≡ None
+    go (no d) = let u = t.unbound k (λ s q. d (ap st.keys (n.found s k q) ∙ q)) in leads_commits (shows m0) h k ∙ ap (ends (get m0 k)) u.1 ∙ u.0
     go (yes q) = named (st.named (f k)) refl
       where
-        named : (b : Bool) → st.named (f k) ≡ b → leads m0 h k ≡ None
+        named : (b : Bool) → st.named (f k) ≡ b → leads (shows m0) h k ≡ None
         named true z = absurd (away (f k) (subst (Within (f k, k)) all_named (n.listed (f k) k q z)))
-        named false z = leads_commits m0 h k ∙ ap (λ (x : Option Held). ends x (commits k h)) (sym (t.began (f k) k q)) ∙ sym (ends_more None (st.first (f k)) (commits k h)) ∙ ap (ends None) (sym (t.told (f k) k q)) ∙ dead_ends (st.log (f k)) (n.waiting (f k) k q z)
+        named false z = leads_commits (shows m0) h k ∙ ap (λ (x : Option Held). ends x (commits_at k h)) (sym (t.began (f k) k q)) ∙ sym (ends_more None (st.first (f k)) (commits_at k h)) ∙ ap (ends None) (sym (t.told (f k) k q)) ∙ dead_ends (st.log (f k)) (n.waiting (f k) k q z)

@@ -11,12 +11,14 @@ use Rattle.clover_words.proofs.Places.{has_current}
 use Rattle.clover_words.specs.Tag.{home}
 use Rattle.clover_words.specs.Version.{buffer_at, content_at}
 use Rattle.clover_map.specs.declared.call.Entry.{Entry}
+use Rattle.clover_map.specs.Key.{IsKey}
 use Rattle.clover_map.specs.Tagged.{Tagged}
 use Rattle.clover_map.specs.declared.bytes.Held.{Held}
-use Rattle.clover_rule.specs.Content.{IsKey, Spells, inside}
+use Rattle.clover_rule.specs.Content.{Spells, inside}
 use Rattle.clover_rule.specs.Cut.{IsCut, image_of, IsKnownDurable, AfterCut, CutLaw}
-use Rattle.clover_rule.specs.History.{Legal, Version, Map, shows, kept, leads, ends}
-use Rattle.clover_rule.specs.Image.{Image, IsImage, Reads, ReadsMap, missing, tags, Chain}
+use Rattle.clover_map.specs.Legal.{Legal}
+use Rattle.clover_rule.specs.History.{Version, kept, ends}
+use Rattle.clover_rule.specs.Image.{Image, IsImage, Reads, missing, tags, Chain}
 use Rattle.clover_rule.specs.Lists.{Within, nth}
 use Prim.Native.Nat.{suc}
 use Rattle.clover_rule.specs.Meets.{Meets, IsCode}
@@ -27,11 +29,12 @@ use Rattle.clover_rule.specs.Words.{guarded, mem_of, next_of, root_of}
 use Rattle.clover_rule.specs.declared.view.View.{View}
 use Rattle.clover_rule.proofs.Steps.{each_within}
 use Rattle.clover_rule.proofs.Snocs.{within_nth}
-use Rattle.clover_rule.proofs.Cuts.{last_lost, untold, legal_left, cut_stands}
+use Rattle.clover_rule.proofs.Cuts.{ReadsMap, last_lost, untold, legal_left, cut_stands}
 use Rattle.clover_rule.proofs.Rested.{cut_ages, cut_rested}
 use Rattle.clover_rule.proofs.Soundness.{cut_sound, cut_ends, bound_root as bound_key, spelled as spelled_key, chain_placed}
 use Rattle.clover_rule.proofs.Spelling.{one_key}
 use Rattle.clover_rule.proofs.Keys.{key_discrete}
+use Rattle.clover_rule.proofs.KeyMaps.{Map, shows, leads}
 use Rattle.clover_rule.proofs.TaggedMaps.{legal_history}
 use Rattle.clover_rule.proofs.Ties.{both, below, buffer_in, content_in, content_side}
 
@@ -58,19 +61,19 @@ module _ (p : Pool) (first : Tagged) (used ws : List ℕ) (vs : List View) (st :
   decoded w hw hs = ⊎_elim (λ e. subst (IsCode w) (sym e) (r.decodes w Current hw (has_current w))) (λ e. subst (IsCode w) (sym e) (r.decodes w Flushed hw hs)) (cut.copies w hw hs)
 
   abbrev sound : Sound p i
-  sound = cut_sound p (shows first) used m vs st h r.whole i is
+  sound = cut_sound p first used m vs st h r.whole i is
 
   abbrev rest : List Entry
   rest = kept (missing st i) h
 
-  legal_rest : Legal (shows first) used rest
-  legal_rest = legal_left m st r.whole.basis.core i is (shows first) used h r.whole.basis.tale
+  legal_rest : Legal first used rest
+  legal_rest = legal_left m st r.whole.basis.core i is first used h r.whole.basis.tale
 
   told_durable : (t : ℕ) → IsKnownDurable vs t → (s : ℕ) × Durable st s t
   told_durable t (v, w, (s, d)) = let x = within_nth v vs w in (s, each_within (λ (q : ℕ × ℕ). Durable st q.0 q.1) (s, t) v.pass.durable (r.whole.basis.views x.0 v x.1).durable d)
 
   reads : ReadsMap st i (leads (shows first) rest)
-  reads = cut_stands m st r.whole.basis.core i is (shows first) used h r.whole.basis.tale
+  reads = cut_stands m st r.whole.basis.core i is first used h r.whole.basis.tale
 
   -- a slot without a root reads as nothing
   bare_reads : (s : ℕ) (y : Option Held) → Reads i s y → i.root s ≡ None → y ≡ None
@@ -91,8 +94,8 @@ module _ (p : Pool) (first : Tagged) (used ws : List ℕ) (vs : List View) (st :
 
   -- a slot with a root is bound to the key that its words spell
   key_of_slot : (s t : ℕ) (k : List ℕ) → i.root s ≡ Some t → IsKey k → Spells (i.key s) k → st.keys s ≡ Some k
-  key_of_slot s t k e ik sp = let a = bound_key p (shows first) used m vs st h r.whole i is s t e in
-      a.1 ∙ ap Some (one_key (i.key s) a.0 k (r.whole.help.keyed.valid s a.0 a.1) ik (spelled_key p (shows first) used m vs st h r.whole i is s a.0 a.1) sp)
+  key_of_slot s t k e ik sp = let a = bound_key p first used m vs st h r.whole i is s t e in
+      a.1 ∙ ap Some (one_key (i.key s) a.0 k (r.whole.help.keyed.valid s a.0 a.1) ik (spelled_key p first used m vs st h r.whole i is s a.0 a.1) sp)
 
   -- what the map has where no slot with a root spells the key
   unspelled : (k : List ℕ) → ((s t : ℕ) → i.root s ≡ Some t → Spells (i.key s) k → ⊥) → leads (shows first) rest k ≡ None
@@ -100,7 +103,7 @@ module _ (p : Pool) (first : Tagged) (used ws : List ℕ) (vs : List View) (st :
     where
       no_root : (s : ℕ) → st.keys s ≡ Some k → (x : Option ℕ) → i.root s ≡ x → i.root s ≡ None
       no_root s q None e = e
-      no_root s q (Some t) e = absurd (f s t e (spelled_key p (shows first) used m vs st h r.whole i is s k q))
+      no_root s q (Some t) e = absurd (f s t e (spelled_key p first used m vs st h r.whole i is s k q))
 
   -- a key at which something is left is one
   valid_key : (k : List ℕ) → (leads (shows first) rest k ≡ None → ⊥) → IsKey k
@@ -120,21 +123,21 @@ module _ (p : Pool) (first : Tagged) (used ws : List ℕ) (vs : List View) (st :
     survives = record {
       lost = missing st i;
       without = refl;
-      last = last_lost m st r.whole.basis.core i is (shows first) used h r.whole.basis.tale;
-      untold = λ t e q. untold m st r.whole.basis.core i is (shows first) used h r.whole.basis.tale t e (told_durable t q);
-      legal = l.2;
+      last = last_lost m st r.whole.basis.core i is first used h r.whole.basis.tale;
+      untold = λ t e q. untold m st r.whole.basis.core i is first used h r.whole.basis.tale t e (told_durable t q);
+      legal = legal_rest;
     };
     map = l.0;
     leads = l.1;
     rests = record {
       sound = record { decodes = decoded; reads = sound };
       stands = record {
-        bound = λ s t k e ik sp. ap (λ (f : Map). f k) l.3 ∙ sym (cut_ends p (shows first) used m vs st h r.whole i is s t k e (key_of_slot s t k e ik sp));
-        unbound = λ k f. ap (λ (g : Map). g k) l.3 ∙ unspelled k f;
-        keys = λ k x e. valid_key k (λ z. absurd (let y = ap (λ (g : Map). g k) l.3 in cc (y, e, z)));
+        bound = λ s t k e ik sp. ap (λ (f : Map). f k) l.2 ∙ sym (cut_ends p first used m vs st h r.whole i is s t k e (key_of_slot s t k e ik sp));
+        unbound = λ k f. ap (λ (g : Map). g k) l.2 ∙ unspelled k f;
+        keys = λ k x e. valid_key k (λ z. absurd (let y = ap (λ (g : Map). g k) l.2 in cc (y, e, z)));
       };
-      ages = cut_ages p (shows first) used m vs st h r.whole outside i is;
-      worn = cut_rested p (shows first) used m vs st h r.whole outside i is;
+      ages = cut_ages p first used m vs st h r.whole outside i is;
+      worn = cut_rested p first used m vs st h r.whole outside i is;
     };
   }
 
@@ -158,9 +161,9 @@ pub nowhere : (p : Pool) (first : Tagged) (used ws : List ℕ) (vs : List View) 
     → (im : List ℕ) → IsCut p ws im → (s : ℕ) (ts : List ℕ) → Chain (image_of p im) ((image_of p im).root s) ts → (t : ℕ) → Within t ts → home t ≢ b
 nowhere p first used ws vs st h r b off im cut s ts c t w e =
     let i : Image = image_of p im in
-    let so : Sound p i = cut_sound p (shows first) used (mem_of p ws) vs st h r.whole i (is p first used ws vs st h r im cut) in
+    let so : Sound p i = cut_sound p first used (mem_of p ws) vs st h r.whole i (is p first used ws vs st h r im cut) in
     let q = place_within (so.chain s) t (subst (Within t) (same_chain i (i.root s) ts (so.chain s) c (so.walk s)) w) in
-    off s (ap st.place (sym e) ∙ chain_placed p (shows first) used (mem_of p ws) vs st h r.whole i (is p first used ws vs st h r im cut) s q.0 t q.1)
+    off s (ap st.place (sym e) ∙ chain_placed p first used (mem_of p ws) vs st h r.whole i (is p first used ws vs st h r im cut) s q.0 t q.1)
 
 pub cut_law : CutLaw
 cut_law p first used ws vs h im r cut = after p first used ws vs r.story h r.helped im cut

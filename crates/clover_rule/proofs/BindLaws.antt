@@ -5,9 +5,12 @@ use mathlib.Core.Logic.{dite}
 use Rattle.std.specs.Prelude.{Option, Some, None}
 use Rattle.std.proofs.lemmas.List.{nil_from_length}
 use Rattle.clover_words.specs.Tag.{home}
+use Rattle.std.specs.FinMap.{get}
 use Rattle.clover_map.specs.declared.call.Entry.{Entry}
-use Rattle.clover_rule.specs.Content.{spelling, Fits, IsKey}
-use Rattle.clover_rule.specs.History.{Version, Map, commits, ends, at_key}
+use Rattle.clover_map.specs.Key.{IsKey}
+use Rattle.clover_map.specs.Tagged.{Tagged}
+use Rattle.clover_rule.specs.Content.{spelling, Fits}
+use Rattle.clover_rule.specs.History.{Version, commits_at, ends}
 use Rattle.clover_rule.specs.Lists.{nth, upd}
 use Rattle.clover_rule.specs.Memory.{gen, Mem}
 use Rattle.clover_rule.specs.Server.{Ready, IsStoring, Stage, Help, is_home, book_of, Serves, Whole, or_else, root_in}
@@ -20,6 +23,7 @@ use Rattle.clover_rule.specs.declared.view.Role.TheVariants.{Serving}
 use Rattle.clover_rule.specs.declared.view.ServerTask.TheVariants.{Storing, Rooted}
 use Rattle.clover_rule.specs.declared.view.View.{View}
 use Rattle.clover_words.specs.declared.pool.Pool.{Pool}
+use Rattle.clover_rule.proofs.KeyMaps.{at_key}
 use Rattle.clover_rule.proofs.Keys.{at_key_same, at_key_else}
 use Rattle.clover_rule.proofs.Spelling.{dead_word}
 use Rattle.clover_rule.proofs.Tools.{upd_same, upd_else, nth_within}
@@ -34,7 +38,7 @@ use Rattle.clover_rule.proofs.Cuts.{unread_less, unsure_less}
 pub unrooted : (m : Mem) (st : Story) (s : ℕ) → Core m st → length (st.log s) ≡ 0 → m.froot s ≡ None
 unrooted m st s c e = ⊎_elim (λ q. q ∙ ap (λ (ws : List Version). tag_in_version (nth ws (st.flead s))) (nil_from_length (st.log s) e)) (λ q. q.empty) (c.froot s)
 
-module _ (l : Pool) (m0 : Map) (used : List ℕ) (m : Mem) (vs : List View) (id : ℕ) (v : View) (st : Story) (h : List Entry) (w : Whole l m0 used m vs st h) (at : nth vs id ≡ Some v) (role : v.pass.role ≡ Serving)
+module _ (l : Pool) (m0 : Tagged) (used : List ℕ) (m : Mem) (vs : List View) (id : ℕ) (v : View) (st : Story) (h : List Entry) (w : Whole l m0 used m vs st h) (at : nth vs id ≡ Some v) (role : v.pass.role ≡ Serving)
     (bind : NewBinding) (e : v.server.task ≡ Storing bind (2 + length (spelling bind.key) + length (spelling bind.key))) where
   abbrev s : ℕ
   s = bind.slot
@@ -94,7 +98,7 @@ module _ (l : Pool) (m0 : Map) (used : List ℕ) (m : Mem) (vs : List View) (id 
   bound_case : (s1 : ℕ) (k1 : List ℕ) → st1.keys s1 ≡ Some k1 → ((s1 ≡ s) × (k1 ≡ k)) ⊎ ((s1 ≢ s) × (st.keys s1 ≡ Some k1))
   bound_case s1 k1 q = dite (ℕ_discrete s1 s) (λ d. inl (d, let z : Some k ≡ Some k1 = sym key_now ∙ ap st1.keys (sym d) ∙ q in cc)) (λ d. inr (d, sym (key_else s1 d) ∙ q))
 
-  silent : (m0 k ≡ None) × (commits k h ≡ [])
+  silent : (get m0 k ≡ None) × (commits_at k h ≡ [])
   silent = r.tale.unbound k is.absent
 
   gone_zero : st.gone s ≡ 0
@@ -122,10 +126,10 @@ module _ (l : Pool) (m0 : Map) (used : List ℕ) (m : Mem) (vs : List View) (id 
   tale1 = record {
     legal = r.tale.legal;
     told = λ s1 k1 q. ⊎_elim
-        (λ d. ap st1.log d.0 ∙ log_now ∙ sym (ap (λ (ws : List Version). (x ∷ []) ++ ws) (ap (λ (a : List ℕ). commits a h) d.1 ∙ silent.1)) ∙ sym (ap (λ (ws : List Version). ws ++ commits k1 h) (ap st1.first d.0 ∙ upd_same st.first s (x ∷ []))))
-        (λ d. log_else s1 d.0 ∙ r.tale.told s1 k1 d.1 ∙ ap (λ (ws : List Version). ws ++ commits k1 h) (sym (upd_else st.first s s1 (x ∷ []) d.0))) (bound_case s1 k1 q);
+        (λ d. ap st1.log d.0 ∙ log_now ∙ sym (ap (λ (ws : List Version). (x ∷ []) ++ ws) (ap (λ (a : List ℕ). commits_at a h) d.1 ∙ silent.1)) ∙ sym (ap (λ (ws : List Version). ws ++ commits_at k1 h) (ap st1.first d.0 ∙ upd_same st.first s (x ∷ []))))
+        (λ d. log_else s1 d.0 ∙ r.tale.told s1 k1 d.1 ∙ ap (λ (ws : List Version). ws ++ commits_at k1 h) (sym (upd_else st.first s s1 (x ∷ []) d.0))) (bound_case s1 k1 q);
     began = λ s1 k1 q. ⊎_elim
-        (λ d. ap (ends None) (ap st1.first d.0 ∙ upd_same st.first s (x ∷ [])) ∙ sym silent.0 ∙ ap m0 (sym d.1))
+        (λ d. ap (ends None) (ap st1.first d.0 ∙ upd_same st.first s (x ∷ [])) ∙ sym silent.0 ∙ ap (get m0) (sym d.1))
         (λ d. ap (ends None) (upd_else st.first s s1 (x ∷ []) d.0) ∙ r.tale.began s1 k1 d.1) (bound_case s1 k1 q);
     unread = unread_less (unsure st) (unsure st1) less_unsure h r.tale.unread;
     settled = λ s1 i y q. dite (ℕ_discrete s1 s)

@@ -8,7 +8,6 @@ use Rattle.clover_words.specs.declared.word.Side.TheVariants.{Current, Flushed}
 use Rattle.clover_words.specs.Version.{buffer_at, content_at}
 use Rattle.clover_map.specs.Tagged.{Tagged}
 use Rattle.clover_rule.specs.Content.{inside}
-use Rattle.clover_rule.specs.History.{shows}
 use Rattle.clover_rule.specs.Image.{Image}
 use Rattle.clover_rule.specs.Laws.{BlankLaw, IsBlank}
 use Rattle.clover_rule.specs.Meets.{IsCode}
@@ -18,6 +17,7 @@ use Rattle.clover_rule.specs.Sound.{Sound}
 use Rattle.clover_rule.specs.Views.{book, free_or_worn}
 use Rattle.clover_rule.specs.Words.{mem_of, guarded, next_of, root_of}
 use Rattle.clover_rule.specs.declared.view.BufferState.TheVariants.{Free as IsFree, Worn as IsWorn}
+use Rattle.clover_rule.proofs.KeyMaps.{shows}
 use Rattle.clover_rule.proofs.Ties.{mem_path}
 
 abbrev pub blank_image : Image
@@ -73,7 +73,7 @@ module _ (p : Pool) (first : Tagged) (ws : List ℕ) (blank : IsBlank p ws) (emp
   words_are : mem_of p ws ≡ blank_mem
   words_are = blank_words p ws blank
 
-  opens : Opens p blank_image (blank_sound p) (shows first) [] (mem_of p ws)
+  opens : Opens p blank_image (blank_sound p) first [] (mem_of p ws)
   unfolding blank_sound
   opens = record {
     next = λ b. (ap (λ (m : Mem). m.next b) words_are, ap (λ (m : Mem). m.fnext b) words_are);

@@ -5,8 +5,9 @@ use mathlib.Core.Logic.{dite}
 use Rattle.std.specs.Prelude.{Some}
 use Rattle.clover_words.specs.Tag.{home}
 use Rattle.clover_map.specs.declared.call.Entry.{Entry}
+use Rattle.clover_map.specs.Tagged.{Tagged}
 use Rattle.clover_rule.specs.Changes.{raised_mem, raised_story}
-use Rattle.clover_rule.specs.History.{Map, used_by}
+use Rattle.clover_map.specs.Legal.{used_by}
 use Rattle.clover_rule.specs.Lists.{nth, upd, Within}
 use Rattle.clover_rule.specs.Memory.{Mem}
 use Rattle.clover_rule.specs.Server.{AtStage, Whole}
@@ -25,7 +26,7 @@ use Rattle.clover_rule.proofs.RaiseLaw.{known, grows as raise_grows, rule' as ra
 use Rattle.clover_rule.proofs.Raising.{raised_higher}
 use Rattle.clover_rule.proofs.Quiet.{quiet}
 
-module _ (l : Pool) (m0 : Map) (used : List ℕ) (m : Mem) (vs : List View) (st : Story) (h : List Entry) (w : Whole l m0 used m vs st h) (id : ℕ) (v : View) (at : nth vs id ≡ Some v) where
+module _ (l : Pool) (m0 : Tagged) (used : List ℕ) (m : Mem) (vs : List View) (st : Story) (h : List Entry) (w : Whole l m0 used m vs st h) (id : ℕ) (v : View) (at : nth vs id ≡ Some v) where
   abbrev r : Basis m0 used m vs st h
   r = w.basis
 

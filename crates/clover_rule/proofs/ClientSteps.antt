@@ -5,9 +5,11 @@ use mathlib.Core.Logic.{dite}
 use Rattle.std.specs.Prelude.{Option, Some, None}
 use Rattle.clover_words.specs.Tag.{home, age}
 use Rattle.clover_map.specs.declared.call.Entry.{Entry}
+use Rattle.clover_map.specs.Tagged.{Tagged}
 use Rattle.clover_rule.specs.Changes.{linked_mem, linked_story, raised_mem, raised_story}
 use Rattle.clover_rule.specs.Content.{InRange, Fits}
-use Rattle.clover_rule.specs.History.{Version, Map, used_by}
+use Rattle.clover_map.specs.Legal.{used_by}
+use Rattle.clover_rule.specs.History.{Version}
 use Rattle.clover_rule.specs.Lists.{Each, nth, Within}
 use Rattle.clover_rule.specs.Memory.{word, gen, Mem, greater}
 use Rattle.clover_rule.specs.Server.{Ready, IsWaiting, IsRecycling, AtStage, Help, lagging, or_else, root_in, is_home, book_of, Serves, Whole}
@@ -30,12 +32,8 @@ use Rattle.clover_rule.proofs.ServerTools.{book_same}
 use Rattle.clover_rule.proofs.Raising.{raised_below}
 use Rattle.clover_rule.proofs.Raising.{CanRaise, order_below, order_self}
 
-pub each_snoc : {A : Type 0} (P : A → Type 0) (xs : List A) (x : A) → Each P xs → P x → Each P (xs ++ x ∷ [])
-each_snoc P [] x e p = (p, tt)
-each_snoc P (y ∷ ys) x e p = (e.0, each_snoc P ys x e.1 p)
-
 -- any step of a client, from the rule after it and what it keeps
-module _ (l : Pool) (m0 : Map) (used : List ℕ) (m : Mem) (vs : List View) (st : Story) (h : List Entry) (w : Whole l m0 used m vs st h)
+module _ (l : Pool) (m0 : Tagged) (used : List ℕ) (m : Mem) (vs : List View) (st : Story) (h : List Entry) (w : Whole l m0 used m vs st h)
     (id : ℕ) (v v' : View) (at : nth vs id ≡ Some v) (n : ℕ) (role : v.pass.role ≡ Client n) (same : v'.pass.role ≡ v.pass.role) (m' : Mem) (st' : Story) (h' : List Entry)
     (rule : Basis m0 used m' (renewed vs id v') st' h') (help : Help l m' st') (serves : (sv : Server) → Serves l m st st.task sv → Serves l m' st' st'.task sv)
     (safe : Each (λ (t : ℕ). (age t < l.wear) × (age t ≤ gen (m'.fnext (home t)))) (used_by used h'))

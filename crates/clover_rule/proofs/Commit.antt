@@ -8,9 +8,15 @@ use Rattle.clover_map.specs.declared.bytes.Value.{Value}
 use Rattle.clover_map.specs.declared.call.Call.{Call}
 use Rattle.clover_map.specs.declared.call.Reply.{Reply}
 use Rattle.clover_map.specs.declared.call.Entry.{Entry}
+use Rattle.clover_map.specs.History.{key_of}
+use Rattle.clover_map.proofs.Parts.{own_push, own_push_other}
+use Rattle.clover_map.specs.Tagged.{Tagged}
+use Rattle.clover_map.specs.Tags.{IsFresh}
+use Rattle.std.specs.List.{cons_option}
 use Rattle.clover_rule.specs.Changes.{linked_mem, linked_story}
 use Rattle.std.specs.Str.{bytes_eq}
-use Rattle.clover_rule.specs.History.{Version, Map, own, used_by, commits, joined, key_of, commit_of, lost_in, Fresh, grown, Does, named, committed, leads}
+use Rattle.clover_map.specs.Legal.{used_by}
+use Rattle.clover_rule.specs.History.{Version, commits_at, entry_key, commit_of, lost_in, committed}
 use Rattle.clover_rule.specs.Knowing.{MayLink, link_entry, link_view}
 use Rattle.clover_rule.specs.Lists.{Each, nth, Within}
 use Rattle.clover_rule.specs.Memory.{word, gen, Mem}
@@ -20,12 +26,14 @@ use Rattle.clover_rule.specs.declared.view.Content.{Content}
 use Rattle.clover_rule.specs.declared.view.Role.{Role}
 use Rattle.clover_rule.specs.declared.view.Role.TheVariants.{Client}
 use Rattle.clover_rule.specs.declared.view.View.{View}
+use Rattle.clover_rule.proofs.KeyMaps.{leads, shows}
+use Rattle.clover_rule.proofs.TaggedMaps.{Permits, new_some, fresh_all}
 use Rattle.clover_rule.proofs.Tools.{upd_same, upd_else, nth_within, nth_snoc, nth_front}
 use Rattle.clover_rule.proofs.Standings.{same_tag}
 use Rattle.clover_rule.proofs.Keys.{eq_key, ne_key}
-use Rattle.clover_rule.proofs.Histories.{legal_snoc, commits_snoc}
+use Rattle.clover_rule.proofs.Histories.{legal_snoc, commits_snoc, commits_first}
 use Rattle.clover_rule.proofs.Linking.{CanLink, link_core, u_last, u_sure, gens, u_stands, tag_else, tag_new}
-use Rattle.clover_rule.proofs.Snocs.{unread_snoc, fresh_commit, within_nth, within_commits, within_back, used_snoc, own_snoc}
+use Rattle.clover_rule.proofs.Snocs.{unread_snoc, fresh_commit, within_nth, within_commits, within_back, each_used}
 use Rattle.clover_rule.proofs.Steps.{each_map, each_within, prefix_self, within_prefix, Grows, Leaves, view_kept, nth_set, set_here, link_kept, durable_kept, past_kept, copied_kept, role_was}
 
 version_kept : (st : Story) (s : ℕ) (w : Version) (s' i : ℕ) (x : Version) → nth (st.log s') i ≡ Some x → nth ((linked_story st s w).log s') i ≡ Some x
@@ -35,8 +43,8 @@ version_kept st s w s' i x e = go (ℕ_discrete s' s)
     go (yes d) = ap (λ (ws : List Version). nth ws i) (ap (linked_story st s w).log d ∙ upd_same st.log s (st.log s ++ w ∷ [])) ∙ nth_front (st.log s) w i (let f : nth (st.log s) i ≡ Some x = ap (λ (j : ℕ). nth (st.log j) i) (sym d) ∙ e in let q = nth_within (st.log s) i x f in (λ z. omega arith)) ∙ ap (λ (j : ℕ). nth (st.log j) i) (sym d) ∙ e
     go (no n) = ap (λ (ws : List Version). nth ws i) (upd_else st.log s s' (st.log s ++ w ∷ []) n) ∙ e
 
-module _ (m0 : Map) (used : List ℕ) (m : Mem) (vs : List View) (st : Story) (h : List Entry) (r : Basis m0 used m vs st h)
-    (id : ℕ) (v : View) (at : nth vs id ≡ Some v) (n s : ℕ) (k : List ℕ) (u t : ℕ) (y : Option Value) (call : Call) (reply : Reply) (rest : List ℕ) (p : MayLink v n s k u t y rest) (nm : named call ≡ k) (cm : committed call reply ≡ Some (record { tag = t; value = y })) (does : Fresh t (used_by used h) → Does (leads m0 h k) (used_by used h) call reply) (found : m.next (home u) ≡ word (age u) None) where
+module _ (m0 : Tagged) (used : List ℕ) (m : Mem) (vs : List View) (st : Story) (h : List Entry) (r : Basis m0 used m vs st h)
+    (id : ℕ) (v : View) (at : nth vs id ≡ Some v) (n s : ℕ) (k : List ℕ) (u t : ℕ) (y : Option Value) (call : Call) (reply : Reply) (rest : List ℕ) (p : MayLink v n s k u t y rest) (nm : key_of call ≡ k) (cm : committed call reply ≡ Some (record { tag = t; value = y })) (does : IsFresh (used_by used h) t → Permits (leads (shows m0) h k) (used_by used h) call reply) (found : m.next (home u) ≡ word (age u) None) where
   abbrev w : Version
   w = record { tag = t; value = y }
 
@@ -82,8 +90,8 @@ module _ (m0 : Map) (used : List ℕ) (m : Mem) (vs : List View) (st : Story) (h
   sure_all : st.sure s ≡ suc place_of
   sure_all = u_sure m st s u place_of id w r.core can
 
-  fresh : Fresh t (used_by used h)
-  fresh = each_map (λ y d q. ⊎_elim (λ a. let b = owned.1 in let f1 = ap age q in let f2 = ap gen (ap m.next (ap home q)) in absurd (omega arith)) (λ a. absurd (cc (ap st.place (ap home q), a.1, owned.0))) d) (used_by used h) r.spent
+  fresh : IsFresh (used_by used h) t
+  fresh = fresh_all (used_by used h) t (each_map (λ y d q. ⊎_elim (λ a. let b = owned.1 in let f1 = ap age q in let f2 = ap gen (ap m.next (ap home q)) in absurd (omega arith)) (λ a. absurd (cc (ap st.place (ap home q), a.1, owned.0))) d) (used_by used h) r.spent)
 
   pub grows : Grows m st h m' st' h'
   grows = record {
@@ -108,10 +116,10 @@ module _ (m0 : Map) (used : List ℕ) (m : Mem) (vs : List View) (st : Story) (h
   new_tag = ap (tag_at st' s) (sym last) ∙ tag_new st s w
 
   -- a version committed in the history stands at a place before the new one
-  committed_at : (x1 : Entry) (y : Version) → Within x1 h → commit_of x1 ≡ Some y → key_of x1 ≡ k → (unsure st' y.tag ≡ false)
+  committed_at : (x1 : Entry) (y : Version) → Within x1 h → commit_of x1 ≡ Some y → entry_key x1 ≡ k → (unsure st' y.tag ≡ false)
   committed_at x1 y in_h c q =
-      let a : Within y (commits k h) = subst (λ (j : List ℕ). Within y (commits j h)) q (within_commits h x1 y in_h c) in
-      let b : Within y (st.log s) = subst (Within y) (sym (r.tale.told s k slot_bound.0)) (within_back y (st.first s) (commits k h) a) in
+      let a : Within y (commits_at k h) = subst (λ (j : List ℕ). Within y (commits_at j h)) q (within_commits h x1 y in_h c) in
+      let b : Within y (st.log s) = subst (Within y) (sym (r.tale.told s k slot_bound.0)) (within_back y (st.first s) (commits_at k h) a) in
       let f = within_nth y (st.log s) b in
       let g = r.core.spotted s f.0 y.tag (ap tag_in_version f.1) in
       let d : y.tag ≢ t = fresh_commit used h t fresh x1 y in_h c in
@@ -122,40 +130,40 @@ module _ (m0 : Map) (used : List ℕ) (m : Mem) (vs : List View) (st : Story) (h
       let test : leb (st.sure s) f.0 ≡ false = grind (arith, nat_tests) in
       rw (g0, g1) test
 
-  unread_after : (x1 : Entry) → Within x1 h → lost_in (unsure st') (commit_of x1) ≡ true → (lost_in (unsure st) (commit_of x1) ≡ true) × (k ≢ key_of x1)
+  unread_after : (x1 : Entry) → Within x1 h → lost_in (unsure st') (commit_of x1) ≡ true → (lost_in (unsure st) (commit_of x1) ≡ true) × (k ≢ entry_key x1)
   unread_after x1 in_h = go (commit_of x1) refl
     where
-      go : (o : Option Version) → commit_of x1 ≡ o → lost_in (unsure st') o ≡ true → (lost_in (unsure st) o ≡ true) × (k ≢ key_of x1)
+      go : (o : Option Version) → commit_of x1 ≡ o → lost_in (unsure st') o ≡ true → (lost_in (unsure st) o ≡ true) × (k ≢ entry_key x1)
       go None c q = absurd (true≢false (sym q))
       go (Some y) c q = let d : y.tag ≢ t = fresh_commit used h t fresh x1 y in_h c in (
         sym (ap (λ (a : ℕ). leb (st.sure a) (st'.rank y.tag)) (upd_else st.slot_of t y.tag s d) ∙ ap (λ (a : ℕ). leb (st.sure (st.slot_of y.tag)) a) (upd_else st.rank t y.tag (length (st.log s)) d)) ∙ q,
         λ f. true≢false (sym q ∙ committed_at x1 y in_h c (sym f)),
       )
 
-  own_commit : commits k (e ∷ []) ≡ w ∷ []
-  own_commit = ap (λ (j : List ℕ). cond (bytes_eq j k) (joined (committed call reply) []) []) nm ∙ ap (λ (o : Option Version). cond (bytes_eq k k) (joined o []) []) cm ∙ ap (λ (b : Bool). cond b (w ∷ []) []) (eq_key k k refl)
+  own_commit : commits_at k (e ∷ []) ≡ w ∷ []
+  own_commit = commits_first k e [] ∙ ap (λ (j : List ℕ). cond (bytes_eq j k) (cons_option (committed call reply) []) []) nm ∙ ap (λ (o : Option Version). cond (bytes_eq k k) (cons_option o []) []) cm ∙ ap (λ (b : Bool). cond b (w ∷ []) []) (eq_key k k refl)
 
-  else_commit : (k1 : List ℕ) → k ≢ k1 → commits k1 (e ∷ []) ≡ []
-  else_commit k1 d = ap (λ (j : List ℕ). cond (bytes_eq j k1) (joined (committed call reply) []) []) nm ∙ ap (λ (b : Bool). cond b (joined (committed call reply) []) []) (ne_key k k1 d)
+  else_commit : (k1 : List ℕ) → k ≢ k1 → commits_at k1 (e ∷ []) ≡ []
+  else_commit k1 d = commits_first k1 e [] ∙ ap (λ (j : List ℕ). cond (bytes_eq j k1) (cons_option (committed call reply) []) []) nm ∙ ap (λ (b : Bool). cond b (cons_option (committed call reply) []) []) (ne_key k k1 d)
 
-  told' : (s1 : ℕ) (k1 : List ℕ) → st.keys s1 ≡ Some k1 → st'.log s1 ≡ st.first s1 ++ commits k1 h'
+  told' : (s1 : ℕ) (k1 : List ℕ) → st.keys s1 ≡ Some k1 → st'.log s1 ≡ st.first s1 ++ commits_at k1 h'
   told' s1 k1 q = go (ℕ_discrete s1 s)
     where
-      go : Dec (s1 ≡ s) → st'.log s1 ≡ st.first s1 ++ commits k1 h'
+      go : Dec (s1 ≡ s) → st'.log s1 ≡ st.first s1 ++ commits_at k1 h'
       go (yes d) = let f : k1 ≡ k = cc (q, slot_bound.0, ap st.keys d) in
-          rw (d, f) (upd_same st.log s (st.log s ++ w ∷ []) ∙ ap (λ (ws : List Version). ws ++ w ∷ []) (r.tale.told s k slot_bound.0) ∙ append_assoc (st.first s) (commits k h) (w ∷ [])
-          ∙ ap (λ (ws : List Version). st.first s ++ ws) (sym (commits_snoc k h e ∙ ap (λ (ws : List Version). commits k h ++ ws) own_commit)))
+          rw (d, f) (upd_same st.log s (st.log s ++ w ∷ []) ∙ ap (λ (ws : List Version). ws ++ w ∷ []) (r.tale.told s k slot_bound.0) ∙ append_assoc (st.first s) (commits_at k h) (w ∷ [])
+          ∙ ap (λ (ws : List Version). st.first s ++ ws) (sym (commits_snoc k h e ∙ ap (λ (ws : List Version). commits_at k h ++ ws) own_commit)))
       go (no d) = let f : k ≢ k1 = λ z. d (r.keyed s1 s k1 q (slot_bound.0 ∙ ap Some z)) in
-          upd_else st.log s s1 (st.log s ++ w ∷ []) d ∙ r.tale.told s1 k1 q ∙ ap (λ (ws : List Version). st.first s1 ++ ws) (sym (commits_snoc k1 h e ∙ ap (λ (ws : List Version). commits k1 h ++ ws) (else_commit k1 f) ∙ append-nil (commits k1 h)))
+          upd_else st.log s s1 (st.log s ++ w ∷ []) d ∙ r.tale.told s1 k1 q ∙ ap (λ (ws : List Version). st.first s1 ++ ws) (sym (commits_snoc k1 h e ∙ ap (λ (ws : List Version). commits_at k1 h ++ ws) (else_commit k1 f) ∙ append-nil (commits_at k1 h)))
 
   tale' : Tale st' m0 used h'
   tale' = record {
-    legal = legal_snoc m0 used h e r.tale.legal (subst (λ (j : List ℕ). Does (leads m0 h j) (used_by used h) call reply) (sym nm) (does fresh));
+    legal = legal_snoc m0 used h e r.tale.legal (subst (λ (j : List ℕ). Permits (leads (shows m0) h j) (used_by used h) call reply) (sym nm) (does fresh));
     told = told';
     began = r.tale.began;
     unread = unread_snoc (unsure st) (unsure st') h e r.tale.unread (λ x1 a b. let z = unread_after x1 a b in (z.0, λ q. z.1 (sym nm ∙ q)));
     settled = r.tale.settled;
-    unbound = λ k1 f. let z = r.tale.unbound k1 f in (z.0, commits_snoc k1 h e ∙ ap (λ (ws : List Version). commits k1 h ++ ws) (else_commit k1 (λ q. f s (slot_bound.0 ∙ ap Some q))) ∙ append-nil (commits k1 h) ∙ z.1);
+    unbound = λ k1 f. let z = r.tale.unbound k1 f in (z.0, commits_snoc k1 h e ∙ ap (λ (ws : List Version). commits_at k1 h ++ ws) (else_commit k1 (λ q. f s (slot_bound.0 ∙ ap Some q))) ∙ append-nil (commits_at k1 h) ∙ z.1);
   }
 
   holds_new : Holds m' w
@@ -182,7 +190,7 @@ module _ (m0 : Map) (used : List ℕ) (m : Mem) (vs : List View) (st : Story) (h
   spent_new = inr (s, upd_same st.place (home t) (Chained s), sym (gens' (home t) ∙ owned.1))
 
   spent' : Each (Spent m' st') (used_by used h')
-  spent' = subst (Each (Spent m' st')) (sym (used_snoc used h e ∙ ap (grown (used_by used h)) cm)) (spent_new, each_map spent_kept (used_by used h) r.spent)
+  spent' = each_used (Spent m' st') used h e (each_map spent_kept (used_by used h) r.spent) (subst (Each (Spent m' st')) (sym (new_some call reply w cm)) (spent_new, tt))
 
   parts_apart : Each (λ (y : ℕ). home y ≢ home t) rest × Apart rest
   parts_apart = subst Apart p.stock ok.apart
@@ -221,7 +229,7 @@ module _ (m0 : Map) (used : List ℕ) (m : Mem) (vs : List View) (st : Story) (h
   word_now = (let a = gens' (home u) in let b = ap gen found in omega arith, inr (record { slot = s; from = u; to = t }, link_now, refl, refl, refl))
 
   own_new_calls : OwnCalls v.pass.role v.pass.calls h → OwnCalls v.pass.role (v.pass.calls ++ e ∷ []) h'
-  own_new_calls = subst (λ (o : Role). OwnCalls o v.pass.calls h → OwnCalls o (v.pass.calls ++ e ∷ []) h') (sym p.client) (λ q. ap (λ (xs : List Entry). xs ++ e ∷ []) q ∙ sym (own_snoc n h e ∙ ap (λ (b : Bool). own n h ++ cond b (e ∷ []) []) (eq-eqb n n refl)))
+  own_new_calls = subst (λ (o : Role). OwnCalls o v.pass.calls h → OwnCalls o (v.pass.calls ++ e ∷ []) h') (sym p.client) (λ q. ap (λ (xs : List Entry). xs ++ e ∷ []) q ∙ sym (own_push h e))
 
   new_ok : ViewOk m' st' h' id v'
   new_ok = record {
@@ -246,7 +254,7 @@ module _ (m0 : Map) (used : List ℕ) (m : Mem) (vs : List View) (st : Story) (h
       go : ((i ≡ id) × (v' ≡ v1)) ⊎ ((i ≢ id) × (nth vs i ≡ Some v1)) → ViewOk m' st' h' i v1
       go (inl a) = rw (a.0, ← a.1) new_ok
       go (inr a) = view_kept m st h m' st' h' grows i v1 (λ b o. leaves i b (λ f. let g = ap st.place f in absurd (a.0 (cc (g, o, owned.0)))) o)
-          (λ c f. own_snoc c h e ∙ ap (λ (b : Bool). own c h ++ cond b (e ∷ []) []) (ne_eqb n c (λ g. a.0 (r.numbered i id n v1 v a.1 at (f ∙ ap Client (sym g)) p.client))) ∙ append-nil (own c h)) (r.views i v1 a.1)
+          (λ c f. own_push_other h e c (λ g. a.0 (r.numbered i id n v1 v a.1 at (f ∙ ap Client (sym g)) p.client))) (r.views i v1 a.1)
 
   numbered' : Numbered (renewed vs id v')
   numbered' i j c a b qa qb ra rb = let x = role_was vs id v v' at refl i a qa in let y = role_was vs id v v' at refl j b qb in r.numbered i j c x.0 y.0 x.1 y.1 (x.2 ∙ ra) (y.2 ∙ rb)

@@ -5,7 +5,8 @@ use mathlib.Core.Logic.{dite}
 use Rattle.std.specs.Prelude.{Option, Some, None}
 use Rattle.clover_words.specs.Tag.{home}
 use Rattle.clover_map.specs.declared.call.Entry.{Entry}
-use Rattle.clover_rule.specs.History.{Version, Map}
+use Rattle.clover_map.specs.Tagged.{Tagged}
+use Rattle.clover_rule.specs.History.{Version}
 use Rattle.clover_rule.specs.Lists.{upd}
 use Rattle.clover_rule.specs.Memory.{gen, link, Mem}
 use Rattle.clover_rule.specs.Server.{Ready, moving, unnamed, holding, IsStoring, Stage, root_in, is_home, book_of, waiting_name, Serves, Whole}
@@ -24,7 +25,7 @@ use Rattle.clover_rule.proofs.Steps.{prefix_self}
 use Rattle.clover_rule.proofs.ServerTools.{core_copy, Moves, book_same, tale_copy}
 use Rattle.clover_rule.proofs.Roots.{hold_core}
 
-module _ (l : Pool) (m0 : Map) (used : List ℕ) (m : Mem) (vs : List View) (st : Story) (h : List Entry) (w : Whole l m0 used m vs st h)
+module _ (l : Pool) (m0 : Tagged) (used : List ℕ) (m : Mem) (vs : List View) (st : Story) (h : List Entry) (w : Whole l m0 used m vs st h)
     (b0 : ℕ) (lone : link (m.next b0) ≡ None) (loose : (s : ℕ) → st.place b0 ≢ Chained s) (unstocked : (j : ℕ) → st.place b0 ≢ Stocked j)
     (B FB K FK : ℕ → ℕ → ℕ) (T' : ServerTask) (body_else : (b : ℕ) → b ≢ b0 → B b ≡ m.body b) (fbody_else : (b : ℕ) → b ≢ b0 → FB b ≡ m.fbody b)
     (key_else : (s : ℕ) (k : List ℕ) → st.keys s ≡ Some k → K s ≡ m.key s) (fkey_else : (s : ℕ) (k : List ℕ) → st.keys s ≡ Some k → FK s ≡ m.fkey s) where

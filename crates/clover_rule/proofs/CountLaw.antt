@@ -6,7 +6,10 @@ use Rattle.clover_words.specs.Tag.{home, age}
 use Rattle.clover_map.specs.declared.call.Call.{Call}
 use Rattle.clover_map.specs.declared.call.Reply.{Reply}
 use Rattle.clover_map.specs.declared.call.Entry.{Entry}
-use Rattle.clover_rule.specs.History.{Version, Map, used_by, commits, key_of, commit_of, lost_in, grown, Does, named, committed, leads}
+use Rattle.clover_map.specs.History.{key_of}
+use Rattle.clover_map.specs.Tagged.{Tagged}
+use Rattle.clover_map.specs.Legal.{used_by}
+use Rattle.clover_rule.specs.History.{Version, commits_at, entry_key, commit_of, lost_in, committed}
 use Rattle.clover_rule.specs.Knowing.{link_entry}
 use Rattle.clover_rule.specs.Lists.{Each, nth, Within}
 use Rattle.clover_rule.specs.Memory.{gen, Mem}
@@ -18,13 +21,16 @@ use Rattle.clover_rule.specs.declared.view.ServerTask.{ServerTask}
 use Rattle.clover_rule.specs.declared.view.ServerTask.TheVariants.{Idle, Storing, Rooted, Waiting, Loaded, Raised, Led, Both, Exchanged}
 use Rattle.clover_rule.specs.declared.view.View.{View}
 use Rattle.clover_words.specs.declared.pool.Pool.{Pool}
+use Rattle.clover_rule.proofs.Tools.{each_both}
+use Rattle.clover_rule.proofs.KeyMaps.{leads, shows}
+use Rattle.clover_rule.proofs.TaggedMaps.{Permits, new_none}
 use Rattle.clover_rule.proofs.Tools.{nth_within}
-use Rattle.clover_rule.proofs.Snocs.{within_nth, within_commits, within_back, used_snoc}
+use Rattle.clover_rule.proofs.Snocs.{within_nth, within_commits, within_back, each_used}
 use Rattle.clover_rule.proofs.AbsentLaw.{same_option, absent_map, whole_prefix}
 use Rattle.clover_rule.proofs.Uncommitted.{answered, answered_rule}
-use Rattle.clover_rule.proofs.ClientSteps.{each_snoc, client_whole}
+use Rattle.clover_rule.proofs.ClientSteps.{client_whole}
 
-module _ (l : Pool) (m0 : Map) (used : List ℕ) (m : Mem) (vs : List View) (st : Story) (h : List Entry) (w : Whole l m0 used m vs st h)
+module _ (l : Pool) (m0 : Tagged) (used : List ℕ) (m : Mem) (vs : List View) (st : Story) (h : List Entry) (w : Whole l m0 used m vs st h)
     (id : ℕ) (v : View) (at : nth vs id ≡ Some v) (k : List ℕ) (missing : (s : ℕ) → Within (s, k) v.pass.names → ⊥) (found : m.count ≡ length v.pass.names) where
   abbrev r : Basis m0 used m vs st h
   r = w.basis
@@ -33,7 +39,7 @@ module _ (l : Pool) (m0 : Map) (used : List ℕ) (m : Mem) (vs : List View) (st 
   ok = r.views id v at
 
   -- the map has nothing at the key
-  pub absent_now : leads m0 h k ≡ None
+  pub absent_now : leads (shows m0) h k ≡ None
   absent_now = absent_map m st st.slot_named m0 used h v.pass.names k w.help.naming r.tale ok.names found missing
 
   all_named : st.bindings ≡ v.pass.names
@@ -51,20 +57,20 @@ module _ (l : Pool) (m0 : Map) (used : List ℕ) (m : Mem) (vs : List View) (st 
   alone (Both cycle) g s1 e = absurd cc
   alone (Exchanged cycle) g s1 e = absurd cc
 
-  unread_after : (x1 : Entry) → Within x1 h → lost_in (unsure st) (commit_of x1) ≡ true → k ≢ key_of x1
+  unread_after : (x1 : Entry) → Within x1 h → lost_in (unsure st) (commit_of x1) ≡ true → k ≢ entry_key x1
   unread_after x1 in_h q f = go (commit_of x1) refl q (sym f)
     where
-      go : (o : Option Version) → commit_of x1 ≡ o → lost_in (unsure st) o ≡ true → key_of x1 ≡ k → ⊥
+      go : (o : Option Version) → commit_of x1 ≡ o → lost_in (unsure st) o ≡ true → entry_key x1 ≡ k → ⊥
       go None c q f = true≢false (sym q)
       go (Some y) c q f = bound (same_option (st.keys (st.slot_named k)) k)
         where
-          a : Within y (commits k h)
-          a = subst (λ (j : List ℕ). Within y (commits j h)) f (within_commits h x1 y in_h c)
+          a : Within y (commits_at k h)
+          a = subst (λ (j : List ℕ). Within y (commits_at j h)) f (within_commits h x1 y in_h c)
 
           bound : Dec (st.keys (st.slot_named k) ≡ Some k) → ⊥
           bound (no d) = subst (Within y) (r.tale.unbound k (λ s z. d (ap st.keys (w.help.naming.found s k z) ∙ z))).1 a
           bound (yes z) = ⊎_elim (λ e. missing (st.slot_named k) (subst (Within (st.slot_named k, k)) all_named (w.help.naming.listed (st.slot_named k) k z e)))
-              (λ e. let b : Within y (st.log (st.slot_named k)) = subst (Within y) (sym (r.tale.told (st.slot_named k) k z)) (within_back y (st.first (st.slot_named k)) (commits k h) a) in
+              (λ e. let b : Within y (st.log (st.slot_named k)) = subst (Within y) (sym (r.tale.told (st.slot_named k) k z)) (within_back y (st.first (st.slot_named k)) (commits_at k h) a) in
               let d = within_nth y (st.log (st.slot_named k)) b in
               let g = r.core.spotted (st.slot_named k) d.0 y.tag (ap tag_in_version d.1) in
               let n1 = nth_within (st.log (st.slot_named k)) d.0 y d.1 in let n2 = alone st.task w.help.stage (st.slot_named k) e in let n3 = r.core.rooted (st.slot_named k) (omega arith) in
@@ -75,9 +81,9 @@ module _ (l : Pool) (m0 : Map) (used : List ℕ) (m : Mem) (vs : List View) (st 
   abbrev counted_view : ℕ → Call → Reply → View
   counted_view n call reply = answered v h n v.pass.words (max v.pass.most m.count) call reply
 
-  pub count_whole : (n : ℕ) → v.pass.role ≡ Client n → (call : Call) (reply : Reply) → named call ≡ k → committed call reply ≡ None → Does (leads m0 h k) (used_by used h) call reply
+  pub count_whole : (n : ℕ) → v.pass.role ≡ Client n → (call : Call) (reply : Reply) → key_of call ≡ k → committed call reply ≡ None → Permits (leads (shows m0) h k) (used_by used h) call reply
       → Whole l m0 used m (renewed vs id (counted_view n call reply)) st (h ++ link_entry v n call reply ∷ [])
   count_whole n role call reply nm cm does = client_whole l m0 used m vs st h w id v (counted_view n call reply) at n role refl m st (h ++ link_entry v n call reply ∷ [])
       (answered_rule m0 used m vs st h r id v at n role k unread_after v.pass.words ok.words (max v.pass.most m.count) (let q = ok.most in omega arith) call reply nm cm does) w.help (λ sv e. e)
-      (subst (Each (λ (x : ℕ). (age x < l.wear) × (age x ≤ gen (m.fnext (home x))))) (sym (used_snoc used h (link_entry v n call reply) ∙ ap (grown (used_by used h)) cm)) w.safe)
-      (λ cs a b. each_snoc (λ (x : Entry). Within x.client cs) h (link_entry v n call reply) b a)
+      (each_used (λ (x : ℕ). (age x < l.wear) × (age x ≤ gen (m.fnext (home x)))) used h (link_entry v n call reply) w.safe (subst (Each (λ (x : ℕ). (age x < l.wear) × (age x ≤ gen (m.fnext (home x))))) (sym (new_none (leads (shows m0) h k) (used_by used h) call reply does cm)) tt))
+      (λ cs a b. each_both (λ (x : Entry). Within x.client cs) h (link_entry v n call reply ∷ []) b (a, tt))

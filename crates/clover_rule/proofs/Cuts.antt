@@ -1,37 +1,47 @@
 -- The law of cuts.
-use Rattle.std.proofs.Common.{◌≡◌, ℕ, zero, suc, ◌+◌, ◌<◌, ◌≤◌, List, [], ◌∷◌, ◌++◌, length, drop, Bool, true, false, cond, ltb, leb, ◌&&◌, refl, sym, ap, ◌∙◌, ⊎_elim, arith, subst, true≢false}
+use Rattle.std.proofs.Common.{◌≡◌, ◌≢◌, ℕ, zero, suc, ◌+◌, ◌<◌, ◌≤◌, List, [], ◌∷◌, ◌++◌, length, drop, Bool, true, false, cond, ltb, leb, ◌&&◌, refl, sym, ap, ◌∙◌, ⊎_elim, arith, subst, true≢false}
 use native.Mathlib.Decide.{ℕ_discrete, dec_le}
 use mathlib.Core.Logic.{dite}
 use Rattle.std.specs.Prelude.{Option, Some, None}
 use Rattle.std.proofs.lemmas.Bool.{lt-ltb, le-ltb}
 use Rattle.std.proofs.lemmas.Bool.Decides.{nat_tests}
 use Rattle.clover_words.specs.Tag.{home, age}
+use Rattle.std.specs.FinMap.{get}
 use Rattle.clover_map.specs.declared.call.Entry.{Entry}
 use Rattle.clover_map.specs.declared.bytes.Held.{Held}
 use Rattle.std.specs.Str.{bytes_eq}
-use Rattle.clover_rule.specs.History.{Version, Map, pair_of, ends, kept, commits, Unread, Last, Legal, key_of, commit_of, lost_in, joined, leads}
-use Rattle.clover_rule.specs.Image.{Image, IsImage, Chain, is_none, leads_to, missing, sift, tags, Reads, ReadsMap}
+use Rattle.clover_map.specs.Legal.{Legal}
+use Rattle.clover_map.specs.Tagged.{Tagged}
+use Rattle.std.specs.List.{cons_option}
+use Rattle.clover_rule.specs.History.{Version, pair_of, ends, kept, commits_at, Unread, Last, entry_key, commit_of, lost_in}
+use Rattle.clover_rule.specs.Image.{Image, IsImage, Chain, is_none, leads_to, missing, sift, tags, Reads}
 use Rattle.clover_rule.specs.Lists.{Each, nth}
 use Rattle.clover_rule.specs.Memory.{gen, link, Mem}
 use Rattle.clover_rule.specs.Story.{Story, tag_in_version, tag_at, only, Core, Tale, unsure, Durable}
+use Rattle.clover_rule.proofs.KeyMaps.{shows, Map, leads}
 use Rattle.clover_rule.proofs.Tools.{nth_some, nth_within, nth_none}
-use Rattle.clover_rule.proofs.Histories.{kept_legal, unread_last, leads_commits, ends_more}
+use Rattle.clover_rule.proofs.Histories.{kept_legal, unread_last, leads_commits, ends_more, commits_first}
 use Rattle.clover_rule.proofs.Standings.{tag_there, only_none}
 
+-- each bound slot reads as the map says at its key
+pub record ReadsMap (st : Story) (im : Image) (m : Map) : Type 0 where
+  pub bound : (s : ℕ) (k : List ℕ) → st.keys s ≡ Some k → Reads im s (m k)
+  pub unbound : (k : List ℕ) → ((s : ℕ) → st.keys s ≢ Some k) → m k ≡ None
+
 -- sifting a history sifts the commits of each key
-sift_step : (lost : ℕ → Bool) (c : Option Version) (b : Bool) (xs : List Version) → sift lost (cond b (joined c xs) xs) ≡ cond (lost_in lost c) (sift lost xs) (cond b (joined c (sift lost xs)) (sift lost xs))
+sift_step : (lost : ℕ → Bool) (c : Option Version) (b : Bool) (xs : List Version) → sift lost (cond b (cons_option c xs) xs) ≡ cond (lost_in lost c) (sift lost xs) (cond b (cons_option c (sift lost xs)) (sift lost xs))
 sift_step lost None true xs = refl
 sift_step lost None false xs = refl
 sift_step lost (Some w) true xs = refl
 sift_step lost (Some w) false xs = elim (lost w.tag) as (λ (b : Bool). sift lost xs ≡ cond b (sift lost xs) (sift lost xs)) [ true ↦ refl | false ↦ refl ]
 
-commits_cond : (k : List ℕ) (e : Entry) (b : Bool) (xs : List Entry) → commits k (cond b xs (e ∷ xs)) ≡ cond b (commits k xs) (cond (bytes_eq (key_of e) k) (joined (commit_of e) (commits k xs)) (commits k xs))
+commits_cond : (k : List ℕ) (e : Entry) (b : Bool) (xs : List Entry) → commits_at k (cond b xs (e ∷ xs)) ≡ cond b (commits_at k xs) (cond (bytes_eq (entry_key e) k) (cons_option (commit_of e) (commits_at k xs)) (commits_at k xs))
 commits_cond k e true xs = refl
-commits_cond k e false xs = refl
+commits_cond k e false xs = commits_first k e xs
 
-pub commits_kept : (lost : ℕ → Bool) (k : List ℕ) (h : List Entry) → commits k (kept lost h) ≡ sift lost (commits k h)
+pub commits_kept : (lost : ℕ → Bool) (k : List ℕ) (h : List Entry) → commits_at k (kept lost h) ≡ sift lost (commits_at k h)
 commits_kept lost k [] = refl
-commits_kept lost k (e ∷ h) = commits_cond k e (lost_in lost (commit_of e)) (kept lost h) ∙ ap (λ (xs : List Version). cond (lost_in lost (commit_of e)) xs (cond (bytes_eq (key_of e) k) (joined (commit_of e) xs) xs)) (commits_kept lost k h) ∙ sym (sift_step lost (commit_of e) (bytes_eq (key_of e) k) (commits k h))
+commits_kept lost k (e ∷ h) = commits_cond k e (lost_in lost (commit_of e)) (kept lost h) ∙ ap (λ (xs : List Version). cond (lost_in lost (commit_of e)) xs (cond (bytes_eq (entry_key e) k) (cons_option (commit_of e) xs) xs)) (commits_kept lost k h) ∙ sym (ap (sift lost) (commits_first k e h) ∙ sift_step lost (commit_of e) (bytes_eq (entry_key e) k) (commits_at k h))
 
 sift_append : (lost : ℕ → Bool) (xs ys : List Version) → sift lost (xs ++ ys) ≡ sift lost xs ++ sift lost ys
 sift_append lost [] ys = refl
@@ -89,7 +99,7 @@ unread_less a b f (e ∷ h) u = ((λ p. u.0 (go (commit_of e) p)), unread_less a
     go None p = p
     go (Some w) p = f w.tag p
 
-agree_self : (m : Map) (h : List Entry) → Each (λ (e : Entry). m (key_of e) ≡ m (key_of e)) h
+agree_self : (m : Map) (h : List Entry) → Each (λ (e : Entry). m (entry_key e) ≡ m (entry_key e)) h
 agree_self m [] = tt
 agree_self m (e ∷ h) = (refl, agree_self m h)
 
@@ -222,7 +232,7 @@ module _ (m : Mem) (st : Story) (c : Core m st) (im : Image) (is : IsImage m im)
       let e : tag_in_version (nth (drop p (sift lost (st.log s))) zero) ≡ tag_at st s p = ap tag_in_version (nth_drop p zero (sift lost (st.log s)) ∙ ap (nth (sift lost (st.log s))) (omega arith) ∙ h.sifted p ∙ sym (up_to p n (nth (st.log s) p) (omega arith))) in
       subst (λ (x : Option ℕ). Chain im x (tags (drop p (sift lost (st.log s))))) e (chain_of im (drop p (sift lost (st.log s))) (links s n p h g))
 
-  module _ (m0 : Map) (used : List ℕ) (h : List Entry) (t : Tale st m0 used h) where
+  module _ (m0 : Tagged) (used : List ℕ) (h : List Entry) (t : Tale st m0 used h) where
     abbrev pub left : List Entry
     left = kept lost h
 
@@ -243,17 +253,17 @@ module _ (m : Mem) (st : Story) (c : Core m st) (im : Image) (is : IsImage m im)
     last_lost = unread_last lost h unread
 
     pub legal_left : Legal m0 used left
-    legal_left = kept_legal lost h m0 m0 used used t.legal unread (agree_self m0 h) (λ x f. f)
+    legal_left = kept_legal lost h m0 m0 used used t.legal unread (agree_self (shows m0) h) (λ x c. c)
 
-    log_left : (s : ℕ) (k : List ℕ) → st.keys s ≡ Some k → sift lost (st.log s) ≡ st.first s ++ commits k (kept lost h)
+    log_left : (s : ℕ) (k : List ℕ) → st.keys s ≡ Some k → sift lost (st.log s) ≡ st.first s ++ commits_at k (kept lost h)
     log_left s k e =
         let a = t.told s k e in
-        ap (sift lost) a ∙ sift_append lost (st.first s) (commits k h)
-        ∙ ap (λ (ws : List Version). ws ++ sift lost (commits k h)) (sift_all lost (st.first s) (λ i w p. kept_before s i w (ap (λ (ws : List Version). nth ws i) a ∙ nth_append (st.first s) (commits k h) i w p) (t.settled s i w p)))
+        ap (sift lost) a ∙ sift_append lost (st.first s) (commits_at k h)
+        ∙ ap (λ (ws : List Version). ws ++ sift lost (commits_at k h)) (sift_all lost (st.first s) (λ i w p. kept_before s i w (ap (λ (ws : List Version). nth ws i) a ∙ nth_append (st.first s) (commits_at k h) i w p) (t.settled s i w p)))
         ∙ ap (λ (ws : List Version). st.first s ++ ws) (sym (commits_kept lost k h))
 
-    pub map_left : (s : ℕ) (k : List ℕ) → st.keys s ≡ Some k → ends None (sift lost (st.log s)) ≡ leads m0 (kept lost h) k
-    map_left s k e = ap (ends None) (log_left s k e) ∙ ends_more None (st.first s) (commits k (kept lost h)) ∙ ap (λ (x : Option Held). ends x (commits k (kept lost h))) (t.began s k e) ∙ sym (leads_commits m0 (kept lost h) k)
+    pub map_left : (s : ℕ) (k : List ℕ) → st.keys s ≡ Some k → ends None (sift lost (st.log s)) ≡ leads (shows m0) (kept lost h) k
+    map_left s k e = ap (ends None) (log_left s k e) ∙ ends_more None (st.first s) (commits_at k (kept lost h)) ∙ ap (λ (x : Option Held). ends x (commits_at k (kept lost h))) (t.began s k e) ∙ sym (leads_commits (shows m0) (kept lost h) k)
 
     pub longer : (s p : ℕ) → p < st.sure s → p < length (sift lost (st.log s))
     longer s p q =
@@ -263,10 +273,10 @@ module _ (m : Mem) (st : Story) (c : Core m st) (im : Image) (is : IsImage m im)
         let a = nth_some (st.log s) p (omega arith) in
         nth_within (sift lost (st.log s)) p a.0 (f.sifted p ∙ sym (up_to p n (nth (st.log s) p) (omega arith)) ∙ a.1)
 
-    read_none : (s : ℕ) (k : List ℕ) → st.keys s ≡ Some k → im.root s ≡ None → ends None (sift lost (st.log s)) ≡ None → Reads im s (leads m0 (kept lost h) k)
+    read_none : (s : ℕ) (k : List ℕ) → st.keys s ≡ Some k → im.root s ≡ None → ends None (sift lost (st.log s)) ≡ None → Reads im s (leads (shows m0) (kept lost h) k)
     read_none s k e r z = record { versions = []; chain = subst (λ (x : Option ℕ). Chain im x []) (sym r) tt; last = sym z ∙ map_left s k e }
 
-    read_at : (s : ℕ) (k : List ℕ) (p : ℕ) → st.keys s ≡ Some k → st.gone s ≤ p → p < st.sure s → im.root s ≡ tag_at st s p → Reads im s (leads m0 (kept lost h) k)
+    read_at : (s : ℕ) (k : List ℕ) (p : ℕ) → st.keys s ≡ Some k → st.gone s ≤ p → p < st.sure s → im.root s ≡ tag_at st s p → Reads im s (leads (shows m0) (kept lost h) k)
     read_at s k p e g q r = record {
       versions = drop p (sift lost (st.log s));
       chain = subst (λ (x : Option ℕ). Chain im x (tags (drop p (sift lost (st.log s))))) (sym r) (cut_chain s p g q);
@@ -277,17 +287,17 @@ module _ (m : Mem) (st : Story) (c : Core m st) (im : Image) (is : IsImage m im)
     empty_log [] e = refl
     empty_log (w ∷ ws) e = absurd (omega arith)
 
-    read_bare : (s : ℕ) (k : List ℕ) → st.keys s ≡ Some k → (p : ℕ) → length (st.log s) ≡ 0 → im.root s ≡ tag_at st s p → Reads im s (leads m0 (kept lost h) k)
+    read_bare : (s : ℕ) (k : List ℕ) → st.keys s ≡ Some k → (p : ℕ) → length (st.log s) ≡ 0 → im.root s ≡ tag_at st s p → Reads im s (leads (shows m0) (kept lost h) k)
     read_bare s k e p z r = read_none s k e (r ∙ end_none s p (omega arith)) (ap (λ (ws : List Version). ends None (sift lost ws)) (empty_log (st.log s) z))
 
-    read_root : (s : ℕ) (k : List ℕ) (p : ℕ) → st.keys s ≡ Some k → st.gone s ≤ p → p ≤ st.lead s → im.root s ≡ tag_at st s p → Reads im s (leads m0 (kept lost h) k)
+    read_root : (s : ℕ) (k : List ℕ) (p : ℕ) → st.keys s ≡ Some k → st.gone s ≤ p → p ≤ st.lead s → im.root s ≡ tag_at st s p → Reads im s (leads (shows m0) (kept lost h) k)
     read_root s k p e g q r = dite (ℕ_discrete (length (st.log s)) 0) (λ z. read_bare s k e p z r) (λ n. let x = c.rooted s (omega arith) in read_at s k p e g (omega arith) r)
 
-    pub cut_stands : ReadsMap st im (leads m0 (kept lost h))
+    pub cut_stands : ReadsMap st im (leads (shows m0) (kept lost h))
     cut_stands = record {
       bound = λ s k e. let d = c.led s in
           ⊎_elim (λ r. read_root s k (st.lead s) e (omega arith) (omega arith) (r ∙ c.root s))
           (λ r. ⊎_elim (λ f. read_root s k (st.flead s) e (omega arith) (omega arith) (r ∙ f)) (λ f. read_none s k e (r ∙ f.empty) (sift_dead lost (st.log s) f.dead)) (c.froot s))
           (is.root s);
-      unbound = λ k f. let u = t.unbound k f in leads_commits m0 (kept lost h) k ∙ ap (ends (m0 k)) (commits_kept lost k h ∙ ap (sift lost) u.1) ∙ u.0;
+      unbound = λ k f. let u = t.unbound k f in leads_commits (shows m0) (kept lost h) k ∙ ap (ends (get m0 k)) (commits_kept lost k h ∙ ap (sift lost) u.1) ∙ u.0;
     }

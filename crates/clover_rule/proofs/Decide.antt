@@ -9,8 +9,11 @@ use Rattle.clover_map.specs.declared.call.Call.{Call}
 use Rattle.clover_map.specs.declared.call.Reply.{Reply}
 use Rattle.clover_map.specs.declared.call.Entry.{Entry}
 use Rattle.clover_map.specs.declared.bytes.Held.{Held}
+use Rattle.clover_map.specs.History.{key_of}
+use Rattle.clover_map.specs.Tagged.{Tagged}
 use Rattle.clover_rule.specs.Content.{content}
-use Rattle.clover_rule.specs.History.{pair_of, Version, Map, used_by, commits, ends, key_of, commit_of, lost_in, Does, named, committed, leads}
+use Rattle.clover_map.specs.Legal.{used_by}
+use Rattle.clover_rule.specs.History.{pair_of, Version, commits_at, ends, entry_key, commit_of, lost_in, committed}
 use Rattle.clover_rule.specs.Knowing.{link_entry}
 use Rattle.clover_rule.specs.Lists.{nth, Within}
 use Rattle.clover_rule.specs.Memory.{word, gen, Mem}
@@ -18,6 +21,8 @@ use Rattle.clover_rule.specs.Story.{Story, tag_in_version, tag_at, Durable, unsu
 use Rattle.clover_rule.specs.Views.{IsCopied, ViewOk, Basis, renewed, shown}
 use Rattle.clover_rule.specs.declared.view.Role.TheVariants.{Client}
 use Rattle.clover_rule.specs.declared.view.View.{View}
+use Rattle.clover_rule.proofs.KeyMaps.{leads, shows}
+use Rattle.clover_rule.proofs.TaggedMaps.{Permits}
 use Rattle.clover_rule.proofs.Histories.{ends_more, ends_last}
 use Rattle.clover_rule.proofs.Tools.{nth_within}
 use Rattle.clover_rule.proofs.Uncommitted.{answered, answered_rule}
@@ -26,7 +31,7 @@ use Rattle.clover_rule.proofs.Histories.{leads_commits}
 use Rattle.clover_rule.proofs.Snocs.{within_nth, within_commits, within_back}
 use Rattle.clover_rule.proofs.Steps.{each_within, within_prefix}
 
-module _ (m0 : Map) (used : List ℕ) (m : Mem) (vs : List View) (st : Story) (h : List Entry) (r : Basis m0 used m vs st h)
+module _ (m0 : Tagged) (used : List ℕ) (m : Mem) (vs : List View) (st : Story) (h : List Entry) (r : Basis m0 used m vs st h)
     (id : ℕ) (v : View) (at : nth vs id ≡ Some v) (s : ℕ) (k : List ℕ) (t : ℕ) (tail : Within (s, t) v.pass.durable) (name : Within (s, k) v.pass.names) (found : m.next (home t) ≡ word (age t) None) where
   pub ok : ViewOk m st h id v
   ok = r.views id v at
@@ -64,18 +69,18 @@ module _ (m0 : Map) (used : List ℕ) (m : Mem) (vs : List View) (st : Story) (h
           let g : d.1 ≡ version.0 = let a : Some d.1 ≡ Some version.0 = sym d.2 ∙ ap (nth (st.log s)) f ∙ version.1 in cc in
           ⊎_elim (λ a. a z (ap (λ (w : Version). nth (content w.value) j) g ∙ there)) (λ a. let b = stands in absurd (omega arith)) d.4
 
-  pub map_at : leads m0 h k ≡ pair_of version.0
-  map_at = leads_commits m0 h k ∙ ap (λ (y : Option Held). ends y (commits k h)) (sym (r.tale.began s k slot_bound.0)) ∙ sym (ends_more None (st.first s) (commits k h)) ∙ ap (ends None) (sym (r.tale.told s k slot_bound.0)) ∙ ends_last None (st.log s) i version.0 version.1 last
+  pub map_at : leads (shows m0) h k ≡ pair_of version.0
+  map_at = leads_commits (shows m0) h k ∙ ap (λ (y : Option Held). ends y (commits_at k h)) (sym (r.tale.began s k slot_bound.0)) ∙ sym (ends_more None (st.first s) (commits_at k h)) ∙ ap (ends None) (sym (r.tale.told s k slot_bound.0)) ∙ ends_last None (st.log s) i version.0 version.1 last
 
   -- behind an unflushed commit nobody reads: this entry's slot has none
-  unread_after : (x1 : Entry) → Within x1 h → lost_in (unsure st) (commit_of x1) ≡ true → k ≢ key_of x1
+  unread_after : (x1 : Entry) → Within x1 h → lost_in (unsure st) (commit_of x1) ≡ true → k ≢ entry_key x1
   unread_after x1 in_h q f = go (commit_of x1) refl q (sym f)
     where
-      go : (o : Option Version) → commit_of x1 ≡ o → lost_in (unsure st) o ≡ true → key_of x1 ≡ k → ⊥
+      go : (o : Option Version) → commit_of x1 ≡ o → lost_in (unsure st) o ≡ true → entry_key x1 ≡ k → ⊥
       go None c q f = true≢false (sym q)
       go (Some y) c q f =
-          let a : Within y (commits k h) = subst (λ (j : List ℕ). Within y (commits j h)) f (within_commits h x1 y in_h c) in
-          let b : Within y (st.log s) = subst (Within y) (sym (r.tale.told s k slot_bound.0)) (within_back y (st.first s) (commits k h) a) in
+          let a : Within y (commits_at k h) = subst (λ (j : List ℕ). Within y (commits_at j h)) f (within_commits h x1 y in_h c) in
+          let b : Within y (st.log s) = subst (Within y) (sym (r.tale.told s k slot_bound.0)) (within_back y (st.first s) (commits_at k h) a) in
           let d = within_nth y (st.log s) b in
           let g = r.core.spotted s d.0 y.tag (ap tag_in_version d.1) in
           let z = nth_within (st.log s) d.0 y d.1 in let z2 = last in let z3 = sure_all in
@@ -86,6 +91,6 @@ module _ (m0 : Map) (used : List ℕ) (m : Mem) (vs : List View) (st : Story) (h
   abbrev pub decided_view : ℕ → Call → Reply → View
   decided_view n call reply = answered v h n (shown (home t) (age t) None ∷ v.pass.words) v.pass.most call reply
 
-  pub decide_rule : (n : ℕ) → v.pass.role ≡ Client n → (call : Call) (reply : Reply) → named call ≡ k → committed call reply ≡ None → Does (leads m0 h k) (used_by used h) call reply
+  pub decide_rule : (n : ℕ) → v.pass.role ≡ Client n → (call : Call) (reply : Reply) → key_of call ≡ k → committed call reply ≡ None → Permits (leads (shows m0) h k) (used_by used h) call reply
       → Basis m0 used m (renewed vs id (decided_view n call reply)) st (h ++ link_entry v n call reply ∷ [])
   decide_rule n role = answered_rule m0 used m vs st h r id v at n role k unread_after (shown (home t) (age t) None ∷ v.pass.words) ((let a = ap gen found in omega arith, inl refl), ok.words) v.pass.most ok.most

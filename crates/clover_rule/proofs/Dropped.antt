@@ -2,7 +2,7 @@
 use Rattle.std.proofs.Common.{◌≡◌, ℕ, List, [], ◌∷◌, ◌++◌, length, refl, sym, ap, ◌∙◌, ⊎_elim, arith, subst}
 use Rattle.std.specs.Prelude.{Some}
 use Rattle.clover_map.specs.declared.call.Entry.{Entry}
-use Rattle.clover_rule.specs.History.{Map}
+use Rattle.clover_map.specs.Tagged.{Tagged}
 use Rattle.clover_rule.specs.Lists.{nth, IsPrefix}
 use Rattle.clover_rule.specs.Memory.{Mem}
 use Rattle.clover_rule.specs.Server.{Whole}
@@ -12,7 +12,7 @@ use Rattle.clover_words.specs.declared.pool.Pool.{Pool}
 use Rattle.clover_rule.proofs.Hands.{hand_whole}
 use Rattle.clover_rule.proofs.Tools.{nth_within, nth_snoc, nth_front}
 
-module _ (l : Pool) (m0 : Map) (used : List ℕ) (m : Mem) (vs : List View) (spent : View) (st : Story) (h : List Entry) (w : Whole l m0 used m (vs ++ spent ∷ []) st h) (bare : spent.pass.history ≡ []) (some : (i : ℕ) × (v : View) × (nth vs i ≡ Some v)) where
+module _ (l : Pool) (m0 : Tagged) (used : List ℕ) (m : Mem) (vs : List View) (spent : View) (st : Story) (h : List Entry) (w : Whole l m0 used m (vs ++ spent ∷ []) st h) (bare : spent.pass.history ≡ []) (some : (i : ℕ) × (v : View) × (nth vs i ≡ Some v)) where
   front : (i : ℕ) (y : View) → nth vs i ≡ Some y → nth (vs ++ spent ∷ []) i ≡ Some y
   front i y e = nth_front vs spent i (λ z. let a = nth_within vs i y e in absurd (omega arith)) ∙ e
 

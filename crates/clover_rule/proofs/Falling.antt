@@ -17,7 +17,6 @@ use Rattle.clover_map.specs.Tagged.{Tagged}
 use Rattle.clover_rule.specs.Asks.{Asks, IsAt, MayCommit}
 use Rattle.clover_rule.specs.Changes.{raised_mem}
 use Rattle.clover_rule.specs.Content.{inside}
-use Rattle.clover_rule.specs.History.{shows}
 use Rattle.clover_rule.specs.Laws.{RiseLaw, Rises}
 use Rattle.clover_rule.specs.Learned.{found, words_after_step}
 use Rattle.clover_rule.specs.Lists.{Within, nth, upd}
@@ -90,7 +89,7 @@ module _ (p : Pool) (first : Tagged) (used : List ℕ) (ws : List ℕ) (vs : Lis
       (λ n. same (address_of p (next_word_of u) Current))
 
   raise : (l : Link) → IsWithin p (next_word_of l.from) → Within l v.pass.links → Rose (mem_of p (words_after_step p (RaiseNext l) ws))
-  raise l hw d = rose_to _ (raised_mem m l.from l.to) (raised_words p first used ws vs st h r id v at l (known (shows first) used m vs st h r.whole.basis id v at l d) hw (found p (RaiseNext l) ws) refl).0 (flushed (home l.from) (word (age l.from) (Some l.to)))
+  raise l hw d = rose_to _ (raised_mem m l.from l.to) (raised_words p first used ws vs st h r id v at l (known first used m vs st h r.whole.basis id v at l d) hw (found p (RaiseNext l) ws) refl).0 (flushed (home l.from) (word (age l.from) (Some l.to)))
 
   pass : (c : Recycling) → IsWithin p (next_word_of c.root) → IsAt v (Both c) → Rose (mem_of p (words_after_step p (PassRoot c) ws))
   pass c hw i = rose_to _ (record m { next = upd m.next (home c.root) (word (suc (age c.root)) None) }) (passed_words p first used ws vs st h r id v at c hw i)

@@ -7,9 +7,9 @@ use Rattle.std.proofs.lemmas.Bool.{lt-ltb}
 use Rattle.std.proofs.lemmas.Bool.Decides.{nat_tests}
 use Rattle.clover_words.specs.Tag.{home, age}
 use Rattle.clover_map.specs.declared.call.Entry.{Entry}
+use Rattle.clover_map.specs.Tagged.{Tagged}
 use Rattle.clover_rule.specs.Changes.{recycled_mem, recycled_story}
 use Rattle.clover_rule.specs.Content.{InRange, inside}
-use Rattle.clover_rule.specs.History.{Map}
 use Rattle.clover_rule.specs.Lists.{nth, upd}
 use Rattle.clover_rule.specs.Memory.{Next, word, gen, Mem, greater, order}
 use Rattle.clover_rule.specs.Server.{Ready, Stage, Help, or_else, root_in, is_home, book_of, Serves, Whole}
@@ -32,7 +32,7 @@ use Rattle.clover_rule.proofs.Roots.{freed_core, freed_mem}
 use Rattle.clover_rule.proofs.Exchanging.{CanRecycle, recycle_core, stands, is, else_same, behind}
 use Rattle.clover_rule.proofs.RecycleLaw.{gens', grows, leaves, spent_kept}
 
-module _ (l : Pool) (m0 : Map) (used : List ℕ) (m : Mem) (vs : List View) (id : ℕ) (v : View) (st : Story) (h : List Entry) (w : Whole l m0 used m vs st h) (at : nth vs id ≡ Some v) (role : v.pass.role ≡ Serving) where
+module _ (l : Pool) (m0 : Tagged) (used : List ℕ) (m : Mem) (vs : List View) (id : ℕ) (v : View) (st : Story) (h : List Entry) (w : Whole l m0 used m vs st h) (at : nth vs id ≡ Some v) (role : v.pass.role ≡ Serving) where
   abbrev ru : Basis m0 used m vs st h
   ru = w.basis
 

@@ -6,12 +6,14 @@ use Rattle.std.specs.Prelude.{Some}
 use Rattle.std.proofs.lemmas.List.{length-set}
 use Rattle.clover_words.specs.Tag.{home, age}
 use Rattle.clover_map.specs.declared.call.Entry.{Entry}
-use Rattle.clover_rule.specs.History.{Map, own, used_by}
+use Rattle.clover_map.specs.History.{own}
+use Rattle.clover_map.specs.Tagged.{Tagged}
+use Rattle.clover_map.specs.Legal.{used_by}
 use Rattle.clover_rule.specs.Lists.{Each, nth, upd, Within}
 use Rattle.clover_rule.specs.Memory.{gen, Mem}
 use Rattle.clover_rule.specs.Server.{Ready, AtStage, Help, Serves, Whole}
 use Rattle.clover_rule.specs.Story.{Place, Chained, Stocked, Free, Worn, Taken, Loose, Story, Core}
-use Rattle.clover_rule.specs.Views.{Owned, ViewOk, Spent, Numbered, handed}
+use Rattle.clover_rule.specs.Views.{Owned, ViewOk, Spent, Numbered, batch_at}
 use Rattle.clover_rule.specs.Moves.{making, client_of}
 use Rattle.clover_rule.specs.declared.view.Role.TheVariants.{Client, Serving}
 use Rattle.clover_rule.specs.declared.view.ServerTask.{ServerTask}
@@ -23,17 +25,13 @@ use Rattle.clover_rule.proofs.Steps.{each_map, prefix_self, Grows, view_kept, nt
 use Rattle.clover_rule.proofs.GrantLaw.{away, all_there, core_handed}
 use Rattle.clover_rule.proofs.ServerTools.{tale_copy}
 
-pub each_both : {A : Type 0} (P : A → Type 0) (xs ys : List A) → Each P xs → Each P ys → Each P (xs ++ ys)
-each_both P [] ys a b = b
-each_both P (x ∷ xs) ys a b = (a.0, each_both P xs ys a.1 b)
-
 -- a batch that stood at one loose place goes to another
-module _ (l : Pool) (m0 : Map) (used : List ℕ) (m : Mem) (vs : List View) (st : Story) (h : List Entry) (w : Whole l m0 used m vs st h) (batch : List ℕ) (q0 : Place) (k : ℕ) (ready : Ready q0) (was : Each (λ (t : ℕ). st.place (home t) ≡ q0) batch) where
+module _ (l : Pool) (m0 : Tagged) (used : List ℕ) (m : Mem) (vs : List View) (st : Story) (h : List Entry) (w : Whole l m0 used m vs st h) (batch : List ℕ) (q0 : Place) (k : ℕ) (ready : Ready q0) (was : Each (λ (t : ℕ). st.place (home t) ≡ q0) batch) where
   abbrev pub q : Place
   q = Stocked k
 
   abbrev pub st' : Story
-  st' = record st { place = handed st.place batch q }
+  st' = record st { place = batch_at st.place batch q }
 
   loose0 : (p : Place) → Ready p → Loose p
   loose0 Free f = tt
@@ -56,7 +54,7 @@ module _ (l : Pool) (m0 : Map) (used : List ℕ) (m : Mem) (vs : List View) (st 
   pub hand_case : (b : ℕ) → ((st'.place b ≡ q) × (st.place b ≡ q0)) ⊎ (st'.place b ≡ st.place b)
   hand_case b = go batch was st.place (inr refl)
     where
-      go : (ts : List ℕ) → Each (λ (t : ℕ). st.place (home t) ≡ q0) ts → (f : ℕ → Place) → ((f b ≡ q) × (st.place b ≡ q0)) ⊎ (f b ≡ st.place b) → ((handed f ts q b ≡ q) × (st.place b ≡ q0)) ⊎ (handed f ts q b ≡ st.place b)
+      go : (ts : List ℕ) → Each (λ (t : ℕ). st.place (home t) ≡ q0) ts → (f : ℕ → Place) → ((f b ≡ q) × (st.place b ≡ q0)) ⊎ (f b ≡ st.place b) → ((batch_at f ts q b ≡ q) × (st.place b ≡ q0)) ⊎ (batch_at f ts q b ≡ st.place b)
       go [] e f d = d
       go (t ∷ ts) e f d = go ts e.1 (upd f (home t) q) (dite (ℕ_discrete b (home t)) (λ z. inl (ap (upd f (home t) q) z ∙ upd_same f (home t) q, ap st.place z ∙ e.0)) (λ z. ⊎_elim (λ a. inl (upd_else f (home t) b q z ∙ a.0, a.1)) (λ a. inr (upd_else f (home t) b q z ∙ a)) d))
 
@@ -114,7 +112,7 @@ module _ (l : Pool) (m0 : Map) (used : List ℕ) (m : Mem) (vs : List View) (st 
     hand_whole = let r = w.basis in record {
       basis = record {
         core = hand_core;
-        tale = tale_copy st m0 used h r.tale (handed st.place batch q) st.gone st.lead st.flead st.named st.bindings st.task st.slot_named;
+        tale = tale_copy st m0 used h r.tale (batch_at st.place batch q) st.gone st.lead st.flead st.named st.bindings st.task st.slot_named;
         bodies = r.bodies;
         spent = each_map hand_spent (used_by used h) r.spent;
         bound = r.bound;
@@ -132,7 +130,7 @@ module _ (l : Pool) (m0 : Map) (used : List ℕ) (m : Mem) (vs : List View) (st 
     }
 
 -- the server splits off a new client's pass: the batch is empty
-module _ (l : Pool) (m0 : Map) (used : List ℕ) (m : Mem) (vs : List View) (st : Story) (h : List Entry) (w : Whole l m0 used m vs st h) (id : ℕ) (v : View) (at : nth vs id ≡ Some v) (role : v.pass.role ≡ Serving) (n : ℕ) (fresh : Within n v.server.clients → ⊥) where
+module _ (l : Pool) (m0 : Tagged) (used : List ℕ) (m : Mem) (vs : List View) (st : Story) (h : List Entry) (w : Whole l m0 used m vs st h) (id : ℕ) (v : View) (at : nth vs id ≡ Some v) (role : v.pass.role ≡ Serving) (n : ℕ) (fresh : Within n v.server.clients → ⊥) where
   abbrev pass_view : View
   pass_view = client_of n v
 
@@ -142,7 +140,7 @@ module _ (l : Pool) (m0 : Map) (used : List ℕ) (m : Mem) (vs : List View) (st 
   abbrev pub views_then : List View
   views_then = set vs id making_view ++ pass_view ∷ []
 
-  none_own : (cs : List ℕ) (xs : List Entry) → (Within n cs → ⊥) → Each (λ (e : Entry). Within e.client cs) xs → own n xs ≡ []
+  none_own : (cs : List ℕ) (xs : List Entry) → (Within n cs → ⊥) → Each (λ (e : Entry). Within e.client cs) xs → own xs n ≡ []
   none_own cs [] f a = refl
   none_own cs (e ∷ xs) f a = rw (ne_eqb e.client n (λ q. f (subst (λ (z : ℕ). Within z cs) q a.0))) (none_own cs xs f a.1)
 

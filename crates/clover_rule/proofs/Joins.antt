@@ -4,12 +4,12 @@ use native.Mathlib.Decide.{ℕ_discrete}
 use Rattle.std.specs.Prelude.{Some}
 use Rattle.clover_words.specs.Tag.{home}
 use Rattle.clover_map.specs.declared.call.Entry.{Entry}
-use Rattle.clover_rule.specs.History.{Map}
+use Rattle.clover_map.specs.Tagged.{Tagged}
 use Rattle.clover_rule.specs.Lists.{Each, nth, Within, IsPrefix}
 use Rattle.clover_rule.specs.Memory.{gen, Mem}
 use Rattle.clover_rule.specs.Server.{book_of, Serves, Whole}
 use Rattle.clover_rule.specs.Story.{Place, Stocked, Story}
-use Rattle.clover_rule.specs.Views.{Owned, Apart, ViewOk, handed}
+use Rattle.clover_rule.specs.Views.{Owned, Apart, ViewOk, batch_at}
 use Rattle.clover_rule.specs.Moves.{accepted, spent}
 use Rattle.clover_rule.specs.declared.view.Role.TheVariants.{Client, Granting, Joined}
 use Rattle.clover_rule.specs.declared.view.Server.{Server}
@@ -17,13 +17,14 @@ use Rattle.clover_rule.specs.declared.view.View.{View}
 use Rattle.clover_words.specs.declared.pool.Pool.{Pool}
 use Rattle.clover_rule.proofs.Steps.{each_map, nth_set, set_here, set_away}
 use Rattle.clover_rule.proofs.ServerTools.{book_same}
-use Rattle.clover_rule.proofs.Hands.{each_both, hand_whole, hand_view, hand_case, hand_owned}
+use Rattle.clover_rule.proofs.Tools.{each_both}
+use Rattle.clover_rule.proofs.Hands.{hand_whole, hand_view, hand_case, hand_owned}
 
 -- the view at a seat takes in the one at another, with its batch, and what is left of the other seat knows nothing
-module _ (l : Pool) (m0 : Map) (used : List ℕ) (m : Mem) (vs : List View) (st : Story) (h : List Entry) (w : Whole l m0 used m vs st h) (id j : ℕ) (apart_seats : j ≢ id) (v y : View) (at : nth vs id ≡ Some v) (there_at : nth vs j ≡ Some y)
+module _ (l : Pool) (m0 : Tagged) (used : List ℕ) (m : Mem) (vs : List View) (st : Story) (h : List Entry) (w : Whole l m0 used m vs st h) (id j : ℕ) (apart_seats : j ≢ id) (v y : View) (at : nth vs id ≡ Some v) (there_at : nth vs j ≡ Some y)
     (batch : List ℕ) (was : Each (λ (t : ℕ). st.place (home t) ≡ Stocked j) batch) where
   abbrev after : Story
-  after = record st { place = handed st.place batch (Stocked id) }
+  after = record st { place = batch_at st.place batch (Stocked id) }
 
   module _ (joining : View) (role' : joining.pass.role ≡ v.pass.role) (server' : joining.server ≡ v.server) (knows : ViewOk m after h id joining)
       (long_own : v.pass.history ≡ h → joining.pass.history ≡ h) (long_other : y.pass.history ≡ h → joining.pass.history ≡ h) where
@@ -66,7 +67,7 @@ module _ (l : Pool) (m0 : Map) (used : List ℕ) (m : Mem) (vs : List View) (st 
         longest_of k a q e (no d) (no f) = (k, a, set_away (set vs id joining) j k (spent v) f ∙ set_away vs id k joining d ∙ q, e)
 
 -- a batch and names of a grant, or a refusal, are joined to a client's pass
-module _ (l : Pool) (m0 : Map) (used : List ℕ) (m : Mem) (vs : List View) (st : Story) (h : List Entry) (w : Whole l m0 used m vs st h) (id j : ℕ) (apart_seats : j ≢ id) (v y : View) (at : nth vs id ≡ Some v) (there_at : nth vs j ≡ Some y)
+module _ (l : Pool) (m0 : Tagged) (used : List ℕ) (m : Mem) (vs : List View) (st : Story) (h : List Entry) (w : Whole l m0 used m vs st h) (id j : ℕ) (apart_seats : j ≢ id) (v y : View) (at : nth vs id ≡ Some v) (there_at : nth vs j ≡ Some y)
     (n : ℕ) (role : v.pass.role ≡ Client n) (granting : y.pass.role ≡ Granting) (fits : length v.pass.names ≡ y.pass.from) (bare : y.pass.history ≡ []) where
   abbrev joining : View
   joining = accepted v y
@@ -84,7 +85,7 @@ module _ (l : Pool) (m0 : Map) (used : List ℕ) (m : Mem) (vs : List View) (st 
   was = each_map (λ t d. d.0) y.pass.stock oky.stocked
 
   abbrev st1 : Story
-  st1 = record st { place = handed st.place y.pass.stock (Stocked id) }
+  st1 = record st { place = batch_at st.place y.pass.stock (Stocked id) }
 
   -- the own stock and the batch have no buffer in common
   apart_both : (ts : List ℕ) → Each (Owned m st id) ts → Apart ts → Apart (ts ++ y.pass.stock)

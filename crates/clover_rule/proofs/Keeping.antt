@@ -16,7 +16,6 @@ use Rattle.clover_words.specs.Version.{buffer_at, content_at}
 use Rattle.clover_map.specs.declared.call.Entry.{Entry}
 use Rattle.clover_map.specs.Tagged.{Tagged}
 use Rattle.clover_rule.specs.Content.{inside, InRange}
-use Rattle.clover_rule.specs.History.{shows}
 use Rattle.clover_rule.specs.Lists.{Within, nth}
 use Rattle.clover_rule.specs.Meets.{IsCode, Decodes, OfRun, Meets}
 use Rattle.clover_rule.specs.Memory.{Next, word}
@@ -90,7 +89,7 @@ module _ (p : Pool) (first : Tagged) (used : List ℕ) (ws : List ℕ) (vs : Lis
   in_renewed y st' stock i x q t w c e f (no d) = (x, set_away vs id i y d ∙ q, t, w, e)
 
   pub stepped : (w0 : Word) (s0 : Side) (n : ℕ) → IsWithin p w0 → HasSide w0 s0 → IsCode w0 n → (y : View) → SameRun v y → (st' : Story) (h' : List Entry) → ((b i : ℕ) → st'.place b ≡ Stocked i → st.place b ≡ Stocked i) → ((t : ℕ) → st'.place (home t) ≡ Stocked id → Within t v.pass.stock → Within t y.pass.stock)
-      → Whole p (shows first) used (mem_of p (slice_set ws (address_of p w0 s0) n)) (renewed vs id y) st' h'
+      → Whole p first used (mem_of p (slice_set ws (address_of p w0 s0) n)) (renewed vs id y) st' h'
       → (b : Bool) (a : Act) (k : ℕ) → Meets p first used (slice_set ws (address_of p w0 s0) n) (renewed vs id (counted b a k y)) st' h'
   stepped w0 s0 n hw hs code y run st' h' places stock w b a k =
       let hl : address_of p w0 s0 < length ws = let q = address_below p w0 s0 hw hs in let e = r.sized in omega arith in
@@ -100,5 +99,5 @@ module _ (p : Pool) (first : Tagged) (used : List ℕ) (ws : List ℕ) (vs : Lis
         same = λ i z q. ⊎_elim (λ d. let o = r.same id v at in subst (OfRun p first used) d.1 (record { of_pool = run.pool ∙ o.of_pool; from_map = run.map ∙ o.from_map; from_used = run.used ∙ o.from_used })) (λ d. r.same i z d.1) (nth_set vs id i (counted b a k y) z q);
         still = λ i z q. ⊎_elim (λ d. ap (λ (u : View). u.plan) (sym d.1) ∙ run.plan ∙ r.still id v at) (λ d. r.still i z d.1) (nth_set vs id i (counted b a k y) z q);
         stocks = λ c i e. let x = r.stocks c i (places c i e) in in_renewed (counted b a k y) st' stock i x.0 x.1 x.2 x.3 c x.4 e (ℕ_discrete i id);
-        whole = recount p (shows first) used (mem_of p (slice_set ws (address_of p w0 s0) n)) vs st' h' id v at y b a k w;
+        whole = recount p first used (mem_of p (slice_set ws (address_of p w0 s0) n)) vs st' h' id v at y b a k w;
       }

@@ -20,11 +20,13 @@ use Rattle.clover_map.specs.declared.call.Call.TheVariants.{Get, Put, Delete, Sw
 use Rattle.clover_map.specs.declared.call.Reply.{Reply}
 use Rattle.clover_map.specs.declared.call.Reply.TheVariants.{Stored, Found, Absent, Deleted, Differs}
 use Rattle.clover_map.specs.declared.call.Entry.{Entry}
+use Rattle.clover_map.specs.History.{key_of}
 use Rattle.clover_map.specs.Tagged.{Tagged}
 use Rattle.clover_map.specs.declared.bytes.Value.{Value}
 use Rattle.clover_rule.specs.Changes.{linked_mem, linked_story, raised_mem}
 use Rattle.clover_rule.specs.Content.{inside, InRange, Fits}
-use Rattle.clover_rule.specs.History.{shows, named, committed, leads, used_by, Does, Map}
+use Rattle.clover_map.specs.Legal.{used_by}
+use Rattle.clover_rule.specs.History.{committed}
 use Rattle.clover_rule.specs.Knowing.{link_view, link_entry, stored_view, flushed_view, MayLink}
 use Rattle.clover_rule.specs.Lists.{Within, upd, nth, Each}
 use Rattle.clover_rule.specs.Meets.{IsCode, Meets, IsMet}
@@ -39,6 +41,8 @@ use Rattle.clover_rule.specs.Words.{next_code, root_of, next_of, mem_of}
 use Rattle.clover_rule.specs.declared.view.Link.{Link}
 use Rattle.clover_rule.specs.declared.view.View.{View}
 use Rattle.clover_map.specs.declared.bytes.Value.{Value}
+use Rattle.clover_rule.proofs.KeyMaps.{shows, leads}
+use Rattle.clover_rule.proofs.TaggedMaps.{Permits}
 use Rattle.clover_rule.proofs.Tools.{upd_same, upd_else}
 use Rattle.clover_rule.proofs.Ties.{write_next, write_fnext, write_body, write_fbody, write_short, next_again, root_again, content_side}
 use Rattle.clover_rule.proofs.Codes.{raise_on_codes, OneLink, Small}
@@ -112,9 +116,6 @@ module _ (p : Pool) (first : Tagged) (used : List ℕ) (ws : List ℕ) (vs : Lis
   abbrev m : Mem
   m = mem_of p ws
 
-  abbrev m0 : Map
-  m0 = shows first
-
   -- what is to be shown of a step that leaves this number, this view and this history
   abbrev After : Step → Bool → ℕ → View → ℕ → List Entry → Type 0
   After a b n y k h' = IsMet p first used (slice_set ws (address_of p (word_of a) (side_of a)) n) (renewed vs id (counted b (act_of a (found p a ws)) k y)) h'
@@ -123,12 +124,12 @@ module _ (p : Pool) (first : Tagged) (used : List ℕ) (ws : List ℕ) (vs : Lis
   room w0 s0 hw hs = let q = address_below p w0 s0 hw hs in let e = r.sized in omega arith
 
   -- a step that leaves its word
-  pub quiet_step : (a : Step) → HasSide (word_of a) (side_of a) → IsWithin p (word_of a) → (b : Bool) (y : View) → SameRun v y → ((t : ℕ) → Within t v.pass.stock → Within t y.pass.stock) → (k : ℕ) (h' : List Entry) → Whole p m0 used m (renewed vs id y) st h' → After a b (found p a ws) y k h'
+  pub quiet_step : (a : Step) → HasSide (word_of a) (side_of a) → IsWithin p (word_of a) → (b : Bool) (y : View) → SameRun v y → ((t : ℕ) → Within t v.pass.stock → Within t y.pass.stock) → (k : ℕ) (h' : List Entry) → Whole p first used m (renewed vs id y) st h' → After a b (found p a ws) y k h'
   quiet_step a hs hw b y run sk k h' w =
       let same : slice_set ws (address_of p (word_of a) (side_of a)) (found p a ws) ≡ ws = set-get_or ws (address_of p (word_of a) (side_of a)) 0 in (
         st,
         stepped p first used ws vs st h r id v at (word_of a) (side_of a) (found p a ws) hw hs (r.decodes (word_of a) (side_of a) hw hs) y run st h' (λ c i e. e) (λ t e z. sk t z)
-            (subst (λ (q : List ℕ). Whole p m0 used (mem_of p q) (renewed vs id y) st h') (sym same) w) b (act_of a (found p a ws)) k,
+            (subst (λ (q : List ℕ). Whole p first used (mem_of p q) (renewed vs id y) st h') (sym same) w) b (act_of a (found p a ws)) k,
       )
 
   pub load_next : (b : Bool) (a : Step) (s t : ℕ) → side_of a ≡ Current → word_of a ≡ NextOf (buffer_at (home t)) → IsWithin p (word_of a) → HasSide (word_of a) (side_of a) → IsClient v → Within (s, t) v.pass.durable → (k : ℕ) → After a b (found p a ws) (seen s t v (next_of (found p a ws))) k h
@@ -137,18 +138,18 @@ module _ (p : Pool) (first : Tagged) (used : List ℕ) (ws : List ℕ) (vs : Lis
       let x : ℕ = found p a ws in
       let is : x ≡ copy_in p ws (NextOf (buffer_at (home t))) Current = ap (λ (z : Word). slice_index ws (address_of p z (side_of a))) ew ∙ ap (λ (z : Side). slice_index ws (address_of p (NextOf (buffer_at (home t))) z)) es in
       quiet_step a hs hw b (seen s t v (next_of x)) (seen_run s t v (next_of x)) (seen_stock s t v (next_of x)) k h
-      (seen_whole p m0 used m vs st h r.whole id v at cl s t d (next_of x) (read_next p ws (home t) i ∙ ap next_of (sym is)))
+      (seen_whole p first used m vs st h r.whole id v at cl s t d (next_of x) (read_next p ws (home t) i ∙ ap next_of (sym is)))
 
   pub at_tail : (t x : ℕ) → inside p (home t) ≡ true → x ≡ copy_in p ws (NextOf (buffer_at (home t))) Current → x ≡ unlinked t → m.next (home t) ≡ word (age t) None
   at_tail t x i is e = read_next p ws (home t) i ∙ ap next_of (sym is ∙ e) ∙ next_again (age t) None (omega arith)
 
   -- the reply that the client read is one that the map gives
-  reply_does : (s t : ℕ) (c : Call) (y : Reply) → Within (s, t) v.pass.durable → Within (s, named c) v.pass.names → m.next (home t) ≡ word (age t) None → IsClient v → MayReply v s t c y → (committed c y ≡ None) × Does (leads m0 h (named c)) (used_by used h) c y
-  reply_does s t (Get k) (Found u x) d n f cl (e, q) = (refl, subst (λ (z : ℕ). Does (leads m0 h k) (used_by used h) (Get k) (Found z x)) (sym e) (found_get p m0 used m vs st h r.whole id v at s k t d n f (client v) cl x q))
-  reply_does s t (Get k) Absent d n f cl q = (refl, absent_get p m0 used m vs st h r.whole id v at s k t d n f (client v) cl q)
-  reply_does s t (Delete k) Absent d n f cl q = (refl, absent_delete p m0 used m vs st h r.whole id v at s k t d n f (client v) cl q)
-  reply_does s t (Swap k e x) Absent d n f cl q = (refl, absent_swap p m0 used m vs st h r.whole id v at s k t d n f (client v) cl e x q)
-  reply_does s t (Swap k e x) (Differs u) d n f cl (z, ne, q) = (refl, subst (λ (y : ℕ). Does (leads m0 h k) (used_by used h) (Swap k e x) (Differs y)) (sym z) (differs p m0 used m vs st h r.whole id v at s k t d n f (client v) cl e x ne q))
+  reply_does : (s t : ℕ) (c : Call) (y : Reply) → Within (s, t) v.pass.durable → Within (s, key_of c) v.pass.names → m.next (home t) ≡ word (age t) None → IsClient v → MayReply v s t c y → (committed c y ≡ None) × Permits (leads (shows first) h (key_of c)) (used_by used h) c y
+  reply_does s t (Get k) (Found u x) d n f cl (e, q) = (refl, subst (λ (z : ℕ). Permits (leads (shows first) h k) (used_by used h) (Get k) (Found z x)) (sym e) (found_get p first used m vs st h r.whole id v at s k t d n f (client v) cl x q))
+  reply_does s t (Get k) Absent d n f cl q = (refl, absent_get p first used m vs st h r.whole id v at s k t d n f (client v) cl q)
+  reply_does s t (Delete k) Absent d n f cl q = (refl, absent_delete p first used m vs st h r.whole id v at s k t d n f (client v) cl q)
+  reply_does s t (Swap k e x) Absent d n f cl q = (refl, absent_swap p first used m vs st h r.whole id v at s k t d n f (client v) cl e x q)
+  reply_does s t (Swap k e x) (Differs u) d n f cl (z, ne, q) = (refl, subst (λ (y : ℕ). Permits (leads (shows first) h k) (used_by used h) (Swap k e x) (Differs y)) (sym z) (differs p first used m vs st h r.whole id v at s k t d n f (client v) cl e x ne q))
   reply_does s t (Get k) (Stored u) d n f cl q = absurd q
   reply_does s t (Get k) (Deleted u) d n f cl q = absurd q
   reply_does s t (Get k) (Differs u) d n f cl q = absurd q
@@ -170,19 +171,19 @@ module _ (p : Pool) (first : Tagged) (used : List ℕ) (ws : List ℕ) (vs : Lis
       (λ e. let f : m.next (home t) ≡ word (age t) None = at_tail t x (inside_of p (home t) hw) refl e in
       let d = reply_does s t c y may.tail may.name f may.client may.reply in
       quiet_step a tt hw b (decided v h t c y) (record { role = refl; pool = refl; map = refl; used = refl; plan = refl }) (λ z q. q) 0 (h ++ link_entry v (client v) c y ∷ [])
-      (load_whole p m0 used m vs st h r.whole id v at s (named c) t may.tail may.name f (client v) may.client c y refl d.0 d.1))
+      (load_whole p first used m vs st h r.whole id v at s (key_of c) t may.tail may.name f (client v) may.client c y refl d.0 d.1))
       (λ n. load_next b a s t refl refl hw tt may.client may.tail 1)
 
   pub own_range : (t : ℕ) (rest : List ℕ) → v.pass.stock ≡ t ∷ rest → InRange p t
   own_range t rest e = let o = (subst (Each (Owned m st id)) e (r.whole.basis.views id v at).stocked).0 in let g = r.whole.help.ranged.ready (home t) (subst Ready (sym o.0) tt) in (g.0, let q = o.1 in let z = g.1 in omega arith)
 
   -- the exchange that wrote
-  link_wrote : (s u t : ℕ) (c : Call) (rest : List ℕ) → MayLink v (client v) s (named c) u t (value_of c) rest → Fits p (value_of c) → MayCall v s u c → m.next (home u) ≡ word (age u) None
-      → Whole p m0 used (linked_mem m u t) (renewed vs id (link_view v h (client v) s u t c (reply_of t c) rest)) (linked_story st s (record { tag = t; value = value_of c })) (h ++ link_entry v (client v) c (reply_of t c) ∷ [])
-  link_wrote s u t (Put k x) rest p1 fits may f = put_decides p m0 used m vs st h r.whole id v at (client v) s k u t x rest p1 fits f
-  link_wrote s u t (Delete k) rest p1 fits may f = delete_decides p m0 used m vs st h r.whole id v at (client v) s k u t rest p1 may f
-  link_wrote s u t (Swap k e x) rest p1 fits may f = subst (λ (z : ℕ). Whole p m0 used (linked_mem m u t) (renewed vs id (link_view v h (client v) s u t (Swap k z x) (Stored t) rest)) (linked_story st s (record { tag = t; value = Some x })) (h ++ link_entry v (client v) (Swap k z x) (Stored t) ∷ []))
-      (sym may.0) (swap_decides p m0 used m vs st h r.whole id v at (client v) s k u t x rest p1 may.1 fits f)
+  link_wrote : (s u t : ℕ) (c : Call) (rest : List ℕ) → MayLink v (client v) s (key_of c) u t (value_of c) rest → Fits p (value_of c) → MayCall v s u c → m.next (home u) ≡ word (age u) None
+      → Whole p first used (linked_mem m u t) (renewed vs id (link_view v h (client v) s u t c (reply_of t c) rest)) (linked_story st s (record { tag = t; value = value_of c })) (h ++ link_entry v (client v) c (reply_of t c) ∷ [])
+  link_wrote s u t (Put k x) rest p1 fits may f = put_decides p first used m vs st h r.whole id v at (client v) s k u t x rest p1 fits f
+  link_wrote s u t (Delete k) rest p1 fits may f = delete_decides p first used m vs st h r.whole id v at (client v) s k u t rest p1 may f
+  link_wrote s u t (Swap k e x) rest p1 fits may f = subst (λ (z : ℕ). Whole p first used (linked_mem m u t) (renewed vs id (link_view v h (client v) s u t (Swap k z x) (Stored t) rest)) (linked_story st s (record { tag = t; value = Some x })) (h ++ link_entry v (client v) (Swap k z x) (Stored t) ∷ []))
+      (sym may.0) (swap_decides p first used m vs st h r.whole id v at (client v) s k u t x rest p1 may.1 fits f)
   link_wrote s u t (Get k) rest p1 fits may f = absurd may
 
   -- the linked buffer leaves the stock, and no other one does
@@ -210,14 +211,14 @@ module _ (p : Pool) (first : Tagged) (used : List ℕ) (ws : List ℕ) (vs : Lis
       let y : View = link_view v h (client v) s u t c (reply_of t c) (rest_of v.pass.stock) in
       let st1 : Story = linked_story st s (record { tag = t; value = value_of c }) in
       let h1 : List Entry = h ++ link_entry v (client v) c (reply_of t c) ∷ [] in
-      let w1 : Whole p m0 used (linked_mem m u t) (renewed vs id y) st1 h1 = subst (λ (q : List ℕ). Whole p m0 used (linked_mem m u t) (renewed vs id (link_view v h (client v) s u t c (reply_of t c) q)) st1 h1) (sym (ap rest_of may.stock)) w0 in
+      let w1 : Whole p first used (linked_mem m u t) (renewed vs id y) st1 h1 = subst (λ (q : List ℕ). Whole p first used (linked_mem m u t) (renewed vs id (link_view v h (client v) s u t c (reply_of t c) q)) st1 h1) (sym (ap rest_of may.stock)) w0 in
       let places = link_places s t (value_of c) in
       let stocks = link_stocks s t (value_of c) may.rest may.stock in
       let mem : mem_of p (slice_set ws (address_of p (NextOf (buffer_at (home u))) Current) (linked u t)) ≡ linked_mem m u t =
       write_next p ws (linked u t) (home u) i (room (NextOf (buffer_at (home u))) Current hw tt) ∙ ap (λ (q : Next). record m { next = upd m.next (home u) q }) code in (
         st1,
         stepped p first used ws vs st h r id v at (NextOf (buffer_at (home u))) Current (linked u t) hw tt (ap next_code code) y (record { role = refl; pool = refl; map = refl; used = refl; plan = refl }) st1 h1 places stocks
-            (subst (λ (q : Mem). Whole p m0 used q (renewed vs id y) st1 h1) (sym mem) w1) b (act_of a x) 0,
+            (subst (λ (q : Mem). Whole p first used q (renewed vs id y) st1 h1) (sym mem) w1) b (act_of a x) 0,
       ))
       (λ n. load_next b a s u refl refl hw tt may.client may.tail 1)
 
@@ -253,12 +254,12 @@ module _ (p : Pool) (first : Tagged) (used : List ℕ) (ws : List ℕ) (vs : Lis
       → After (RaiseNext l) b (becomes (RaiseNext l) (found p (RaiseNext l) ws)) (raise_view v l) 0 h
   raise_next b l hw cl d =
       let x : ℕ = found p (RaiseNext l) ws in
-      let k : IsLink st l = known m0 used m vs st h r.whole.basis id v at l d in
+      let k : IsLink st l = known first used m vs st h r.whole.basis id v at l d in
       let z = raised_words l k hw x refl in
-      let w = raise_whole p m0 used m vs st h r.whole id v at (client v) cl l d in (
+      let w = raise_whole p first used m vs st h r.whole id v at (client v) cl l d in (
         w.0,
         stepped p first used ws vs st h r id v at (NextOf (buffer_at (home l.from))) Flushed (max x (linked l.from l.to)) hw tt z.1 (raise_view v l) (record { role = refl; pool = refl; map = refl; used = refl; plan = refl }) w.0 h (λ c j e. sym (w.2 c) ∙ e) (λ z e q. q)
-            (subst (λ (q : Mem). Whole p m0 used q (renewed vs id (raise_view v l)) w.0 h) (sym z.0) w.1) b (act_of (RaiseNext l) x) 0,
+            (subst (λ (q : Mem). Whole p first used q (renewed vs id (raise_view v l)) w.0 h) (sym z.0) w.1) b (act_of (RaiseNext l) x) 0,
       )
 
   pub store_content : (b : Bool) (t j x : ℕ) → IsWithin p (content_at (home t) j) → IsClient v → Within t v.pass.stock → After (StoreContent t j x) b x (stored_view v t j x) 0 h
@@ -268,7 +269,7 @@ module _ (p : Pool) (first : Tagged) (used : List ℕ) (ws : List ℕ) (vs : Lis
       let mem = write_body p ws x (home t) j q.0 q.1 (room (content_at (home t) j) Current hw hs) in (
         st,
         stepped p first used ws vs st h r id v at (content_at (home t) j) Current x hw hs (content_code (home t) j x) (stored_view v t j x) (record { role = refl; pool = refl; map = refl; used = refl; plan = refl }) st h (λ c i e. e) (λ z e q. q)
-            (subst (λ (z : Mem). Whole p m0 used z (renewed vs id (stored_view v t j x)) st h) (sym mem) (store_whole p m0 used m vs st h r.whole id v at (client v) cl t own j x)) b (act_of (StoreContent t j x) (found p (StoreContent t j x) ws)) 0,
+            (subst (λ (z : Mem). Whole p first used z (renewed vs id (stored_view v t j x)) st h) (sym mem) (store_whole p first used m vs st h r.whole id v at (client v) cl t own j x)) b (act_of (StoreContent t j x) (found p (StoreContent t j x) ws)) 0,
       )
 
   pub flush_content : (b : Bool) (t j x : ℕ) → IsWithin p (content_at (home t) j) → IsClient v → Within t v.pass.stock → After (FlushContent t j x) b x (flushed_view v t j x) 0 h
@@ -278,7 +279,7 @@ module _ (p : Pool) (first : Tagged) (used : List ℕ) (ws : List ℕ) (vs : Lis
       let mem = write_fbody p ws x (home t) j q.0 q.1 (room (content_at (home t) j) Flushed hw hs) in (
         st,
         stepped p first used ws vs st h r id v at (content_at (home t) j) Flushed x hw hs (content_code (home t) j x) (flushed_view v t j x) (record { role = refl; pool = refl; map = refl; used = refl; plan = refl }) st h (λ c i e. e) (λ z e q. q)
-            (subst (λ (z : Mem). Whole p m0 used z (renewed vs id (flushed_view v t j x)) st h) (sym mem) (flush_whole p m0 used m vs st h r.whole id v at (client v) cl t own j x)) b (act_of (FlushContent t j x) (found p (FlushContent t j x) ws)) 0,
+            (subst (λ (z : Mem). Whole p first used z (renewed vs id (flushed_view v t j x)) st h) (sym mem) (flush_whole p first used m vs st h r.whole id v at (client v) cl t own j x)) b (act_of (FlushContent t j x) (found p (FlushContent t j x) ws)) 0,
       )
 
   pub load_content : (b : Bool) (s t j : ℕ) → IsWithin p (content_at (home t) j) → IsClient v → Within (s, t) v.pass.durable → After (LoadContent s t j) b (found p (LoadContent s t j) ws) (learned (LoadContent s t j) h v (found p (LoadContent s t j) ws)) 0 h
@@ -286,10 +287,10 @@ module _ (p : Pool) (first : Tagged) (used : List ℕ) (ws : List ℕ) (vs : Lis
       let q = content_buffer p (home t) j hw in
       let x : ℕ = found p (LoadContent s t j) ws in
       quiet_step (LoadContent s t j) (content_side (home t) j Current) hw b (learned (LoadContent s t j) h v x) (record { role = refl; pool = refl; map = refl; used = refl; plan = refl }) (λ z q. q) 0 h
-      (subst (λ (z : ℕ). Whole p m0 used m (renewed vs id (record v { pass = record v.pass { copied = (s, record { tag = t; place = j; word = z }) ∷ v.pass.copied } })) st h) (read_body p ws (home t) j q.0 q.1) (copied_whole p m0 used m vs st h r.whole id v at cl s t j d))
+      (subst (λ (z : ℕ). Whole p first used m (renewed vs id (record v { pass = record v.pass { copied = (s, record { tag = t; place = j; word = z }) ∷ v.pass.copied } })) st h) (read_body p ws (home t) j q.0 q.1) (copied_whole p first used m vs st h r.whole id v at cl s t j d))
 
   pub read_slot : (b : Bool) (a : Step) (s : ℕ) → HasSide (word_of a) (side_of a) → IsWithin p (word_of a) → IsClient v → ((t : ℕ) → root_of (found p a ws) ≡ Some t → Durable st s t) → After a b (found p a ws) (started s v (root_of (found p a ws))) 0 h
-  read_slot b a s hs hw cl f = quiet_step a hs hw b (started s v (root_of (found p a ws))) (started_run s v (root_of (found p a ws))) (started_stock s v (root_of (found p a ws))) 0 h (started_whole p m0 used m vs st h r.whole id v at cl s (root_of (found p a ws)) f)
+  read_slot b a s hs hw cl f = quiet_step a hs hw b (started s v (root_of (found p a ws))) (started_run s v (root_of (found p a ws))) (started_stock s v (root_of (found p a ws))) 0 h (started_whole p first used m vs st h r.whole id v at cl s (root_of (found p a ws)) f)
 
   pub store_short : (b : Bool) (s t : ℕ) → s < p.slots → IsClient v → Within (s, t) v.pass.durable → After (StoreShort s t) b (root_code (Some t)) v 0 h
   store_short b s t hw cl d =
@@ -297,23 +298,23 @@ module _ (p : Pool) (first : Tagged) (used : List ℕ) (ws : List ℕ) (vs : Lis
       write_short p ws (root_code (Some t)) s hw (room (Short s) Current hw tt) ∙ ap (λ (q : Option ℕ). record m { short = upd m.short s q }) (root_again (Some t)) in (
         st,
         stepped p first used ws vs st h r id v at (Short s) Current (root_code (Some t)) hw tt (ap root_code (root_again (Some t))) v (same_self v) st h (λ c i e. e) (λ z e q. q)
-            (subst (λ (z : Mem). Whole p m0 used z (renewed vs id v) st h) (sym mem) (lead_whole p m0 used m vs st h r.whole id v at cl s t d)) b (act_of (StoreShort s t) (found p (StoreShort s t) ws)) 0,
+            (subst (λ (z : Mem). Whole p first used z (renewed vs id v) st h) (sym mem) (lead_whole p first used m vs st h r.whole id v at cl s t d)) b (act_of (StoreShort s t) (found p (StoreShort s t) ws)) 0,
       )
 
   pub read_count : (b : Bool) → IsClient v → After ReadCount b (found p ReadCount ws) (counts v (found p ReadCount ws)) 0 h
-  read_count b cl = quiet_step ReadCount tt tt b (counts v (found p ReadCount ws)) (record { role = refl; pool = refl; map = refl; used = refl; plan = refl }) (λ z q. q) 0 h (counts_whole p m0 used m vs st h r.whole id v at cl)
+  read_count b cl = quiet_step ReadCount tt tt b (counts v (found p ReadCount ws)) (record { role = refl; pool = refl; map = refl; used = refl; plan = refl }) (λ z q. q) 0 h (counts_whole p first used m vs st h r.whole id v at cl)
 
-  pub absent_count : (b : Bool) (c : Call) → IsClient v → MayMiss c → ((s : ℕ) → Within (s, named c) v.pass.names → ⊥)
+  pub absent_count : (b : Bool) (c : Call) → IsClient v → MayMiss c → ((s : ℕ) → Within (s, key_of c) v.pass.names → ⊥)
       → After (AbsentCount c) b (found p (AbsentCount c) ws) (learned (AbsentCount c) h v (found p (AbsentCount c) ws)) 0 (next_history (AbsentCount c) h v (found p (AbsentCount c) ws))
   absent_count b c cl mc away =
       let a : Step = AbsentCount c in
       let x : ℕ = found p a ws in
       by_test x (length v.pass.names) (λ (z : Bool). After a b x (cond z (missed v h c x) (counts v x)) 0 (cond z (h ++ link_entry v (client v) c Absent ∷ []) h))
       (λ e. quiet_step a tt tt b (missed v h c x) (record { role = refl; pool = refl; map = refl; used = refl; plan = refl }) (λ z q. q) 0 (h ++ link_entry v (client v) c Absent ∷ [])
-      (let d = miss_does c mc (absent_now p m0 used m vs st h r.whole id v at (named c) away e) in count_whole p m0 used m vs st h r.whole id v at (named c) away e (client v) cl c Absent refl d.0 d.1))
-      (λ n. quiet_step a tt tt b (counts v x) (record { role = refl; pool = refl; map = refl; used = refl; plan = refl }) (λ z q. q) 0 h (counts_whole p m0 used m vs st h r.whole id v at cl))
+      (let d = miss_does c mc (absent_now p first used m vs st h r.whole id v at (key_of c) away e) in count_whole p first used m vs st h r.whole id v at (key_of c) away e (client v) cl c Absent refl d.0 d.1))
+      (λ n. quiet_step a tt tt b (counts v x) (record { role = refl; pool = refl; map = refl; used = refl; plan = refl }) (λ z q. q) 0 h (counts_whole p first used m vs st h r.whole id v at cl))
     where
-      miss_does : (c : Call) → MayMiss c → leads m0 h (named c) ≡ None → (committed c Absent ≡ None) × Does (leads m0 h (named c)) (used_by used h) c Absent
+      miss_does : (c : Call) → MayMiss c → leads (shows first) h (key_of c) ≡ None → (committed c Absent ≡ None) × Permits (leads (shows first) h (key_of c)) (used_by used h) c Absent
       miss_does (Get k) q e = (refl, e)
       miss_does (Delete k) q e = (refl, e)
       miss_does (Swap k y x) q e = (refl, e)

@@ -1,8 +1,8 @@
 -- Keys are the same exactly where their test says so, and a function of keys changed at one key.
+use Rattle.clover_rule.proofs.KeyMaps.{at_key}
 use Rattle.std.proofs.Common.{◌≡◌, ◌≢◌, ℕ, List, Bool, true, false, refl, sym, ◌∙◌, true≢false}
 use Rattle.std.specs.Str.{bytes_eq}
 use Rattle.std.proofs.lemmas.Slice.Eq.{bytes_eq-Decides}
-use Rattle.clover_rule.specs.History.{at_key}
 
 pub eq_key : (a b : List ℕ) → a ≡ b → bytes_eq a b ≡ true
 eq_key a b = (bytes_eq-Decides a b).1

@@ -4,7 +4,8 @@ use Rattle.std.specs.Prelude.{Option, Some, None}
 use Rattle.std.proofs.lemmas.List.{set-set}
 use Rattle.clover_words.specs.Tag.{home, age}
 use Rattle.clover_map.specs.declared.call.Entry.{Entry}
-use Rattle.clover_rule.specs.History.{Map, used_by}
+use Rattle.clover_map.specs.Tagged.{Tagged}
+use Rattle.clover_map.specs.Legal.{used_by}
 use Rattle.clover_rule.specs.Lists.{upd, Each, Within, nth}
 use Rattle.clover_rule.specs.Memory.{Next, word, Mem}
 use Rattle.clover_rule.specs.Server.{Whole}
@@ -22,7 +23,7 @@ use Rattle.clover_rule.proofs.Quiet.{loaded_link, loaded_body}
 use Rattle.clover_rule.proofs.ClientLaws.{quiet_whole, short_whole}
 use Rattle.clover_rule.proofs.ServerTools.{core_copy, own_whole}
 
-module _ (p : Pool) (m0 : Map) (used : List ℕ) (m : Mem) (vs : List View) (st : Story) (h : List Entry) (w : Whole p m0 used m vs st h) (id : ℕ) (v : View) (at : nth vs id ≡ Some v) (cl : IsClient v) where
+module _ (p : Pool) (m0 : Tagged) (used : List ℕ) (m : Mem) (vs : List View) (st : Story) (h : List Entry) (w : Whole p m0 used m vs st h) (id : ℕ) (v : View) (at : nth vs id ≡ Some v) (cl : IsClient v) where
   ok : ViewOk m st h id v
   ok = w.basis.views id v at
 
@@ -91,7 +92,7 @@ module _ (p : Pool) (m0 : Map) (used : List ℕ) (m : Mem) (vs : List View) (st 
       })
 
 -- counting is read by no fact
-pub recount : (p : Pool) (m0 : Map) (used : List ℕ) (m : Mem) (vs : List View) (st : Story) (h : List Entry) (id : ℕ) (v : View) → nth vs id ≡ Some v → (y : View) → (first : Bool) (a : Act) (n : ℕ) → Whole p m0 used m (renewed vs id y) st h → Whole p m0 used m (renewed vs id (counted first a n y)) st h
+pub recount : (p : Pool) (m0 : Tagged) (used : List ℕ) (m : Mem) (vs : List View) (st : Story) (h : List Entry) (id : ℕ) (v : View) → nth vs id ≡ Some v → (y : View) → (first : Bool) (a : Act) (n : ℕ) → Whole p m0 used m (renewed vs id y) st h → Whole p m0 used m (renewed vs id (counted first a n y)) st h
 recount p m0 used m vs st h id v at y first a n w =
     let here : nth (renewed vs id y) id ≡ Some y = set_here vs id y v at in
     let ok : ViewOk m st h id y = w.basis.views id y here in

@@ -21,6 +21,7 @@ pub mod Moving
 pub mod Keeping
 pub mod Learning
 pub mod Ties
+pub mod KeyMaps
 pub mod TaggedMaps
 pub mod Spelling
 pub mod Histories

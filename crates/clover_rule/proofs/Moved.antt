@@ -2,7 +2,8 @@
 use Rattle.std.proofs.Common.{◌≡◌, ℕ, List, [], ◌∷◌, ◌++◌, set, refl, sym, ap, ◌∙◌, inl, inr, ⊎_elim}
 use Rattle.std.specs.Prelude.{Some}
 use Rattle.clover_map.specs.declared.call.Entry.{Entry}
-use Rattle.clover_rule.specs.History.{Map, used_by}
+use Rattle.clover_map.specs.Tagged.{Tagged}
+use Rattle.clover_map.specs.Legal.{used_by}
 use Rattle.clover_rule.specs.Lists.{nth}
 use Rattle.clover_rule.specs.Memory.{gen, Mem}
 use Rattle.clover_rule.specs.Server.{Ready, AtStage, Help, book_of, Whole}
@@ -60,7 +61,7 @@ back_ready f Free e = e
 back_ready f Worn e = e
 back_ready f Taken e = e
 
-module _ (l : Pool) (m0 : Map) (used : List ℕ) (m : Mem) (vs vs' : List View) (st : Story) (h : List Entry) (w : Whole l m0 used m vs st h) (f : ℕ → ℕ)
+module _ (l : Pool) (m0 : Tagged) (used : List ℕ) (m : Mem) (vs vs' : List View) (st : Story) (h : List Entry) (w : Whole l m0 used m vs st h) (f : ℕ → ℕ)
     (there : (i : ℕ) (y : View) → nth vs i ≡ Some y → nth vs' (f i) ≡ Some y) (back : (k : ℕ) (y : View) → nth vs' k ≡ Some y → (i : ℕ) × (nth vs i ≡ Some y) × (f i ≡ k)) where
   abbrev pub st' : Story
   st' = record st { place = λ (b : ℕ). moved f (st.place b) }
@@ -154,7 +155,7 @@ module _ (l : Pool) (m0 : Map) (used : List ℕ) (m : Mem) (vs vs' : List View) 
   }
 
 -- a note is split off a pass
-module _ (l : Pool) (m0 : Map) (used : List ℕ) (m : Mem) (vs : List View) (st : Story) (h : List Entry) (w : Whole l m0 used m vs st h) (id : ℕ) (v : View) (at : nth vs id ≡ Some v) (n : ℕ) (role : v.pass.role ≡ Client n) where
+module _ (l : Pool) (m0 : Tagged) (used : List ℕ) (m : Mem) (vs : List View) (st : Story) (h : List Entry) (w : Whole l m0 used m vs st h) (id : ℕ) (v : View) (at : nth vs id ≡ Some v) (n : ℕ) (role : v.pass.role ≡ Client n) where
   pub note_whole : Whole l m0 used m (set vs id v ++ note_of v ∷ []) st h
   note_whole = let k = w.basis.views id v at in split_whole l m0 used m vs st h w id v v (note_of v) at [] tt refl refl refl (λ e. cc) (λ c e. cc) k
       (record { stocked = tt; apart = tt; durable = tt; links = tt; words = tt; written = tt; flushed = tt; copied = tt; names = k.names; added = inl refl; most = k.most; history = k.history; calls = tt })

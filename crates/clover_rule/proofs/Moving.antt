@@ -7,7 +7,6 @@ use Rattle.clover_words.specs.declared.pool.Pool.{Pool}
 use Rattle.clover_words.specs.Tag.{home}
 use Rattle.clover_map.specs.declared.call.Entry.{Entry}
 use Rattle.clover_map.specs.Tagged.{Tagged}
-use Rattle.clover_rule.specs.History.{shows}
 use Rattle.clover_rule.specs.Laws.{ClientLaw, GrantLaw, AcceptLaw, HandOverLaw, NoteLaw, JoinNoteLaw, SpentLaw}
 use Rattle.clover_rule.specs.Lists.{Each, IsPart, Within, nth, upd}
 use Rattle.clover_rule.specs.Meets.{InStocks, Meets, OfRun}
@@ -15,7 +14,7 @@ use Rattle.clover_rule.specs.Memory.{Mem}
 use Rattle.clover_rule.specs.Moves.{MayAccept, MayGrant, MayHand, MayMake, MayNote, accepted, client_of, given, giving, grant, joined, making, note_of, noted, spent, split}
 use Rattle.clover_rule.specs.Server.{Whole, waiting_name}
 use Rattle.clover_rule.specs.Story.{Place, Stocked, Story}
-use Rattle.clover_rule.specs.Views.{handed}
+use Rattle.clover_rule.specs.Views.{batch_at}
 use Rattle.clover_rule.specs.Words.{mem_of}
 use Rattle.clover_rule.specs.declared.view.GrantRefusal.{GrantRefusal}
 use Rattle.clover_rule.specs.declared.view.Role.TheVariants.{Client, Serving}
@@ -51,7 +50,7 @@ in_front vs id v left right at same i y e = go (ℕ_discrete i id)
     go (no d) = (y, here ∙ set_away vs id i left d ∙ e, refl)
 
 -- where a buffer whose place is a stock came from
-in_hand : (f : ℕ → Place) (ts : List ℕ) (k b i : ℕ) → handed f ts (Stocked k) b ≡ Stocked i → ((t : ℕ) × Within t ts × (home t ≡ b) × (k ≡ i)) ⊎ (f b ≡ Stocked i)
+in_hand : (f : ℕ → Place) (ts : List ℕ) (k b i : ℕ) → batch_at f ts (Stocked k) b ≡ Stocked i → ((t : ℕ) × Within t ts × (home t ≡ b) × (k ≡ i)) ⊎ (f b ≡ Stocked i)
 in_hand f [] k b i e = inr e
 in_hand f (t ∷ ts) k b i e = ⊎_elim (λ a. inl (a.0, inr a.1, a.2, a.3)) (λ a. go (ℕ_discrete b (home t)) a) (in_hand (upd f (home t) (Stocked k)) ts k b i e)
   where
@@ -86,7 +85,7 @@ module _ (p : Pool) (first : Tagged) (used : List ℕ) (ws : List ℕ) (vs : Lis
   bindings_are role bs e = let s = r.whole.serves id v at role in cut_rest st.bindings bs (waiting_name st.task) (sym s.directory ∙ e ∙ ap (λ (t : ServerTask). bs ++ waiting_name t) s.task_is)
 
   -- a split over the same words
-  split_met : (left right : View) → OfRun p first used left → OfRun p first used right → left.plan ≡ [] → right.plan ≡ [] → (st1 : Story) → InStocks (split vs id left right) st1 → Whole p (shows first) used m (split vs id left right) st1 h → Meets p first used ws (split vs id left right) st1 h
+  split_met : (left right : View) → OfRun p first used left → OfRun p first used right → left.plan ≡ [] → right.plan ≡ [] → (st1 : Story) → InStocks (split vs id left right) st1 → Whole p first used m (split vs id left right) st1 h → Meets p first used ws (split vs id left right) st1 h
   split_met left right a b c d st1 stocks w = record {
     sized = r.sized;
     decodes = r.decodes;
@@ -96,7 +95,7 @@ module _ (p : Pool) (first : Tagged) (used : List ℕ) (ws : List ℕ) (vs : Lis
     whole = w;
   }
 
-  joined_met : (j : ℕ) (both rest : View) → OfRun p first used both → OfRun p first used rest → both.plan ≡ [] → rest.plan ≡ [] → (st1 : Story) → InStocks (joined vs id both j rest) st1 → Whole p (shows first) used m (joined vs id both j rest) st1 h → Meets p first used ws (joined vs id both j rest) st1 h
+  joined_met : (j : ℕ) (both rest : View) → OfRun p first used both → OfRun p first used rest → both.plan ≡ [] → rest.plan ≡ [] → (st1 : Story) → InStocks (joined vs id both j rest) st1 → Whole p first used m (joined vs id both j rest) st1 h → Meets p first used ws (joined vs id both j rest) st1 h
   joined_met j both rest a b c d st1 stocks w = record {
     sized = r.sized;
     decodes = r.decodes;
@@ -115,16 +114,16 @@ module _ (p : Pool) (first : Tagged) (used : List ℕ) (ws : List ℕ) (vs : Lis
 
   pub client_met : (n : ℕ) → MayMake v n → Meets p first used ws (split vs id (making n v) (client_of n v)) st h
   client_met n may = split_met (making n v) (client_of n v) (record { of_pool = of.of_pool; from_map = of.from_map; from_used = of.from_used }) (record { of_pool = of.of_pool; from_map = of.from_map; from_used = of.from_used }) still_here refl st
-      (stocks_split (making n v) (client_of n v) refl) (split_client p (shows first) used m vs st h r.whole id v at may.server n may.fresh)
+      (stocks_split (making n v) (client_of n v) refl) (split_client p first used m vs st h r.whole id v at may.server n may.fresh)
 
   pub note_met : (n : ℕ) → v.pass.role ≡ Client n → Meets p first used ws (split vs id v (note_of v)) st h
   note_met n role = split_met v (note_of v) of (record { of_pool = of.of_pool; from_map = of.from_map; from_used = of.from_used }) still_here refl st
-      (stocks_split v (note_of v) refl) (note_whole p (shows first) used m vs st h r.whole id v at n role)
+      (stocks_split v (note_of v) refl) (note_whole p first used m vs st h r.whole id v at n role)
 
   -- a batch of free tags goes to a grant
   module _ (batch : List ℕ) (position : ℕ) (names : List (ℕ × List ℕ)) (may : MayGrant p v batch position names) where
     abbrev pub granted : Story
-    granted = record st { place = handed st.place batch (Stocked (length vs)) }
+    granted = record st { place = batch_at st.place batch (Stocked (length vs)) }
 
     part : IsPart position names st.bindings
     part = subst (IsPart position names) (sym (bindings_are may.tags.server may.bindings may.directory)) may.part
@@ -137,7 +136,7 @@ module _ (p : Pool) (first : Tagged) (used : List ℕ) (ws : List ℕ) (vs : Lis
 
     pub grant_met : Meets p first used ws (split vs id (giving batch v) (grant batch position names v)) granted h
     grant_met = split_met (giving batch v) (grant batch position names v) (record { of_pool = of.of_pool; from_map = of.from_map; from_used = of.from_used }) (record { of_pool = of.of_pool; from_map = of.from_map; from_used = of.from_used }) still_here refl granted stocks_granted
-        (grant_whole p (shows first) used m vs st h r.whole id v at may.tags.server batch may.tags.free may.tags.apart position names part)
+        (grant_whole p first used m vs st h r.whole id v at may.tags.server batch may.tags.free may.tags.apart position names part)
 
   module _ (j : ℕ) (apart : j ≢ id) (y : View) (there : nth vs j ≡ Some y) where
     -- the views after a join, at the joining seat and elsewhere
@@ -155,16 +154,16 @@ module _ (p : Pool) (first : Tagged) (used : List ℕ) (ws : List ℕ) (vs : Lis
 
     pub noted_met : MayNote v y → Meets p first used ws (joined vs id (noted v y) j (spent v)) st h
     noted_met may = joined_met j (noted v y) (spent v) (record { of_pool = of.of_pool; from_map = of.from_map; from_used = of.from_used }) (record { of_pool = of.of_pool; from_map = of.from_map; from_used = of.from_used }) still_here refl st
-        (stocks_joined (noted v y) (spent v) refl may.stock) (join_note p (shows first) used m vs st h r.whole id j apart v y at there may.server may.noting may.stock)
+        (stocks_joined (noted v y) (spent v) refl may.stock) (join_note p first used m vs st h r.whole id j apart v y at there may.server may.noting may.stock)
 
     -- a grant is taken in
     module _ (may : MayAccept v y) where
       abbrev pub taken_in : Story
-      taken_in = record st { place = handed st.place y.pass.stock (Stocked id) }
+      taken_in = record st { place = batch_at st.place y.pass.stock (Stocked id) }
 
-      at_hand : (ts : List ℕ) (t : ℕ) → Within t ts → Each (λ (u : ℕ). (handed st.place y.pass.stock (Stocked id) (home u) ≡ Stocked id) × Unit {0}) ts → handed st.place y.pass.stock (Stocked id) (home t) ≡ Stocked id
+      at_hand : (ts : List ℕ) (t : ℕ) → Within t ts → Each (λ (u : ℕ). (batch_at st.place y.pass.stock (Stocked id) (home u) ≡ Stocked id) × Unit {0}) ts → batch_at st.place y.pass.stock (Stocked id) (home t) ≡ Stocked id
       at_hand [] t w e = absurd w
-      at_hand (u ∷ ts) t w e = ⊎_elim (λ q. ap (λ (z : ℕ). handed st.place y.pass.stock (Stocked id) (home z)) (sym q) ∙ e.0.0) (λ q. at_hand ts t q e.1) w
+      at_hand (u ∷ ts) t w e = ⊎_elim (λ q. ap (λ (z : ℕ). batch_at st.place y.pass.stock (Stocked id) (home z)) (sym q) ∙ e.0.0) (λ q. at_hand ts t q e.1) w
 
       units : (ts : List ℕ) → Each (λ (u : ℕ). Unit {0}) ts
       units [] = tt
@@ -179,15 +178,15 @@ module _ (p : Pool) (first : Tagged) (used : List ℕ) (ws : List ℕ) (vs : Lis
           go : (z : View) → nth vs i ≡ Some z → (t : ℕ) → Within t z.pass.stock → home t ≡ b → Dec (i ≡ j) → Dec (i ≡ id) → (x : View) × (nth (joined vs id (accepted v y) j (spent v)) i ≡ Some x) × (u : ℕ) × Within u x.pass.stock × (home u ≡ b)
           go z q t w g (yes d) f =
               let zy : z ≡ y = let zz : Some z ≡ Some y = sym q ∙ ap (nth vs) d ∙ there in cc in
-              let now : handed st.place y.pass.stock (Stocked id) (home t) ≡ Stocked id = at_hand y.pass.stock t (subst (λ (o : View). Within t o.pass.stock) zy w) (all_there st.place y.pass.stock (Stocked id) (λ (u : ℕ). Unit {0}) (units y.pass.stock)) in
-              let same : Stocked id ≡ Stocked i = sym now ∙ ap (handed st.place y.pass.stock (Stocked id)) g ∙ e in
+              let now : batch_at st.place y.pass.stock (Stocked id) (home t) ≡ Stocked id = at_hand y.pass.stock t (subst (λ (o : View). Within t o.pass.stock) zy w) (all_there st.place y.pass.stock (Stocked id) (λ (u : ℕ). Unit {0}) (units y.pass.stock)) in
+              let same : Stocked id ≡ Stocked i = sym now ∙ ap (batch_at st.place y.pass.stock (Stocked id)) g ∙ e in
               absurd (apart (let c : id ≡ i = cc in sym d ∙ sym c))
           go z q t w g (no d) (yes f) = let zv : z ≡ v = let zz : Some z ≡ Some v = sym q ∙ ap (nth vs) f ∙ at in cc in (accepted v y, ap (nth (joined vs id (accepted v y) j (spent v))) f ∙ here (accepted v y) (spent v), t, before t v.pass.stock y.pass.stock (subst (λ (o : View). Within t o.pass.stock) zv w), g)
           go z q t w g (no d) (no f) = (z, set_away (set vs id (accepted v y)) j i (spent v) d ∙ set_away vs id i (accepted v y) f ∙ q, t, w, g)
 
       pub accept_met : Meets p first used ws (joined vs id (accepted v y) j (spent v)) taken_in h
       accept_met = joined_met j (accepted v y) (spent v) (record { of_pool = of.of_pool; from_map = of.from_map; from_used = of.from_used }) (record { of_pool = of.of_pool; from_map = of.from_map; from_used = of.from_used }) still_here refl taken_in stocks_accepted
-          (join_whole p (shows first) used m vs st h r.whole id j apart v y at there may.number may.client may.granting may.fits may.bare)
+          (join_whole p first used m vs st h r.whole id j apart v y at there may.number may.client may.granting may.fits may.bare)
 
 -- what is left of a view goes
 pub spent_met : (p : Pool) (first : Tagged) (used : List ℕ) (ws : List ℕ) (vs : List View) (st : Story) (h : List Entry) (w : View) → Meets p first used ws (vs ++ spent w ∷ []) st h → (i : ℕ) (v : View) → nth vs i ≡ Some v → Meets p first used ws vs st h
@@ -197,7 +196,7 @@ spent_met p first used ws vs st h w r i v at = record {
   same = λ k y e. r.same k y (front k y e);
   still = λ k y e. r.still k y (front k y e);
   stocks = λ b k e. let o = r.stocks b k e in ⊎_elim (λ q. (o.0, q, o.2, o.3, o.4)) (λ q. absurd (subst (λ (y : View). Within o.2 y.pass.stock) (sym q.1) o.3)) (nth_snoc vs (spent w) o.0 k o.1);
-  whole = dropped p (shows first) used (mem_of p ws) vs (spent w) st h r.whole refl (i, v, at);
+  whole = dropped p first used (mem_of p ws) vs (spent w) st h r.whole refl (i, v, at);
 }
   where
     front : (k : ℕ) (y : View) → nth vs k ≡ Some y → nth (vs ++ spent w ∷ []) k ≡ Some y

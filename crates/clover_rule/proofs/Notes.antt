@@ -3,7 +3,8 @@ use Rattle.std.proofs.Common.{◌≡◌, ℕ, ◌≤◌, ◌≢◌, List, [], le
 use Rattle.std.specs.Prelude.{Some}
 use Rattle.std.proofs.lemmas.Bool.{leb-true, leb-false}
 use Rattle.clover_map.specs.declared.call.Entry.{Entry}
-use Rattle.clover_rule.specs.History.{Map, longer}
+use Rattle.clover_map.specs.Tagged.{Tagged}
+use Rattle.clover_rule.specs.History.{longer}
 use Rattle.clover_rule.specs.Lists.{nth, IsPrefix}
 use Rattle.clover_rule.specs.Memory.{Mem}
 use Rattle.clover_rule.specs.Server.{Whole}
@@ -35,7 +36,7 @@ long_right a b h p q e = go (leb (length a) (length b)) refl
     go false f = let y = leb-false (length a) (length b) f in let z = prefix_length a h p in let z1 = ap length e in sym (whole_prefix a h p (omega arith))
 
 -- the join of a note
-module _ (l : Pool) (m0 : Map) (used : List ℕ) (m : Mem) (vs : List View) (st : Story) (h : List Entry) (w : Whole l m0 used m vs st h) (id j : ℕ) (apart_seats : j ≢ id) (v y : View) (at : nth vs id ≡ Some v) (there_at : nth vs j ≡ Some y)
+module _ (l : Pool) (m0 : Tagged) (used : List ℕ) (m : Mem) (vs : List View) (st : Story) (h : List Entry) (w : Whole l m0 used m vs st h) (id j : ℕ) (apart_seats : j ≢ id) (v y : View) (at : nth vs id ≡ Some v) (there_at : nth vs j ≡ Some y)
     (role : v.pass.role ≡ Serving) (noting : y.pass.role ≡ Noting) (no_stock : y.pass.stock ≡ []) where
   abbrev joining : View
   joining = noted v y

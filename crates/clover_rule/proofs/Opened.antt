@@ -9,7 +9,6 @@ use Rattle.clover_words.specs.declared.pool.Pool.{Pool}
 use Rattle.clover_words.specs.Tag.{home}
 use Rattle.clover_map.specs.Tagged.{Tagged}
 use Rattle.clover_rule.specs.Content.{inside}
-use Rattle.clover_rule.specs.History.{Map, shows}
 use Rattle.clover_rule.specs.Laws.{OpeningLaw}
 use Rattle.clover_rule.specs.Lists.{Each, Within, nth}
 use Rattle.clover_rule.specs.Memory.{Mem, gen}
@@ -31,9 +30,6 @@ module _ (p : Pool) (first : Tagged) (used ws : List ℕ) (vs : List View) (o : 
   abbrev m : Mem
   m = mem_of p ws
 
-  abbrev m0 : Map
-  m0 = shows first
-
   -- no view has a stock
   abbrev owner : ℕ → Option ℕ
   owner = λ (b : ℕ). None
@@ -45,7 +41,7 @@ module _ (p : Pool) (first : Tagged) (used ws : List ℕ) (vs : List View) (o : 
   owners = record { off = λ b i e. absurd (nobody i e); in_pool = λ b i e. absurd (nobody i e); young = λ b i e. absurd (nobody i e) }
 
   abbrev st : Story
-  st = opened p o.image o.sound m0 used m o.opens owner owners
+  st = opened p o.image o.sound first used m o.opens owner owners
 
   starts : (i : ℕ) (y : View) → nth vs i ≡ Some y → Starts m o.opens.bindings owner i y
   starts i y e = let b = v.begins i y e in record {
@@ -66,7 +62,7 @@ module _ (p : Pool) (first : Tagged) (used ws : List ℕ) (vs : List View) (o : 
   }
 
   root_is : (s : ℕ) → tag_at st s 0 ≡ o.image.root s
-  root_is s = sym ((open_core p o.image o.sound m0 used m o.opens owner owners).root s) ∙ (o.opens.root s).0
+  root_is s = sym ((open_core p o.image o.sound first used m o.opens owner owners).root s) ∙ (o.opens.root s).0
 
   -- the first tag of a chain stands in the buffer exactly where the buffer stands first
   first_home : (b s i : ℕ) → o.opens.spot b ≡ Some (s, i) → is_home (tag_at st s 0) b ≡ eqb i 0
@@ -124,7 +120,7 @@ module _ (p : Pool) (first : Tagged) (used ws : List ℕ) (vs : List View) (o : 
     same = λ i y e. (v.begins i y e).run;
     still = λ i y e. (v.begins i y e).plan;
     stocks = no_stock;
-    whole = open_whole p o.image o.sound m0 used m o.opens owner owners vs starts v.numbered v.some (λ i y e s. serves y.server (v.serves i y e s)) v.one v.made;
+    whole = open_whole p o.image o.sound first used m o.opens owner owners vs starts v.numbered v.some (λ i y e s. serves y.server (v.serves i y e s)) v.one v.made;
   })
 
 pub opening_law : OpeningLaw

@@ -6,8 +6,9 @@ use Rattle.std.proofs.lemmas.Bool.Decides.{nat_tests}
 use Rattle.clover_words.specs.Tag.{home, age}
 use Rattle.clover_map.specs.declared.bytes.Value.{Value}
 use Rattle.clover_map.specs.declared.call.Entry.{Entry}
+use Rattle.clover_map.specs.Tagged.{Tagged}
 use Rattle.clover_rule.specs.Content.{content, InRange, Spells, inside, Fits}
-use Rattle.clover_rule.specs.History.{Version, Map}
+use Rattle.clover_rule.specs.History.{Version}
 use Rattle.clover_rule.specs.Image.{Image, Chain}
 use Rattle.clover_rule.specs.Lists.{Within, Each, nth}
 use Rattle.clover_rule.specs.Memory.{word, gen, link, Mem}
@@ -15,7 +16,7 @@ use Rattle.clover_rule.specs.Opening.{Owners, Starts, Opens}
 use Rattle.clover_rule.specs.Server.{Serves, Ready, Help, Whole}
 use Rattle.clover_rule.specs.Sound.{Sound, versions_of}
 use Rattle.clover_rule.specs.Story.{Durable, Stocked, Place, Chained, Free, Worn, Taken, Loose, Story, tag_in_version, tag_at, now_at, Core, Tale, Standing, only}
-use Rattle.clover_rule.specs.Views.{Owned, OwnCalls, ViewOk, IsLink, Past, IsCopied, Numbered}
+use Rattle.clover_rule.specs.Views.{Owned, OwnCalls, ViewOk, IsLink, Past, IsCopied, Numbered, Spent}
 use Rattle.clover_rule.specs.declared.view.Content.{Content}
 use Rattle.clover_rule.specs.declared.view.Role.{Role}
 use Rattle.clover_rule.specs.declared.view.Role.TheVariants.{Client, Serving, Granting, Noting, Joined, Restarting}
@@ -23,7 +24,7 @@ use Rattle.clover_rule.specs.declared.view.Shown.{Shown}
 use Rattle.clover_rule.specs.declared.view.ServerTask.TheVariants.{Idle}
 use Rattle.clover_rule.specs.declared.view.View.{View}
 use Rattle.clover_words.specs.declared.pool.Pool.{Pool}
-use Rattle.clover_rule.proofs.Tools.{nth_within}
+use Rattle.clover_rule.proofs.Tools.{nth_within, each_both}
 use Rattle.clover_rule.proofs.Standings.{tag_within, word_is}
 use Rattle.clover_rule.proofs.Steps.{each_map}
 use Rattle.std.specs.Prelude.{◌&&◌}
@@ -77,7 +78,7 @@ abbrev pub has : Option (List ℕ) → Bool
 has None = false
 has (Some x) = true
 
-module _ (l : Pool) (im : Image) (sound : Sound l im) (m0 : Map) (used : List ℕ) (m : Mem) (o : Opens l im sound m0 used m) (owner : ℕ → Option ℕ) (own : Owners l im o.spot owner) where
+module _ (l : Pool) (im : Image) (sound : Sound l im) (m0 : Tagged) (used : List ℕ) (m : Mem) (o : Opens l im sound m0 used m) (owner : ℕ → Option ℕ) (own : Owners l im o.spot owner) where
   abbrev ready_test : ℕ → Bool
   ready_test b = inside l b && ltb (gen (im.next b)) l.wear
 
@@ -288,7 +289,7 @@ module _ (l : Pool) (im : Image) (sound : Sound l im) (m0 : Map) (used : List �
         core = open_core;
         tale = open_tale;
         bodies = λ s i w e g j y q. let a = versions_at (sound.chain s) (sound.value s) i w e in let b = (sound.contents s i w.tag a.0).1 j y (ap (λ (x : Option Value). nth (content x) j) (sym a.1) ∙ q) in ((o.body (home w.tag) j).0 ∙ b, (o.body (home w.tag) j).1 ∙ b);
-        spent = each_map (λ t d. ⊎_elim (λ a. inl (let z = ap gen (o.next (home t)).0 in omega arith)) (λ a. inr (a.0, ap (λ (p : Option (ℕ × ℕ)). placed p (rest_place (owner (home t)) (ready_test (home t)))) a.2, a.3 ∙ sym (ap gen (o.next (home t)).0))) d.1) used o.used_is;
+        spent = each_both (Spent m opened) used [] (each_map (λ t d. ⊎_elim (λ a. inl (let z = ap gen (o.next (home t)).0 in omega arith)) (λ a. inr (a.0, ap (λ (p : Option (ℕ × ℕ)). placed p (rest_place (owner (home t)) (ready_test (home t)))) a.2, a.3 ∙ sym (ap gen (o.next (home t)).0))) d.1) used o.used_is) tt;
         bound = λ s k q. let a = o.bound s k q in (a, ap has a);
         keyed = λ s1 s2 k e f. sym (o.found s1 k e) ∙ o.found s2 k f;
         views = λ i y e. view_starts i y (starts i y e);
@@ -298,7 +299,7 @@ module _ (l : Pool) (im : Image) (sound : Sound l im) (m0 : Map) (used : List �
       help = open_help;
       serves = serves;
       one = one;
-      safe = each_map (λ t d. (d.0, let z = ap gen (o.next (home t)).1 in ⊎_elim (λ a. omega arith) (λ a. let b = a.3 in omega arith) d.1)) used o.used_is;
+      safe = each_both (λ (t : ℕ). (age t < l.wear) × (age t ≤ gen (m.fnext (home t)))) used [] (each_map (λ t d. (d.0, let z = ap gen (o.next (home t)).1 in ⊎_elim (λ a. omega arith) (λ a. let b = a.3 in omega arith) d.1)) used o.used_is) tt;
       made = made;
       entered = λ i y e q. tt;
     }

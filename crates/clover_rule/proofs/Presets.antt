@@ -5,9 +5,11 @@ use mathlib.Core.Logic.{dite}
 use Rattle.std.specs.Prelude.{Option, Some, None}
 use Rattle.clover_words.specs.declared.pool.Pool.{Pool}
 use Rattle.clover_words.specs.Tag.{home, age}
+use Rattle.std.specs.FinMap.{get}
+use Rattle.clover_map.specs.Tagged.{Tagged}
 use Rattle.clover_rule.specs.Content.{Spells, InRange, inside}
 use Rattle.std.specs.Str.{bytes_eq}
-use Rattle.clover_rule.specs.History.{shows, Map, ends}
+use Rattle.clover_rule.specs.History.{ends}
 use Rattle.clover_rule.specs.Image.{Image, Chain}
 use Rattle.clover_rule.specs.Lists.{nth, Within}
 use Rattle.clover_rule.specs.Meets.{InStocks}
@@ -19,7 +21,6 @@ use Rattle.clover_rule.specs.Sound.{Sound, versions_of}
 use Rattle.clover_rule.specs.Story.{Chained, Stocked, Free, Worn}
 use Rattle.clover_rule.specs.Words.{mem_of}
 use Rattle.clover_rule.specs.declared.view.View.{View}
-use mathlib.Core.Path.{fun_ext}
 use Rattle.clover_rule.proofs.Tools.{nth_some, nth_none}
 use Rattle.clover_rule.proofs.Keys.{key_discrete, eq_key, ne_key}
 use Rattle.clover_rule.proofs.Spelling.{dead_word, one_key}
@@ -98,7 +99,7 @@ abbrev root_chain : Option ℕ → List ℕ
 root_chain None = []
 root_chain (Some t) = t ∷ []
 
-module _ (p : Pool) (keys : List (List ℕ)) (tomb : ℕ → ℕ) (m : Mem) (w : PresetWords p keys tomb m) (k : PresetKeys p keys tomb) where
+module _ (p : Pool) (keys : List (List ℕ)) (tomb : ℕ → ℕ) (m : Mem) (w : PresetWords p keys tomb m) (k : PresetKeys p keys tomb) (first : Tagged) (empty : (q : List ℕ) → get first q ≡ None) where
   abbrev pub im : Image
   im = record { next = λ (b : ℕ). word 0 None; root = m.root; body = m.body; key = m.key }
 
@@ -144,9 +145,6 @@ module _ (p : Pool) (keys : List (List ℕ)) (tomb : ℕ → ℕ) (m : Mem) (w :
     inside = λ s t e. let c = root_is s t e in let z = c.0 in let y = k.room in omega arith;
   }
 
-  abbrev pub map_empty : Map
-  map_empty = λ (j : List ℕ). None
-
   root_at : (s : ℕ) → s < length keys → m.root s ≡ Some (tomb s)
   root_at s h = (w.rooted s h).0
 
@@ -160,7 +158,7 @@ module _ (p : Pool) (keys : List (List ℕ)) (tomb : ℕ → ℕ) (m : Mem) (w :
   dead_ends s None = refl
   dead_ends s (Some t) = refl
 
-  pub opens : Opens p im sound map_empty [] m
+  pub opens : Opens p im sound first [] m
   unfolding sound
   opens = record {
     next = λ b. w.next b;
@@ -184,8 +182,8 @@ module _ (p : Pool) (keys : List (List ℕ)) (tomb : ℕ → ℕ) (m : Mem) (w :
     count = w.count ∙ sym (bindings_length keys 0);
     slot_named = λ (j : List ℕ). position j 0 keys;
     found = λ s j e. position_here keys j 0 s (λ r z. k.differ r s j z e) e ∙ (let z : s + 0 ≡ s = omega arith in z);
-    map_is = λ s j e. dead_ends s (m.root s);
-    map_else = λ j e. refl;
+    map_is = λ s j e. dead_ends s (m.root s) ∙ sym (empty j);
+    map_else = λ j e. empty j;
     used_is = tt;
   }
 
@@ -202,11 +200,11 @@ module _ (p : Pool) (keys : List (List ℕ)) (tomb : ℕ → ℕ) (m : Mem) (w :
         none b None q i e = q
         none b (Some (s, j)) q i e = let a = spot_there tomb (length keys) b s j q in absurd (v.off b i e s a.0 a.2)
 
-    pub preset_whole : Whole p map_empty [] m vs (opened p im sound map_empty [] m opens owner owners) []
+    pub preset_whole : Whole p first [] m vs (opened p im sound first [] m opens owner owners) []
     unfolding opens
-    preset_whole = open_whole p im sound map_empty [] m opens owner owners vs v.starts v.numbered v.some (λ i y e q. absurd (v.unserved i y e q)) (λ i j y z e f q g. absurd (v.unserved i y e q)) (λ i j n y z e f q g. absurd (v.unserved i y e q))
+    preset_whole = open_whole p im sound first [] m opens owner owners vs v.starts v.numbered v.some (λ i y e q. absurd (v.unserved i y e q)) (λ i j y z e f q g. absurd (v.unserved i y e q)) (λ i j n y z e f q g. absurd (v.unserved i y e q))
 
-    pub preset_stocks : InStocks vs (opened p im sound map_empty [] m opens owner owners)
+    pub preset_stocks : InStocks vs (opened p im sound first [] m opens owner owners)
     unfolding opens
     preset_stocks b i e = go (spot_of tomb (length keys) b) (owner b) (inside p b && ltb 0 p.wear) refl e
       where
@@ -218,14 +216,12 @@ module _ (p : Pool) (keys : List (List ℕ)) (tomb : ℕ → ℕ) (m : Mem) (w :
 
 pub preset_law : PresetLaw
 preset_law p first ws vs keys tomb owner sized decodes same empty words ks views =
-    let shown : (λ (j : List ℕ). None) ≡ shows first = fun_ext (λ j. sym (empty j)) in
-    rule_holds p first [] ws vs (opened p (im p keys tomb (mem_of p ws) words ks) (sound p keys tomb (mem_of p ws) words ks) (λ (j : List ℕ). None) [] (mem_of p ws) (opens p keys tomb (mem_of p ws) words ks) owner (owners p keys tomb (mem_of p ws) words ks owner vs views)) []
+    rule_holds p first [] ws vs (opened p (im p keys tomb (mem_of p ws) words ks first empty) (sound p keys tomb (mem_of p ws) words ks first empty) first [] (mem_of p ws) (opens p keys tomb (mem_of p ws) words ks first empty) owner (owners p keys tomb (mem_of p ws) words ks first empty owner vs views)) []
     (record {
       sized = sized;
       decodes = decodes;
       same = same;
       still = λ i v e. (views.starts i v e).plan;
-      stocks = preset_stocks p keys tomb (mem_of p ws) words ks owner vs views;
-      whole = subst (λ (f : Map). Whole p f [] (mem_of p ws) vs (opened p (im p keys tomb (mem_of p ws) words ks) (sound p keys tomb (mem_of p ws) words ks) (λ (j : List ℕ). None) [] (mem_of p ws) (opens p keys tomb (mem_of p ws) words ks) owner (owners p keys tomb (mem_of p ws) words ks owner vs views)) []) shown
-          (preset_whole p keys tomb (mem_of p ws) words ks owner vs views);
+      stocks = preset_stocks p keys tomb (mem_of p ws) words ks first empty owner vs views;
+      whole = preset_whole p keys tomb (mem_of p ws) words ks first empty owner vs views;
     })

@@ -5,7 +5,8 @@ use mathlib.Core.Logic.{dite}
 use Rattle.std.specs.Prelude.{Some}
 use Rattle.clover_words.specs.Tag.{home, age}
 use Rattle.clover_map.specs.declared.call.Entry.{Entry}
-use Rattle.clover_rule.specs.History.{Version, Map}
+use Rattle.clover_map.specs.Tagged.{Tagged}
+use Rattle.clover_rule.specs.History.{Version}
 use Rattle.clover_rule.specs.Lists.{nth}
 use Rattle.clover_rule.specs.Memory.{word, gen, Mem}
 use Rattle.clover_rule.specs.Story.{Story, tag_in_version, tag_at, now_at, Core, Durable}
@@ -15,7 +16,7 @@ use Rattle.clover_rule.proofs.Standings.{tag_within}
 use Rattle.clover_rule.proofs.Steps.{nth_set, role_was, longest_was}
 
 -- one view is renewed by another of the same role, which knows true facts and has the same history or the longer one
-module _ (m0 : Map) (used : List ℕ) (m : Mem) (vs : List View) (st : Story) (h : List Entry) (r : Basis m0 used m vs st h)
+module _ (m0 : Tagged) (used : List ℕ) (m : Mem) (vs : List View) (st : Story) (h : List Entry) (r : Basis m0 used m vs st h)
     (id : ℕ) (v v' : View) (at : nth vs id ≡ Some v) (role : v'.pass.role ≡ v.pass.role) (past : v'.pass.history ≡ v.pass.history) (ok : ViewOk m st h id v') where
   views' : (i1 : ℕ) (v1 : View) → nth (renewed vs id v') i1 ≡ Some v1 → ViewOk m st h i1 v1
   views' i1 v1 q = go (nth_set vs id i1 v' v1 q)

@@ -5,8 +5,9 @@ use mathlib.Core.Logic.{dite}
 use Rattle.std.specs.Prelude.{Some, None}
 use Rattle.clover_words.specs.Tag.{home, age}
 use Rattle.clover_map.specs.declared.call.Entry.{Entry}
+use Rattle.clover_map.specs.Tagged.{Tagged}
 use Rattle.clover_rule.specs.Changes.{recycled_mem, recycled_story}
-use Rattle.clover_rule.specs.History.{Map, used_by}
+use Rattle.clover_map.specs.Legal.{used_by}
 use Rattle.clover_rule.specs.Lists.{nth}
 use Rattle.clover_rule.specs.Memory.{word, gen, Mem}
 use Rattle.clover_rule.specs.Story.{Chained, Stocked, Taken, Story, Tale}
@@ -16,7 +17,7 @@ use Rattle.clover_rule.proofs.Tools.{upd_else}
 use Rattle.clover_rule.proofs.Steps.{each_map, prefix_self, Grows, Leaves, view_kept, nth_set, role_was, longest_was}
 use Rattle.clover_rule.proofs.Exchanging.{CanRecycle, recycle_core, stands, is, else_same, gone_cases, behind}
 
-module _ (m0 : Map) (used : List ℕ) (m : Mem) (vs : List View) (st : Story) (h : List Entry) (r : Basis m0 used m vs st h)
+module _ (m0 : Tagged) (used : List ℕ) (m : Mem) (vs : List View) (st : Story) (h : List Entry) (r : Basis m0 used m vs st h)
     (id : ℕ) (v v' : View) (at : nth vs id ≡ Some v) (s x : ℕ) (l : CanRecycle m st s x) where
   abbrev m' : Mem
   m' = recycled_mem m x

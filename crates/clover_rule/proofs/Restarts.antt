@@ -3,8 +3,10 @@ use Rattle.std.proofs.Common.{◌≡◌, ℕ, zero, suc, ◌<◌, ◌≤◌, Lis
 use Rattle.std.specs.Prelude.{Option, Some, None}
 use Rattle.clover_words.specs.Tag.{home, age}
 use Rattle.clover_map.specs.declared.call.Entry.{Entry}
+use Rattle.clover_map.specs.Tagged.{Tagged}
 use Rattle.clover_rule.specs.Content.{Spells}
-use Rattle.clover_rule.specs.History.{Map, used_by, ends}
+use Rattle.clover_map.specs.Legal.{used_by}
+use Rattle.clover_rule.specs.History.{ends}
 use Rattle.clover_rule.specs.Image.{Image, IsImage, Chain}
 use Rattle.clover_rule.specs.Lists.{Each, nth}
 use Rattle.clover_rule.specs.Memory.{gen, link, Mem}
@@ -82,6 +84,6 @@ module _ (l : Pool) (im : Image) (sound : Sound l im) (im2 : Image) (r : Restart
       go None e = ⊎_elim (λ a. bare (subst (λ (x : Option ℕ). Chain im x (sound.chain s)) (sym a ∙ e) (sound.walk s))) (λ a. sym a.1) (r.root s)
 
 -- in each image of a cut no used tag is above its buffer's generation
-module _ (l : Pool) (m0 : Map) (used : List ℕ) (m : Mem) (vs : List View) (st : Story) (h : List Entry) (w : Whole l m0 used m vs st h) (im : Image) (is : IsImage m im) where
+module _ (l : Pool) (m0 : Tagged) (used : List ℕ) (m : Mem) (vs : List View) (st : Story) (h : List Entry) (w : Whole l m0 used m vs st h) (im : Image) (is : IsImage m im) where
   pub cut_used : Each (λ (t : ℕ). (age t < l.wear) × (age t ≤ gen (im.next (home t)))) (used_by used h)
   cut_used = each_map (λ t d. (d.0, let a = d.1 in let b = w.help.ranged.below (home t) in ⊎_elim (λ q. let z = ap gen q in omega arith) (λ q. let z = ap gen q in omega arith) (is.next (home t)))) (used_by used h) w.safe

@@ -5,8 +5,9 @@ use Rattle.std.proofs.lemmas.Option.{same_Some}
 use Rattle.clover_words.specs.declared.pool.Pool.{Pool}
 use Rattle.clover_words.specs.Tag.{home, age}
 use Rattle.clover_map.specs.declared.call.Entry.{Entry}
+use Rattle.clover_map.specs.Tagged.{Tagged}
 use Rattle.clover_rule.specs.Content.{inside}
-use Rattle.clover_rule.specs.History.{Map, used_by}
+use Rattle.clover_map.specs.Legal.{used_by}
 use Rattle.clover_rule.specs.Image.{Image, IsImage}
 use Rattle.clover_rule.specs.Lists.{Each}
 use Rattle.clover_rule.specs.Memory.{Mem, Next, word, gen, link}
@@ -22,7 +23,7 @@ each_pair : {A : Type 0} (P Q R : A → Type 0) (xs : List A) → ((x : A) → P
 each_pair P Q R [] f a b = tt
 each_pair P Q R (x ∷ xs) f a b = (f x a.0 b.0, each_pair P Q R xs f a.1 b.1)
 
-module _ (l : Pool) (m0 : Map) (used : List ℕ) (m : Mem) (vs : List View) (st : Story) (h : List Entry) (w : Whole l m0 used m vs st h) where
+module _ (l : Pool) (m0 : Tagged) (used : List ℕ) (m : Mem) (vs : List View) (st : Story) (h : List Entry) (w : Whole l m0 used m vs st h) where
   abbrev c : Core m st
   c = w.basis.core
 

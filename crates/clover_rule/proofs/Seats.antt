@@ -6,13 +6,13 @@ use Rattle.std.specs.Prelude.{Some}
 use Rattle.std.proofs.lemmas.List.{length-set}
 use Rattle.clover_words.specs.Tag.{home, age}
 use Rattle.clover_map.specs.declared.call.Entry.{Entry}
+use Rattle.clover_map.specs.Tagged.{Tagged}
 use Rattle.clover_rule.specs.Content.{inside}
-use Rattle.clover_rule.specs.History.{Map}
 use Rattle.clover_rule.specs.Lists.{Each, nth, upd, Within, IsPart}
 use Rattle.clover_rule.specs.Memory.{gen, Mem}
 use Rattle.clover_rule.specs.Server.{book_of, Serves, Whole}
 use Rattle.clover_rule.specs.Story.{Place, Stocked, Free, Story}
-use Rattle.clover_rule.specs.Views.{find_book, line, Book, book, Apart, ViewOk, handed, book_at}
+use Rattle.clover_rule.specs.Views.{find_book, line, Book, book, Apart, ViewOk, batch_at, book_at}
 use Rattle.clover_rule.specs.Moves.{giving, grant, lines_out}
 use Rattle.clover_rule.specs.declared.view.BookLine.{BookLine}
 use Rattle.clover_rule.specs.declared.view.BufferState.TheVariants.{Free as IsFree, Out as IsOut}
@@ -26,11 +26,11 @@ use Rattle.clover_rule.proofs.Steps.{each_map, nth_set, set_here, set_away}
 use Rattle.clover_rule.proofs.ServerTools.{book_same, free_place}
 use Rattle.clover_rule.proofs.Hands.{hand_whole, hand_view, hand_owned}
 
-module _ (l : Pool) (m0 : Map) (used : List ℕ) (m : Mem) (vs : List View) (st : Story) (h : List Entry) (w : Whole l m0 used m vs st h) (id : ℕ) (v v' x : View) (at : nth vs id ≡ Some v)
+module _ (l : Pool) (m0 : Tagged) (used : List ℕ) (m : Mem) (vs : List View) (st : Story) (h : List Entry) (w : Whole l m0 used m vs st h) (id : ℕ) (v v' x : View) (at : nth vs id ≡ Some v)
     (batch : List ℕ) (was : Each (λ (t : ℕ). st.place (home t) ≡ Free) batch) (same : v'.pass.role ≡ v.pass.role) (past : v'.pass.history ≡ v.pass.history) (clients : v'.server.clients ≡ v.server.clients) (unserving : x.pass.role ≢ Serving) (noclient : (c : ℕ) → x.pass.role ≢ Client c)
-    (okv : ViewOk m (record st { place = handed st.place batch (Stocked (length vs)) }) h id v') (okx : ViewOk m (record st { place = handed st.place batch (Stocked (length vs)) }) h (length vs) x)
-    (serves : v.pass.role ≡ Serving → Serves l m (record st { place = handed st.place batch (Stocked (length vs)) }) st.task v'.server)
-    (others : (sv : Server) → Serves l m st st.task sv → v.pass.role ≢ Serving → Serves l m (record st { place = handed st.place batch (Stocked (length vs)) }) st.task sv) where
+    (okv : ViewOk m (record st { place = batch_at st.place batch (Stocked (length vs)) }) h id v') (okx : ViewOk m (record st { place = batch_at st.place batch (Stocked (length vs)) }) h (length vs) x)
+    (serves : v.pass.role ≡ Serving → Serves l m (record st { place = batch_at st.place batch (Stocked (length vs)) }) st.task v'.server)
+    (others : (sv : Server) → Serves l m st st.task sv → v.pass.role ≢ Serving → Serves l m (record st { place = batch_at st.place batch (Stocked (length vs)) }) st.task sv) where
   abbrev pub split_list : List View
   split_list = set vs id v' ++ x ∷ []
 
@@ -55,7 +55,7 @@ module _ (l : Pool) (m0 : Map) (used : List ℕ) (m : Mem) (vs : List View) (st 
   role_dec Joined = no (λ e. cc)
   role_dec Restarting = no (λ e. cc)
 
-  pub split_whole : Whole l m0 used m split_list (record st { place = handed st.place batch (Stocked (length vs)) }) h
+  pub split_whole : Whole l m0 used m split_list (record st { place = batch_at st.place batch (Stocked (length vs)) }) h
   split_whole = let p = w.basis in hand_whole l m0 used m vs st h w batch Free (length vs) tt was split_list
       (λ i y e. ⊎_elim (λ a. rw (a.0, ← a.1) okx) (λ a. ⊎_elim (λ b. rw (b.0, ← b.1) okv) (λ b. hand_view l m0 used m vs st h w batch Free (length vs) tt was i y (λ z. absurd cc) (p.views i y b.1)) a) (cases i y e))
       (λ i j c y z e f s t. let a = old i y e (no_client_view c y s) in let b = old j z f (no_client_view c z t) in p.numbered i j c a.0 b.0 a.1 b.1 (a.2 ∙ s) (b.2 ∙ t))
@@ -65,7 +65,7 @@ module _ (l : Pool) (m0 : Map) (used : List ℕ) (m : Mem) (vs : List View) (st 
       (λ i j c y z e f s t. let a = old i y e (no_server_view y s) in let b = old j z f (no_client_view c z t) in subst (Within c) a.3 (w.made i j c a.0 b.0 a.1 b.1 (a.2 ∙ s) (b.2 ∙ t)))
       (λ i y e s. let a = old i y e (no_server_view y s) in subst (λ (cs : List ℕ). Each (λ (q : Entry). Within q.client cs) h) a.3 (w.entered i a.0 a.1 (a.2 ∙ s)))
     where
-      serve : (i : ℕ) (y z : View) → nth vs i ≡ Some z → z.pass.role ≡ Serving → ((i ≢ id) × (z ≡ y)) ⊎ ((z ≡ v) × (v' ≡ y)) → Dec (v.pass.role ≡ Serving) → Serves l m (record st { place = handed st.place batch (Stocked (length vs)) }) st.task y.server
+      serve : (i : ℕ) (y z : View) → nth vs i ≡ Some z → z.pass.role ≡ Serving → ((i ≢ id) × (z ≡ y)) ⊎ ((z ≡ v) × (v' ≡ y)) → Dec (v.pass.role ≡ Serving) → Serves l m (record st { place = batch_at st.place batch (Stocked (length vs)) }) st.task y.server
       serve i y z e s (inr d) q = rw (← d.1) (serves (ap (λ (a : View). a.pass.role) (sym d.0) ∙ s))
       serve i y z e s (inl d) (no q) = rw (← d.1) (others z.server (w.serves i z e s) q)
       serve i y z e s (inl d) (yes q) = absurd (d.0 (w.one i id z v e at s q))
@@ -78,7 +78,7 @@ module _ (l : Pool) (m0 : Map) (used : List ℕ) (m : Mem) (vs : List View) (st 
       longest_of j a q e (no d) = (j, a, nth_front (set vs id v') x j (λ z. let b = nth_within vs j a q in let b2 = length-set vs id v' in absurd (omega arith)) ∙ set_away vs id j v' d ∙ q, e)
 
 -- the server splits off a grant of tags that are free in its view, with the names from a position on
-module _ (l : Pool) (m0 : Map) (used : List ℕ) (m : Mem) (vs : List View) (st : Story) (h : List Entry) (w : Whole l m0 used m vs st h) (id : ℕ) (v : View) (at : nth vs id ≡ Some v) (role : v.pass.role ≡ Serving)
+module _ (l : Pool) (m0 : Tagged) (used : List ℕ) (m : Mem) (vs : List View) (st : Story) (h : List Entry) (w : Whole l m0 used m vs st h) (id : ℕ) (v : View) (at : nth vs id ≡ Some v) (role : v.pass.role ≡ Serving)
     (batch : List ℕ) (free : Each (λ (t : ℕ). (inside l (home t) ≡ true) × ((book_at v.server) (home t) ≡ book (age t) IsFree)) batch) (apart : Apart batch) (position : ℕ) (names : List (ℕ × List ℕ)) (part : IsPart position names st.bindings) where
   abbrev k : ℕ
   k = length vs
@@ -105,14 +105,14 @@ module _ (l : Pool) (m0 : Map) (used : List ℕ) (m : Mem) (vs : List View) (st 
   ages = each_map (λ t d. d.1) batch places
 
   abbrev st1 : Story
-  st1 = record st { place = handed st.place batch (Stocked k) }
+  st1 = record st { place = batch_at st.place batch (Stocked k) }
 
   -- the books after are those of the batch out, and else as before
   books_then : (b : ℕ) → inside l b ≡ true → find_book (lines_out v.server.books batch) b ≡ book_of st.task st1 (st1.place b) (gen (m.next b)) b
   unfolding out
   books_then b i = out_found batch v.server.books b ∙ go batch ages (book_at v.server) st.place (sv.books b i)
     where
-      go : (ts : List ℕ) → Each (λ (t : ℕ). gen (m.next (home t)) ≡ age t) ts → (f : ℕ → Book) (g : ℕ → Place) → f b ≡ book_of st.task st (g b) (gen (m.next b)) b → out f ts b ≡ book_of st.task st1 (handed g ts (Stocked k) b) (gen (m.next b)) b
+      go : (ts : List ℕ) → Each (λ (t : ℕ). gen (m.next (home t)) ≡ age t) ts → (f : ℕ → Book) (g : ℕ → Place) → f b ≡ book_of st.task st (g b) (gen (m.next b)) b → out f ts b ≡ book_of st.task st1 (batch_at g ts (Stocked k) b) (gen (m.next b)) b
       go [] a f g e = e ∙ sym (book_same st.task st.task st st1 (g b) (gen (m.next b)) b (λ s q. refl) (λ q. refl))
       go (t ∷ ts) a f g e = go ts a.1 (upd f (home t) (book (age t) IsOut)) (upd g (home t) (Stocked k))
           (dite (ℕ_discrete b (home t)) (λ d. ap (upd f (home t) (book (age t) IsOut)) d ∙ upd_same f (home t) (book (age t) IsOut) ∙ ap (λ (x : ℕ). book x IsOut) (sym (ap (λ (x : ℕ). gen (m.next x)) d ∙ a.0)) ∙ sym (ap (λ (q : Place). book_of st.task st q (gen (m.next b)) b) (ap (upd g (home t) (Stocked k)) d ∙ upd_same g (home t) (Stocked k))))

@@ -18,7 +18,7 @@ use Rattle.clover_map.specs.Tagged.{Tagged}
 use Rattle.clover_rule.specs.Asks.{IsAt, MayBegin}
 use Rattle.clover_rule.specs.Changes.{raised_mem, recycled_mem}
 use Rattle.clover_rule.specs.Content.{inside, content, spelling}
-use Rattle.clover_rule.specs.History.{Map, Version, shows}
+use Rattle.clover_rule.specs.History.{Version}
 use Rattle.clover_rule.specs.Learned.{learned, at_task, looked, link_flushed, root_passed, root_freed, begun, root_bound, entered, next_view, turn_of, counted, found, words_after_step}
 use Rattle.clover_rule.specs.Lists.{nth, upd, Within}
 use Rattle.clover_rule.specs.Meets.{IsCode, IsMet, Meets}
@@ -60,9 +60,6 @@ module _ (p : Pool) (first : Tagged) (used : List ℕ) (ws : List ℕ) (vs : Lis
   abbrev m : Mem
   m = mem_of p ws
 
-  abbrev m0 : Map
-  m0 = shows first
-
   -- the law of one step
   abbrev pub After : Step → Bool → Type 0
   After a b = IsMet p first used (words_after_step p a ws) (renewed vs id (next_view b a h v (found p a ws))) h
@@ -73,14 +70,14 @@ module _ (p : Pool) (first : Tagged) (used : List ℕ) (ws : List ℕ) (vs : Lis
 
   -- a step follows from the helping facts over the words after it, decoded
   lifted : (a : Step) → HasSide (word_of a) (side_of a) → IsWithin p (word_of a) → (n : ℕ) → becomes a (found p a ws) ≡ n → IsCode (word_of a) n → (y : View) → learned a h v (found p a ws) ≡ y → SameRun v y → y.pass.stock ≡ v.pass.stock
-      → (m' : Mem) → mem_of p (words_with a n) ≡ m' → IsServed p m0 used m' (renewed vs id y) st h → (b : Bool) → After a b
+      → (m' : Mem) → mem_of p (words_with a n) ≡ m' → IsServed p first used m' (renewed vs id y) st h → (b : Bool) → After a b
   lifted a hs hw n en code y ey run stock m' em (st', w, places) b =
       let x : ℕ = found p a ws in
       subst (λ (z : ℕ). IsMet p first used (words_with a z) (renewed vs id (next_view b a h v x)) h) (sym en)
       (subst (λ (z : View). IsMet p first used (words_with a n) (renewed vs id (counted b (act_of a x) (turn_of a x) z)) h) (sym ey) (
         st',
         stepped p first used ws vs st h r id v at (word_of a) (side_of a) n hw hs code y run st' h places (λ t e q. subst (Within t) (sym stock) q)
-            (subst (λ (z : Mem). Whole p m0 used z (renewed vs id y) st' h) (sym em) w) b (act_of a x) (turn_of a x),
+            (subst (λ (z : Mem). Whole p first used z (renewed vs id y) st' h) (sym em) w) b (act_of a x) (turn_of a x),
       ))
 
   room_for : (a : Step) → IsWithin p (word_of a) → HasSide (word_of a) (side_of a) → address_of p (word_of a) (side_of a) < length ws
@@ -90,10 +87,10 @@ module _ (p : Pool) (first : Tagged) (used : List ℕ) (ws : List ℕ) (vs : Lis
   same_run y a b c d e = record { role = a; pool = b; map = c; used = d; plan = e }
 
   stage_of : (T : ServerTask) → IsAt v T → Stage p m st T
-  stage_of T i = stage_at p m0 used m vs id v st h r.whole at i.server T i.task_is
+  stage_of T i = stage_at p first used m vs id v st h r.whole at i.server T i.task_is
 
   serves_of : (T : ServerTask) → IsAt v T → Serves p m st T v.server
-  serves_of T i = serves_at p m0 used m vs id v st h r.whole at i.server T i.task_is
+  serves_of T i = serves_at p first used m vs id v st h r.whole at i.server T i.task_is
 
   -- the root version's next word
   module _ (s q : ℕ) (hw : IsWithin p (next_word_of q)) (i : IsAt v Idle) (root : root_at v.server s ≡ Some q) where
@@ -101,12 +98,12 @@ module _ (p : Pool) (first : Tagged) (used : List ℕ) (ws : List ℕ) (vs : Lis
     shown_at = read_next p ws (home q) (inside_of p (home q) hw)
 
     shows_own : m.next (home q) ≡ now_at st s (st.gone s) q
-    shows_own = root_shows p m0 used m vs id v st h r.whole at i.server s q i.task_is root
+    shows_own = root_shows p first used m vs id v st h r.whole at i.server s q i.task_is root
 
     unchanged : mem_of p (words_with (ReadVersion s q) (found p (ReadVersion s q) ws)) ≡ m
     unchanged = ap (mem_of p) (set-get_or ws (address_of p (next_word_of q) Current) 0)
 
-    version_with : (b : Bool) (y : View) → SameRun v y → y.pass.stock ≡ v.pass.stock → (n : Next) → m.next (home q) ≡ n → looked s q v n ≡ y → IsServed p m0 used m (renewed vs id y) st h → After (ReadVersion s q) b
+    version_with : (b : Bool) (y : View) → SameRun v y → y.pass.stock ≡ v.pass.stock → (n : Next) → m.next (home q) ≡ n → looked s q v n ≡ y → IsServed p first used m (renewed vs id y) st h → After (ReadVersion s q) b
     version_with b y run stock n e ey served = lifted (ReadVersion s q) tt hw (found p (ReadVersion s q) ws) refl (r.decodes (next_word_of q) Current hw tt) y (ap (λ (z : Next). looked s q v z) (sym shown_at ∙ e) ∙ ey) run stock m unchanged served b
 
     pub keeps_version : (b : Bool) → After (ReadVersion s q) b
@@ -114,9 +111,9 @@ module _ (p : Pool) (first : Tagged) (used : List ℕ) (ws : List ℕ) (vs : Lis
       where
         go : (o : Option ℕ) → tag_at st s (suc (st.gone s)) ≡ o → After (ReadVersion s q) b
         go None e = let z : m.next (home q) ≡ word (age q) None = shows_own ∙ ap (word (age q)) e in
-            version_with b (looked s q v (word (age q) None)) (same_run (looked s q v (word (age q) None)) refl refl refl refl refl) refl (word (age q) None) z refl (st, read_unlinked p m0 used m vs id v st h r.whole at i.server s q i.task_is root z, λ c j f. f)
+            version_with b (looked s q v (word (age q) None)) (same_run (looked s q v (word (age q) None)) refl refl refl refl refl) refl (word (age q) None) z refl (st, read_unlinked p first used m vs id v st h r.whole at i.server s q i.task_is root z, λ c j f. f)
         go (Some t) e = let z : m.next (home q) ≡ word (age q) (Some t) = shows_own ∙ ap (word (age q)) e in
-            version_with b (looked s q v (word (age q) (Some t))) (same_run (looked s q v (word (age q) (Some t))) refl refl refl refl refl) refl (word (age q) (Some t)) z refl (read_linked p m0 used m vs id v st h r.whole at i.server s q i.task_is root t z)
+            version_with b (looked s q v (word (age q) (Some t))) (same_run (looked s q v (word (age q) (Some t))) refl refl refl refl refl) refl (word (age q) (Some t)) z refl (read_linked p first used m vs id v st h r.whole at i.server s q i.task_is root t z)
 
     pub version_says : gen (next_of (found p (ReadVersion s q) ws)) ≡ age q
     version_says = ap gen (sym shown_at ∙ shows_own)
@@ -132,23 +129,23 @@ module _ (p : Pool) (first : Tagged) (used : List ℕ) (ws : List ℕ) (vs : Lis
     keeps_flush_link hw i b =
         let z = flushed_link_words hw i in
         lifted (FlushLink c) tt hw (max (found p (FlushLink c) ws) (linked c.root c.next)) refl z.1 (link_flushed v c) refl (same_run (link_flushed v c) refl refl refl refl refl) refl (raised_mem m c.root c.next) z.0
-        (flush_link_whole p m0 used m vs id v st h r.whole at i.server c i.task_is) b
+        (flush_link_whole p first used m vs id v st h r.whole at i.server c i.task_is) b
 
     pub keeps_store_root : IsWithin p (Root c.slot) → IsAt v (Raised c) → (b : Bool) → After (StoreRoot c) b
     keeps_store_root hw i b =
         lifted (StoreRoot c) tt hw (root_code (Some c.next)) refl (ap root_code (root_again (Some c.next))) (at_task v (Led c)) refl (same_run (at_task v (Led c)) refl refl refl refl refl) refl (record m { root = upd m.root c.slot (Some c.next) })
         (write_root p ws (root_code (Some c.next)) c.slot hw (room_for (StoreRoot c) hw tt) ∙ ap (λ (q : Option ℕ). record m { root = upd m.root c.slot q }) (root_again (Some c.next)))
-        (store_root_whole p m0 used m vs id v st h r.whole at i.server c i.task_is) b
+        (store_root_whole p first used m vs id v st h r.whole at i.server c i.task_is) b
 
     pub keeps_flush_root : IsWithin p (Root c.slot) → IsAt v (Led c) → (b : Bool) → After (FlushRoot c) b
     keeps_flush_root hw i b =
         lifted (FlushRoot c) tt hw (root_code (Some c.next)) refl (ap root_code (root_again (Some c.next))) (at_task v (Both c)) refl (same_run (at_task v (Both c)) refl refl refl refl refl) refl (record m { froot = upd m.froot c.slot (Some c.next) })
         (write_froot p ws (root_code (Some c.next)) c.slot hw (room_for (FlushRoot c) hw tt) ∙ ap (λ (q : Option ℕ). record m { froot = upd m.froot c.slot q }) (root_again (Some c.next)))
-        (store_flushed_whole p m0 used m vs id v st h r.whole at i.server c i.task_is) b
+        (store_flushed_whole p first used m vs id v st h r.whole at i.server c i.task_is) b
 
     -- the exchange finds the link
     pub pass_says : IsWithin p (next_word_of c.root) → IsAt v (Both c) → found p (PassRoot c) ws ≡ linked c.root c.next
-    pass_says hw i = sym (r.decodes (next_word_of c.root) Current hw tt) ∙ ap next_code (sym (read_next p ws (home c.root) (inside_of p (home c.root) hw)) ∙ exchange_finds p m0 used m vs id v st h r.whole at i.server c i.task_is)
+    pass_says hw i = sym (r.decodes (next_word_of c.root) Current hw tt) ∙ ap next_code (sym (read_next p ws (home c.root) (inside_of p (home c.root) hw)) ∙ exchange_finds p first used m vs id v st h r.whole at i.server c i.task_is)
 
     pass_writes : IsWithin p (next_word_of c.root) → IsAt v (Both c) → becomes (PassRoot c) (found p (PassRoot c) ws) ≡ moved_on c.root
     pass_writes hw i = ap (λ (z : Bool). either z (moved_on c.root) (found p (PassRoot c) ws)) (eq-eqb (found p (PassRoot c) ws) (linked c.root c.next) (pass_says hw i))
@@ -163,12 +160,12 @@ module _ (p : Pool) (first : Tagged) (used : List ℕ) (ws : List ℕ) (vs : Lis
     passed_words hw i = ap (λ (z : ℕ). mem_of p (words_with (PassRoot c) z)) (pass_writes hw i) ∙ moved_words hw
 
     pub link_stood : IsAt v (Both c) → m.next (home c.root) ≡ word (age c.root) (Some c.next)
-    link_stood i = exchange_finds p m0 used m vs id v st h r.whole at i.server c i.task_is
+    link_stood i = exchange_finds p first used m vs id v st h r.whole at i.server c i.task_is
 
     pub keeps_pass_root : IsWithin p (next_word_of c.root) → IsAt v (Both c) → (b : Bool) → After (PassRoot c) b
     keeps_pass_root hw i b =
         lifted (PassRoot c) tt hw (moved_on c.root) (pass_writes hw i) (ap next_code next_generation) (root_passed v c) refl (same_run (root_passed v c) refl refl refl refl refl) refl (recycled_mem m c.root) (moved_words hw)
-        (exchange_whole p m0 used m vs id v st h r.whole at i.server c i.task_is) b
+        (exchange_whole p first used m vs id v st h r.whole at i.server c i.task_is) b
 
     abbrev pub freed_mem : Mem
     freed_mem = record m { fnext = upd m.fnext (home c.root) (greater (m.fnext (home c.root)) (word (suc (age c.root)) None)) }
@@ -193,7 +190,7 @@ module _ (p : Pool) (first : Tagged) (used : List ℕ) (ws : List ℕ) (vs : Lis
     keeps_free_root hw i b =
         let z = freed_words hw (found p (FreeRoot c) ws) refl in
         lifted (FreeRoot c) tt hw (max (found p (FreeRoot c) ws) (moved_on c.root)) refl z.1 (root_freed p.wear v c) (ap (λ (q : Pool). root_freed q.wear v c) (r.same id v at).of_pool) (same_run (root_freed p.wear v c) refl refl refl refl refl) refl freed_mem z.0
-        (free_old_whole p m0 used m vs id v st h r.whole at i.server c i.task_is) b
+        (free_old_whole p first used m vs id v st h r.whole at i.server c i.task_is) b
 
     -- a buffer that is free or worn stands on no chain
     unchained : (x y : Bool) (a g : ℕ) → book a (cond x IsWorn IsFree) ≡ book g (cond y IsBound IsOut) → ⊥
@@ -226,37 +223,37 @@ module _ (p : Pool) (first : Tagged) (used : List ℕ) (ws : List ℕ) (vs : Lis
     keeps_store_tombstone hw may b =
         lifted (StoreTombstone n) tt hw tombstone refl tt (begun v n) refl (same_run (begun v n) refl refl refl refl refl) refl (record m { body = upd m.body (home n.tag) (upd (m.body (home n.tag)) 0 tombstone) })
         (write_body p ws tombstone (home n.tag) 0 may.buffer (omega arith) (room_for (StoreTombstone n) hw tt))
-        (begin_whole p m0 used m vs id v st h r.whole at may.idle.server n may) b
+        (begin_whole p first used m vs id v st h r.whole at may.idle.server n may) b
 
     pub keeps_flush_tombstone : IsWithin p (content_at (home n.tag) 0) → IsAt v (Storing n 1) → (b : Bool) → After (FlushTombstone n) b
     keeps_flush_tombstone hw i b =
         lifted (FlushTombstone n) tt hw tombstone refl tt (at_task v (Storing n 2)) refl (same_run (at_task v (Storing n 2)) refl refl refl refl refl) refl (record m { fbody = upd m.fbody (home n.tag) (upd (m.fbody (home n.tag)) 0 tombstone) })
         (write_fbody p ws tombstone (home n.tag) 0 (inside_of p (home n.tag) hw) (omega arith) (room_for (FlushTombstone n) hw tt))
-        (flush_tombstone_whole p m0 used m vs id v st h r.whole at i.server n i.task_is) b
+        (flush_tombstone_whole p first used m vs id v st h r.whole at i.server n i.task_is) b
 
     pub keeps_store_key : (j x : ℕ) → IsWithin p (Key n.slot j) → IsAt v (Storing n (2 + j)) → nth (spelling n.key) j ≡ Some x → (b : Bool) → After (StoreKey n j x) b
     keeps_store_key j x hw i e b =
         lifted (StoreKey n j x) tt hw x refl tt (at_task v (Storing n (3 + j))) refl (same_run (at_task v (Storing n (3 + j))) refl refl refl refl refl) refl (record m { key = upd m.key n.slot (upd (m.key n.slot) j x) })
         (write_key p ws x n.slot j hw.0 hw.1 (room_for (StoreKey n j x) hw tt))
-        (store_key_whole p m0 used m vs id v st h r.whole at i.server n j x i.task_is e) b
+        (store_key_whole p first used m vs id v st h r.whole at i.server n j x i.task_is e) b
 
     pub keeps_flush_key : (j x : ℕ) → IsWithin p (Key n.slot j) → IsAt v (Storing n (2 + j + length (spelling n.key))) → nth (spelling n.key) j ≡ Some x → (b : Bool) → After (FlushKey n j x) b
     keeps_flush_key j x hw i e b =
         lifted (FlushKey n j x) tt hw x refl tt (at_task v (Storing n (3 + j + length (spelling n.key)))) refl (same_run (at_task v (Storing n (3 + j + length (spelling n.key)))) refl refl refl refl refl) refl (record m { fkey = upd m.fkey n.slot (upd (m.fkey n.slot) j x) })
         (write_fkey p ws x n.slot j hw.0 hw.1 (room_for (FlushKey n j x) hw tt))
-        (flush_key_whole p m0 used m vs id v st h r.whole at i.server n j x i.task_is e) b
+        (flush_key_whole p first used m vs id v st h r.whole at i.server n j x i.task_is e) b
 
     pub keeps_bind_root : IsWithin p (Root n.slot) → IsAt v (Storing n (2 + length (spelling n.key) + length (spelling n.key))) → (b : Bool) → After (BindRoot n) b
     keeps_bind_root hw i b =
         lifted (BindRoot n) tt hw (root_code (Some n.tag)) refl (ap root_code (root_again (Some n.tag))) (root_bound v n) refl (same_run (root_bound v n) refl refl refl refl refl) refl (record m { root = upd m.root n.slot (Some n.tag) })
         (write_root p ws (root_code (Some n.tag)) n.slot hw (room_for (BindRoot n) hw tt) ∙ ap (λ (q : Option ℕ). record m { root = upd m.root n.slot q }) (root_again (Some n.tag)))
-        (bind_root_whole p m0 used m vs id v st h r.whole at i.server n i.task_is) b
+        (bind_root_whole p first used m vs id v st h r.whole at i.server n i.task_is) b
 
     pub keeps_flush_bound : IsWithin p (Root n.slot) → IsAt v (Rooted n) → (b : Bool) → After (FlushBoundRoot n) b
     keeps_flush_bound hw i b =
         lifted (FlushBoundRoot n) tt hw (root_code (Some n.tag)) refl (ap root_code (root_again (Some n.tag))) (at_task v (Waiting n)) refl (same_run (at_task v (Waiting n)) refl refl refl refl refl) refl (record m { froot = upd m.froot n.slot (Some n.tag) })
         (write_froot p ws (root_code (Some n.tag)) n.slot hw (room_for (FlushBoundRoot n) hw tt) ∙ ap (λ (q : Option ℕ). record m { froot = upd m.froot n.slot q }) (root_again (Some n.tag)))
-        (bind_flushed_whole p m0 used m vs id v st h r.whole at i.server n i.task_is) b
+        (bind_flushed_whole p first used m vs id v st h r.whole at i.server n i.task_is) b
 
     -- the count that a binding's last store leaves
     counted_now : (x : ℕ) → IsAt v (Waiting n) → x ≡ length v.server.directory → x ≡ suc m.count
@@ -271,7 +268,7 @@ module _ (p : Pool) (first : Tagged) (used : List ℕ) (ws : List ℕ) (vs : Lis
     keeps_store_count x i e b =
         lifted (StoreCount n x) tt tt x refl tt (entered v n) refl (same_run (entered v n) refl refl refl refl refl) refl (record m { count = suc m.count })
         (count_words x ∙ ap (λ (z : ℕ). record m { count = z }) (counted_now x i e))
-        (store_count_whole p m0 used m vs id v st h r.whole at i.server n i.task_is) b
+        (store_count_whole p first used m vs id v st h r.whole at i.server n i.task_is) b
 
     pub count_says : (x : ℕ) → IsAt v (Waiting n) → IsDurableBinding (mem_of p (words_after_step p (StoreCount n x) ws)) n
     count_says x i =

@@ -6,8 +6,8 @@ use Rattle.std.specs.Prelude.{Option, Some, None}
 use Rattle.clover_words.specs.Meta.{tombstone}
 use Rattle.clover_words.specs.Tag.{home, age}
 use Rattle.clover_map.specs.declared.call.Entry.{Entry}
+use Rattle.clover_map.specs.Tagged.{Tagged}
 use Rattle.clover_rule.specs.Content.{spelling}
-use Rattle.clover_rule.specs.History.{Map}
 use Rattle.clover_rule.specs.Lists.{nth, upd, Within}
 use Rattle.clover_rule.specs.Memory.{word, gen, link, Mem}
 use Rattle.clover_rule.specs.Server.{Ready, IsStoring, Stage, book_of, Serves, Whole}
@@ -27,7 +27,7 @@ use Rattle.clover_rule.proofs.Tools.{upd_same, upd_else, nth_within}
 use Rattle.clover_rule.proofs.ServerTools.{IsServed, whole, same_known, free_place, no_stock}
 use Rattle.clover_rule.proofs.Contents.{content_moves, storing_stage, storing_serves}
 
-module _ (l : Pool) (m0 : Map) (used : List ℕ) (m : Mem) (vs : List View) (id : ℕ) (v : View) (st : Story) (h : List Entry) (w : Whole l m0 used m vs st h) (at : nth vs id ≡ Some v) (role : v.pass.role ≡ Serving) where
+module _ (l : Pool) (m0 : Tagged) (used : List ℕ) (m : Mem) (vs : List View) (id : ℕ) (v : View) (st : Story) (h : List Entry) (w : Whole l m0 used m vs st h) (at : nth vs id ≡ Some v) (role : v.pass.role ≡ Serving) where
   served : Serves l m st st.task v.server
   served = w.serves id v at role
 

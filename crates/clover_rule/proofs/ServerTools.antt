@@ -5,7 +5,9 @@ use mathlib.Core.Logic.{dite}
 use Rattle.std.specs.Prelude.{Option, Some}
 use Rattle.clover_words.specs.Tag.{home, age}
 use Rattle.clover_map.specs.declared.call.Entry.{Entry}
-use Rattle.clover_rule.specs.History.{Version, Map, used_by}
+use Rattle.clover_map.specs.Tagged.{Tagged}
+use Rattle.clover_map.specs.Legal.{used_by}
+use Rattle.clover_rule.specs.History.{Version}
 use Rattle.clover_rule.specs.Lists.{Each, nth, upd, Within}
 use Rattle.clover_rule.specs.Memory.{gen, Mem}
 use Rattle.clover_rule.specs.Server.{Help, root_in, is_home, held_book, book_of, Serves, Whole}
@@ -42,7 +44,7 @@ core_copy m st c b fb k fk sh ct keys first bindings task sn = record {
   chained = c.chained;
 }
 
-pub record Moves (l : Pool) (m0 : Map) (used : List ℕ) (m : Mem) (st : Story) (h : List Entry) (m' : Mem) (st' : Story) : Type 0 where
+pub record Moves (l : Pool) (m0 : Tagged) (used : List ℕ) (m : Mem) (st : Story) (h : List Entry) (m' : Mem) (st' : Story) : Type 0 where
   pub core : Core m' st'
   pub tale : Tale st' m0 used h
   pub bodies : (s i : ℕ) (w : Version) → Stands st' s i w → st'.gone s ≤ i → Holds m' w
@@ -63,10 +65,10 @@ pub same_known : (m : Mem) (st : Story) (h : List Entry) (id : ℕ) (v : View) (
 same_known m st h id v sv k = record { stocked = k.stocked; apart = k.apart; durable = k.durable; links = k.links; words = k.words; written = k.written; flushed = k.flushed; copied = k.copied; names = k.names; added = k.added; most = k.most; history = k.history; calls = k.calls }
 
 -- after a step of the server the helping facts hold with the same history, and no buffer came into a stock
-abbrev pub IsServed : Pool → Map → List ℕ → Mem → List View → Story → List Entry → Type 0
+abbrev pub IsServed : Pool → Tagged → List ℕ → Mem → List View → Story → List Entry → Type 0
 IsServed l m0 used m vs st h = (st' : Story) × Whole l m0 used m vs st' h × ((b i : ℕ) → st'.place b ≡ Stocked i → st.place b ≡ Stocked i)
 
-module _ (l : Pool) (m0 : Map) (used : List ℕ) (m : Mem) (vs : List View) (st : Story) (h : List Entry) (w : Whole l m0 used m vs st h)
+module _ (l : Pool) (m0 : Tagged) (used : List ℕ) (m : Mem) (vs : List View) (st : Story) (h : List Entry) (w : Whole l m0 used m vs st h)
     (id : ℕ) (v : View) (at : nth vs id ≡ Some v) (role : v.pass.role ≡ Serving) (v' : View) (role' : v'.pass.role ≡ v.pass.role) (past' : v'.pass.history ≡ v.pass.history) (clients' : v'.server.clients ≡ v.server.clients)
     (m' : Mem) (st' : Story) (mv : Moves l m0 used m st h m' st') (knows : ViewOk m' st' h id v → ViewOk m' st' h id v') (sv : Serves l m' st' st'.task v'.server) where
   abbrev r : Basis m0 used m vs st h
@@ -107,7 +109,7 @@ module _ (l : Pool) (m0 : Map) (used : List ℕ) (m : Mem) (vs : List View) (st 
   }
 
 -- one view is renewed by another of the same role and history, which knows true facts, and the words and the story stay
-module _ (l : Pool) (m0 : Map) (used : List ℕ) (m : Mem) (vs : List View) (st : Story) (h : List Entry) (w : Whole l m0 used m vs st h) (id : ℕ) (v v' : View) (at : nth vs id ≡ Some v) (same : v'.pass.role ≡ v.pass.role) (past : v'.pass.history ≡ v.pass.history) (ok : ViewOk m st h id v')
+module _ (l : Pool) (m0 : Tagged) (used : List ℕ) (m : Mem) (vs : List View) (st : Story) (h : List Entry) (w : Whole l m0 used m vs st h) (id : ℕ) (v v' : View) (at : nth vs id ≡ Some v) (same : v'.pass.role ≡ v.pass.role) (past : v'.pass.history ≡ v.pass.history) (ok : ViewOk m st h id v')
     (serves : v.pass.role ≡ Serving → Serves l m st st.task v.server → Serves l m st st.task v'.server) (clients : v'.server.clients ≡ v.server.clients) where
   was_one : (i : ℕ) (x : View) → nth (renewed vs id v') i ≡ Some x → (y : View) × (nth vs i ≡ Some y) × (y.pass.role ≡ x.pass.role) × (y.server.clients ≡ x.server.clients)
   was_one i x q = ⊎_elim {C = (y : View) × (nth vs i ≡ Some y) × (y.pass.role ≡ x.pass.role) × (y.server.clients ≡ x.server.clients)}
@@ -160,6 +162,6 @@ free_place T st Worn g b a e = absurd cc
 free_place T st Taken g b a e = absurd (held_out T g a IsFree e (λ z. absurd cc) (λ z. absurd cc))
 
 -- the history's facts read neither places, roots, names nor tasks
-pub tale_copy : (st : Story) (m0 : Map) (used : List ℕ) (h : List Entry) → Tale st m0 used h → (place : ℕ → Place) (gone lead flead : ℕ → ℕ) (named : ℕ → Bool) (bindings : List (ℕ × List ℕ)) (task : ServerTask) (sn : List ℕ → ℕ)
+pub tale_copy : (st : Story) (m0 : Tagged) (used : List ℕ) (h : List Entry) → Tale st m0 used h → (place : ℕ → Place) (gone lead flead : ℕ → ℕ) (named : ℕ → Bool) (bindings : List (ℕ × List ℕ)) (task : ServerTask) (sn : List ℕ → ℕ)
     → Tale (record st { place = place; gone = gone; lead = lead; flead = flead; named = named; bindings = bindings; task = task; slot_named = sn }) m0 used h
 tale_copy st m0 used h t place gone lead flead named bindings task sn = record { legal = t.legal; told = t.told; began = t.began; unread = t.unread; settled = t.settled; unbound = t.unbound }

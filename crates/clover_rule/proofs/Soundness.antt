@@ -4,8 +4,9 @@ use Rattle.std.specs.Prelude.{Option, Some, None}
 use Rattle.clover_words.specs.Tag.{home}
 use Rattle.clover_map.specs.declared.bytes.Value.{Value}
 use Rattle.clover_map.specs.declared.call.Entry.{Entry}
+use Rattle.clover_map.specs.Tagged.{Tagged}
 use Rattle.clover_rule.specs.Content.{content, InRange, Spells, Fits}
-use Rattle.clover_rule.specs.History.{Version, Map, ends, leads, kept}
+use Rattle.clover_rule.specs.History.{Version, ends, kept}
 use Rattle.clover_rule.specs.Image.{Image, IsImage, Chain, missing, sift, tags}
 use Rattle.clover_rule.specs.Lists.{nth}
 use Rattle.clover_rule.specs.Memory.{gen, link, Mem}
@@ -16,6 +17,7 @@ use Rattle.clover_rule.specs.declared.view.ServerTask.{ServerTask}
 use Rattle.clover_rule.specs.declared.view.ServerTask.TheVariants.{Idle, Storing, Rooted, Waiting, Loaded, Raised, Led, Both, Exchanged}
 use Rattle.clover_rule.specs.declared.view.View.{View}
 use Rattle.clover_words.specs.declared.pool.Pool.{Pool}
+use Rattle.clover_rule.proofs.KeyMaps.{leads, shows}
 use Rattle.clover_rule.proofs.Spelling.{one_key}
 use Rattle.clover_rule.proofs.Standings.{tag_within, one_buffer}
 use Rattle.std.specs.Prelude.{drop}
@@ -34,7 +36,7 @@ value_in : Option Version → Option Value
 value_in None = None
 value_in (Some w) = w.value
 
-module _ (l : Pool) (m0 : Map) (used : List ℕ) (m : Mem) (vs : List View) (st : Story) (h : List Entry) (w : Whole l m0 used m vs st h) (im : Image) (is : IsImage m im) where
+module _ (l : Pool) (m0 : Tagged) (used : List ℕ) (m : Mem) (vs : List View) (st : Story) (h : List Entry) (w : Whole l m0 used m vs st h) (im : Image) (is : IsImage m im) where
   abbrev c : Core m st
   c = w.basis.core
 
@@ -170,7 +172,7 @@ module _ (l : Pool) (m0 : Map) (used : List ℕ) (m : Mem) (vs : List View) (st 
       version_of t o = record { tag = t; value = o }
 
   -- the chain of a bound slot with a root ends in what the history that is left leads to
-  ends_at : (s : ℕ) (k : List ℕ) (x : Option ℕ) (e : im.root s ≡ x) (t : ℕ) → x ≡ Some t → st.keys s ≡ Some k → ends None (versions_of (chain_from s x e) (λ (i : ℕ). value_in (nth (st.log s) (from_of s x e + i)))) ≡ leads m0 (kept (missing st im) h) k
+  ends_at : (s : ℕ) (k : List ℕ) (x : Option ℕ) (e : im.root s ≡ x) (t : ℕ) → x ≡ Some t → st.keys s ≡ Some k → ends None (versions_of (chain_from s x e) (λ (i : ℕ). value_in (nth (st.log s) (from_of s x e + i)))) ≡ leads (shows m0) (kept (missing st im) h) k
   unfolding chain_from from_of lost_list value_in
   ends_at s k None e t z key = absurd cc
   ends_at s k (Some u) e t z key =
@@ -186,7 +188,7 @@ module _ (l : Pool) (m0 : Map) (used : List ℕ) (m : Mem) (vs : List View) (st 
       ap (ends None) (listed (drop a.at L) (λ (i : ℕ). value_in (nth (st.log s) (a.at + i))) values)
       ∙ ends_drop None None a.at L (longer m st c im is m0 used h w.basis.tale s a.at a.early) ∙ map_left m st c im is m0 used h w.basis.tale s k key
 
-  pub cut_ends : (s t : ℕ) (k : List ℕ) → im.root s ≡ Some t → st.keys s ≡ Some k → ends None (versions_of (cut_sound.chain s) (cut_sound.value s)) ≡ leads m0 (kept (missing st im) h) k
+  pub cut_ends : (s t : ℕ) (k : List ℕ) → im.root s ≡ Some t → st.keys s ≡ Some k → ends None (versions_of (cut_sound.chain s) (cut_sound.value s)) ≡ leads (shows m0) (kept (missing st im) h) k
   unfolding cut_sound
   cut_ends s t k e key = ends_at s k (im.root s) refl t e key
 

@@ -10,7 +10,8 @@ use Rattle.clover_words.proofs.Packing.{one_byte, packed_spells, eight_byte}
 use Rattle.clover_words.specs.declared.pool.Pool.{Pool}
 use Rattle.clover_words.specs.declared.meta.Kind.TheVariants.{Value as IsValue}
 use Rattle.clover_map.specs.declared.bytes.Value.{Value}
-use Rattle.clover_rule.specs.Content.{content, value_meta, all_words, words_from, Fits, spelling, IsKey, Spells, Unpacks}
+use Rattle.clover_map.specs.Key.{IsKey}
+use Rattle.clover_rule.specs.Content.{content, value_meta, all_words, words_from, Fits, spelling, Spells, Unpacks}
 use Rattle.clover_rule.specs.Lists.{nth}
 
 pub length_words : (bytes : List ℕ) (k n : ℕ) → length (words_from bytes k n) ≡ n
@@ -75,8 +76,8 @@ one_content p (Some z) x f g h =
     ap Some (value_same z x e.0 (same_bytes z.bytes x.bytes f.2 g.2 e.1 same))
 
 key_bytes : (k : List ℕ) → IsKey k → AreBytes (length k ∷ k)
-key_bytes k h zero = let a = h.most in omega arith
-key_bytes k h (suc i) = h.bytes i
+key_bytes k h zero = let a = h.1 in omega arith
+key_bytes k h (suc i) = h.2 i
 
 tail_same : (a b : ℕ) (j k : List ℕ) → a ∷ j ≡ b ∷ k → j ≡ k
 tail_same a b j k e = cc

@@ -5,9 +5,10 @@ use mathlib.Core.Logic.{dite}
 use Rattle.std.specs.Prelude.{Option, Some, None}
 use Rattle.clover_words.specs.Tag.{home, age}
 use Rattle.clover_map.specs.declared.call.Entry.{Entry}
+use Rattle.clover_map.specs.Tagged.{Tagged}
 use Rattle.clover_rule.specs.Changes.{raised_mem, raised_story}
 use Rattle.clover_rule.specs.Content.{inside}
-use Rattle.clover_rule.specs.History.{Version, Map}
+use Rattle.clover_rule.specs.History.{Version}
 use Rattle.clover_rule.specs.Lists.{Each, nth, upd, Within, IsPrefix}
 use Rattle.clover_rule.specs.Memory.{Next, word, gen, Mem}
 use Rattle.clover_rule.specs.Server.{AtStage, Help, Settled, moving, unnamed, holding, waiting_name, IsRecycling, Stage, or_else, root_in, is_home, book_of, Serves, Whole}
@@ -49,7 +50,7 @@ pub within_two : {A : Type 0} (x y : A) (xs : List A) → Within x (xs ++ y ∷ 
 within_two x y [] w = ⊎_elim inr (λ q. absurd q) w
 within_two x y (z ∷ xs) w = ⊎_elim (λ q. inl (inl q)) (λ q. ⊎_elim (λ a. inl (inr a)) inr (within_two x y xs q)) w
 
-module _ (l : Pool) (m0 : Map) (used : List ℕ) (m : Mem) (vs : List View) (id : ℕ) (v : View) (st : Story) (h : List Entry) (w : Whole l m0 used m vs st h) (at : nth vs id ≡ Some v) (role : v.pass.role ≡ Serving) where
+module _ (l : Pool) (m0 : Tagged) (used : List ℕ) (m : Mem) (vs : List View) (id : ℕ) (v : View) (st : Story) (h : List Entry) (w : Whole l m0 used m vs st h) (at : nth vs id ≡ Some v) (role : v.pass.role ≡ Serving) where
   abbrev ru : Basis m0 used m vs st h
   ru = w.basis
 

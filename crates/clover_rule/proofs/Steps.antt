@@ -5,7 +5,8 @@ use Rattle.std.specs.Prelude.{Some}
 use Rattle.std.proofs.lemmas.Option.{same_Some}
 use Rattle.clover_words.specs.Tag.{home}
 use Rattle.clover_map.specs.declared.call.Entry.{Entry}
-use Rattle.clover_rule.specs.History.{Version, own}
+use Rattle.clover_map.specs.History.{own}
+use Rattle.clover_rule.specs.History.{Version}
 use Rattle.clover_rule.specs.Lists.{Each, nth, IsPart, Within, IsPrefix}
 use Rattle.clover_rule.specs.Memory.{Next, word, gen, Mem}
 use Rattle.clover_rule.specs.Story.{Stocked, Story, tag_in_version, tag_at, Durable}
@@ -78,7 +79,7 @@ module _ (m : Mem) (st : Story) (h : List Entry) (m' : Mem) (st' : Story) (h' : 
   pub copied_kept : (c : ℕ × Content) → IsCopied st c → IsCopied st' c
   copied_kept c d = (d.0, d.1, g.versions c.0 d.0 d.1 d.2, d.3, ⊎_elim inl (λ e. inr (let x = g.gone c.0 in omega arith)) d.4)
 
-  pub view_kept : (id : ℕ) (v : View) → ((b : ℕ) → st.place b ≡ Stocked id → Leaves m st m' st' id b) → ((c : ℕ) → v.pass.role ≡ Client c → own c h' ≡ own c h) → ViewOk m st h id v → ViewOk m' st' h' id v
+  pub view_kept : (id : ℕ) (v : View) → ((b : ℕ) → st.place b ≡ Stocked id → Leaves m st m' st' id b) → ((c : ℕ) → v.pass.role ≡ Client c → own h' c ≡ own h c) → ViewOk m st h id v → ViewOk m' st' h' id v
   view_kept id v f o k = record {
     stocked = each_map owned v.pass.stock k.stocked;
     apart = k.apart;
@@ -98,7 +99,7 @@ module _ (m : Mem) (st : Story) (h : List Entry) (m' : Mem) (st' : Story) (h' : 
       owned : (t : ℕ) → Owned m st id t → Owned m' st' id t
       owned t d = let x = f (home t) d.0 in (x.place, ap gen x.next ∙ d.1)
 
-      called : (r : Role) (cs : List Entry) → ((c : ℕ) → r ≡ Client c → own c h' ≡ own c h) → OwnCalls r cs h → OwnCalls r cs h'
+      called : (r : Role) (cs : List Entry) → ((c : ℕ) → r ≡ Client c → own h' c ≡ own h c) → OwnCalls r cs h → OwnCalls r cs h'
       called (Client c) cs o d = d ∙ sym (o c refl)
       called Serving cs o d = tt
       called Granting cs o d = tt

@@ -6,7 +6,9 @@ use mathlib.Core.Logic.{dite}
 use Rattle.std.specs.Prelude.{◌&&◌, Some}
 use Rattle.clover_words.specs.Tag.{home}
 use Rattle.clover_map.specs.declared.call.Entry.{Entry}
-use Rattle.clover_rule.specs.History.{Version, Map, used_by}
+use Rattle.clover_map.specs.Tagged.{Tagged}
+use Rattle.clover_map.specs.Legal.{used_by}
+use Rattle.clover_rule.specs.History.{Version}
 use Rattle.clover_rule.specs.Knowing.{dropped, stored_view, stored_mem, flushed_view, flushed_mem}
 use Rattle.clover_rule.specs.Lists.{Each, nth, upd, Within}
 use Rattle.clover_rule.specs.Memory.{gen, Mem}
@@ -62,7 +64,7 @@ module _ (m : Mem) (st : Story) (id : ℕ) (f : ℕ → ℕ → ℕ) (t j x : �
   all_wrote : (cs : List Content) → Each (Wrote m st id f) cs → Each (Wrote m st id (written f t j x)) (record { tag = t; place = j; word = x } ∷ dropped t j cs)
   all_wrote cs a = ((owned, ap (λ (g : ℕ → ℕ). g j) word_here ∙ upd_same (f (home t)) j x), others_kept cs a)
 
-module _ (l : Pool) (m0 : Map) (used : List ℕ) (m : Mem) (vs : List View) (st : Story) (h : List Entry) (w : Whole l m0 used m vs st h) (id : ℕ) (v : View) (at : nth vs id ≡ Some v) (n : ℕ) (role : v.pass.role ≡ Client n)
+module _ (l : Pool) (m0 : Tagged) (used : List ℕ) (m : Mem) (vs : List View) (st : Story) (h : List Entry) (w : Whole l m0 used m vs st h) (id : ℕ) (v : View) (at : nth vs id ≡ Some v) (n : ℕ) (role : v.pass.role ≡ Client n)
     (t : ℕ) (own : Within t v.pass.stock) where
   abbrev r : Basis m0 used m vs st h
   r = w.basis

@@ -10,10 +10,11 @@ use Rattle.clover_words.specs.Tag.{home, age}
 use Rattle.clover_words.specs.Version.{unlinked, buffer_at}
 use Rattle.clover_map.specs.declared.bytes.Value.{Value}
 use Rattle.clover_map.specs.declared.call.Entry.{Entry}
+use Rattle.clover_map.specs.History.{key_of}
 use Rattle.clover_map.specs.Tagged.{Tagged}
 use Rattle.clover_rule.specs.Accesses.{IsTail}
 use Rattle.clover_rule.specs.Content.{content, Fits, value_meta}
-use Rattle.clover_rule.specs.History.{Version, shows, named}
+use Rattle.clover_rule.specs.History.{Version}
 use Rattle.clover_rule.specs.Image.{tags}
 use Rattle.clover_rule.specs.Lists.{nth, Within}
 use Rattle.clover_rule.specs.Meets.{Meets}
@@ -62,10 +63,10 @@ module _ (p : Pool) (first : Tagged) (used : List ℕ) (ws : List ℕ) (vs : Lis
       let w = r.whole in
       let f : m.next (home t) ≡ word (age t) None = read_next p ws (home t) (inside_of p (home t) hw) ∙ ap next_of e ∙ next_again (age t) None (omega arith) in
       let b = w.basis in
-      let bound = slot_bound (shows first) used m vs st h b id v at s k t tail name f in
-      let d = tail_durable (shows first) used m vs st h b id v at s k t tail name f in
-      let x = version (shows first) used m vs st h b id v at s k t tail name f in
-      let l = last (shows first) used m vs st h b id v at s k t tail name f in
+      let bound = slot_bound first used m vs st h b id v at s k t tail name f in
+      let d = tail_durable first used m vs st h b id v at s k t tail name f in
+      let x = version first used m vs st h b id v at s k t tail name f in
+      let l = last first used m vs st h b id v at s k t tail name f in
       let low = b.core.rooted s (omega arith) in
       let most = b.core.sure_most s in
       let q = split_last (st.log s) d.0 x.0 x.1 l (st.lead s) (omega arith) in
@@ -76,8 +77,8 @@ module _ (p : Pool) (first : Tagged) (used : List ℕ) (ws : List ℕ) (vs : Lis
   one_version s t k hw tail name e =
       let f : m.next (home t) ≡ word (age t) None = read_next p ws (home t) (inside_of p (home t) hw) ∙ ap next_of e ∙ next_again (age t) None (omega arith) in
       let b = r.whole.basis in
-      let x = version (shows first) used m vs st h b id v at s k t tail name f in
-      record { value = x.0.value; fits = r.whole.help.ranged.fits s _ x.0 x.1; words = copied_word (shows first) used m vs st h b id v at s k t tail name f }
+      let x = version first used m vs st h b id v at s k t tail name f in
+      record { value = x.0.value; fits = r.whole.help.ranged.fits s _ x.0 x.1; words = copied_word first used m vs st h b id v at s k t tail name f }
 
   -- a named slot has a root
   root_is : (s : ℕ) (k : List ℕ) → Within (s, k) v.pass.names → (t : ℕ) × (m.root s ≡ Some t)
@@ -118,8 +119,8 @@ module _ (p : Pool) (first : Tagged) (used : List ℕ) (ws : List ℕ) (vs : Lis
 
   pub says : (a : Step) → Asks p a v → Says p ws a v (found p a ws)
   says (LoadNext s t) asks = λ e y q. meta_is s t y asks.0 e q
-  says (DecideNext s t c y) asks = λ e. (tail_is s t (named c) asks.0 asks.1.tail asks.1.name e, one_version s t (named c) asks.0 asks.1.tail asks.1.name e)
-  says (LinkNext s u t c) asks = λ e. tail_is s u (named c) asks.0 asks.1.tail asks.1.name e
+  says (DecideNext s t c y) asks = λ e. (tail_is s t (key_of c) asks.0 asks.1.tail asks.1.name e, one_version s t (key_of c) asks.0 asks.1.tail asks.1.name e)
+  says (LinkNext s u t c) asks = λ e. tail_is s u (key_of c) asks.0 asks.1.tail asks.1.name e
   says (ReadRoot s) asks = λ k name. let t = root_is s k name in (t.0, sym (read_root p ws s asks.0) ∙ t.1)
   says ReadCount asks = counts_known
   says (AbsentCount c) asks = counts_known

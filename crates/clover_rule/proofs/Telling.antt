@@ -12,9 +12,9 @@ use Rattle.clover_words.specs.Place.{address_of, IsWithin, copy_in}
 use Rattle.clover_words.specs.Tag.{home, age}
 use Rattle.clover_words.specs.Version.{buffer_at, content_at}
 use Rattle.clover_map.specs.declared.call.Entry.{Entry}
+use Rattle.clover_map.specs.Key.{IsKey}
 use Rattle.clover_map.specs.Tagged.{Tagged}
-use Rattle.clover_rule.specs.Content.{InRange, IsKey}
-use Rattle.clover_rule.specs.History.{shows}
+use Rattle.clover_rule.specs.Content.{InRange}
 use Rattle.clover_rule.specs.Lists.{Each, Within, nth}
 use Rattle.clover_rule.specs.Meets.{Meets, IsMet}
 use Rattle.clover_rule.specs.Memory.{Next, Mem, gen, link}
@@ -34,16 +34,15 @@ use Rattle.clover_rule.specs.declared.view.View.{View}
 use Rattle.clover_rule.specs.declared.view.ServerTask.{ServerTask}
 use Rattle.clover_rule.specs.declared.view.ServerTask.TheVariants.{Idle, Storing, Rooted, Waiting, Loaded, Raised, Led, Both, Exchanged}
 use Rattle.clover_rule.proofs.ServerTools.{free_place}
-use Rattle.clover_rule.proofs.Hands.{each_both}
+use Rattle.clover_rule.proofs.Tools.{each_both}
 use Rattle.clover_rule.proofs.Steps.{each_map, each_of, within_prefix, set_here}
 use Rattle.clover_rule.proofs.Standings.{tag_within, one_buffer}
-use Rattle.clover_rule.proofs.TaggedMaps.{legal_history}
 use Rattle.clover_rule.proofs.Derived.{current_past}
 use Rattle.clover_rule.proofs.Keeping.{read_next, read_fnext, read_root, read_short, inside_of}
 use Rattle.clover_rule.proofs.AllKeeps.{keeps}
 use Rattle.clover_rule.proofs.Tails.{says}
 use Rattle.clover_rule.proofs.Soundness.{cut_sound, flushed_image, flushed_is}
-use Rattle.clover_map.specs.Legal as Runs
+use Rattle.clover_map.specs.Legal.{Legal}
 use Rattle.clover_rule.proofs.Ties.{guard_true, test_below}
 
 pub nth_elem : {A : Type 0} (l : List A) (i : ℕ) (a : A) → get_elem? l i ≡ some a → nth l i ≡ Some a
@@ -193,7 +192,7 @@ module _ (p : Pool) (first : Tagged) (used : List ℕ) (ws : List ℕ) (vs : Lis
         record {
           of_pool = o.of_pool;
           begins = ok.history;
-          legal = subst (λ (u : List ℕ). Runs.Legal v.pass.map u h) (sym o.from_used) (subst (λ (f : Tagged). Runs.Legal f used h) (sym o.from_map) (legal_history first used h r.whole.basis.tale.legal).2);
+          legal = subst (λ (u : List ℕ). Legal v.pass.map u h) (sym o.from_used) (subst (λ (f : Tagged). Legal f used h) (sym o.from_map) r.whole.basis.tale.legal);
           calls = ok.calls;
           stock = each_map (λ t q. let g = r.whole.help.ranged.ready (home t) (subst Ready (sym q.0) tt) in (g.0, let z = q.1 in let y = g.1 in omega arith)) v.pass.stock ok.stocked;
           apart = ok.apart;
@@ -211,7 +210,7 @@ module _ (p : Pool) (first : Tagged) (used : List ℕ) (ws : List ℕ) (vs : Lis
 
   -- what a copy of a word shows
   fnext_in : (b : ℕ) → (gen (m.fnext b) ≤ p.wear) × ((t : ℕ) → link (m.fnext b) ≡ Some t → InRange p t)
-  fnext_in b = (let a = r.whole.help.ranged.below b in let c = r.whole.help.ranged.own b in omega arith, λ t e. (cut_sound p (shows first) used m vs st h r.whole (flushed_image m) (flushed_is m)).target b t e)
+  fnext_in b = (let a = r.whole.help.ranged.below b in let c = r.whole.help.ranged.own b in omega arith, λ t e. (cut_sound p first used m vs st h r.whole (flushed_image m) (flushed_is m)).target b t e)
 
   next_shown : (b : ℕ) → IsWithin p (NextOf (buffer_at b)) → (s : Side) → IsShown p (NextOf (buffer_at b)) (copy_in p ws (NextOf (buffer_at b)) s)
   next_shown b hw Current = let i = inside_of p b hw in let e = read_next p ws b i in
@@ -226,7 +225,7 @@ module _ (p : Pool) (first : Tagged) (used : List ℕ) (ws : List ℕ) (vs : Lis
   -- a root that is decoded leads to a tag in range, whichever copy it is
   root_shown : (s : ℕ) → s < p.slots → (side : Side) → IsShown p (Root s) (copy_in p ws (Root s) side)
   root_shown s hw Current = (r.decodes (Root s) Current hw tt, λ t e. let f : m.root s ≡ Some t = read_root p ws s hw ∙ e in r.whole.help.ranged.tags s (st.lead s) t (sym (r.whole.basis.core.root s) ∙ f))
-  root_shown s hw Flushed = (r.decodes (Root s) Flushed hw tt, λ t e. (cut_sound p (shows first) used m vs st h r.whole (flushed_image m) (flushed_is m)).root s t (guard_true (nat_lt s p.slots) _ _ None (test_below s p.slots hw) refl ∙ e))
+  root_shown s hw Flushed = (r.decodes (Root s) Flushed hw tt, λ t e. (cut_sound p first used m vs st h r.whole (flushed_image m) (flushed_is m)).root s t (guard_true (nat_lt s p.slots) _ _ None (test_below s p.slots hw) refl ∙ e))
 
   restart_shown : (x : RestartStore) → IsWithin p (restart_word x) → IsShown p (restart_word x) (slice_index ws (address_of p (restart_word x) (side_in (restart_operation x))))
   restart_shown (ClearRoot s) hw = root_shown s hw Current

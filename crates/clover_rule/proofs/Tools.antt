@@ -1,7 +1,7 @@
 -- Lists read by place, and functions changed at one place.
 use Rattle.std.proofs.Common.{◌≡◌, ℕ, zero, suc, ◌<◌, ◌≤◌, ◌≢◌, ◌⊎◌, List, [], ◌∷◌, ◌++◌, length, true, false, eqb, ◌&&◌, refl, sym, ap, ◌∙◌, inl, inr, ⊎_elim, arith, eq-eqb, ne_eqb, true≢false}
 use Rattle.std.specs.Prelude.{Some, None}
-use Rattle.clover_rule.specs.Lists.{nth, upd}
+use Rattle.clover_rule.specs.Lists.{nth, upd, Each}
 
 module _ {A : Type 0} where
   pub upd_same : (f : ℕ → A) (i : ℕ) (a : A) → upd f i a i ≡ a
@@ -53,3 +53,8 @@ module _ {A : Type 0} where
 -- a place that differs from a word's differs by the second number where the first is the same
 pub other_place : (c t j k : ℕ) → c ≡ t → eqb c t && eqb k j ≡ false → k ≢ j
 other_place c t j k e f = λ q. true≢false (sym (let a : eqb c t && eqb k j ≡ true = rw (eq-eqb c t e, eq-eqb k j q) refl in a) ∙ f)
+
+-- what holds of each of two lists
+pub each_both : {A : Type 0} (P : A → Type 0) (xs ys : List A) → Each P xs → Each P ys → Each P (xs ++ ys)
+each_both P [] ys a b = b
+each_both P (x ∷ xs) ys a b = (a.0, each_both P xs ys a.1 b)

@@ -6,6 +6,7 @@ use Rattle.std.specs.Prelude.{Option, Some, None}
 use Rattle.std.proofs.lemmas.Option.{same_Some}
 use Rattle.std.proofs.lemmas.Bool.{lt-ltb}
 use Rattle.clover_words.specs.Tag.{age, home}
+use Rattle.std.specs.FinMap.{get}
 use Rattle.clover_map.specs.declared.bytes.Value.{Value}
 use Rattle.clover_map.specs.declared.bytes.Held.{Held}
 use Rattle.clover_map.specs.declared.call.Entry.{Entry}
@@ -13,7 +14,8 @@ use Rattle.clover_map.specs.Tagged.{Tagged}
 use Rattle.clover_words.specs.declared.pool.Pool.{Pool}
 use Rattle.clover_map.specs.declared.bytes.Held.{Held}
 use Rattle.clover_rule.specs.Content.{content}
-use Rattle.clover_rule.specs.History.{Version, commits, commit_of, key_of, leads, ends, paired, used_by, Map, shows}
+use Rattle.clover_map.specs.Legal.{used_by}
+use Rattle.clover_rule.specs.History.{Version, commits_at, commit_of, entry_key, ends, paired}
 use Rattle.clover_rule.specs.Image.{tags}
 use Rattle.clover_rule.specs.Lists.{nth, Within, Each}
 use Rattle.clover_rule.specs.Meets.{Meets}
@@ -42,6 +44,7 @@ use Rattle.clover_rule.proofs.Standings.{exchanged_tag, tag_there, tag_within, t
 use Rattle.clover_rule.proofs.Steps.{each_map, each_within}
 use Rattle.clover_rule.proofs.Histories.{leads_commits, ends_more}
 use Rattle.clover_rule.proofs.Snocs.{within_nth, within_commits, within_back}
+use Rattle.clover_rule.proofs.KeyMaps.{leads, Map, shows}
 use Rattle.clover_rule.proofs.TaggedMaps.{legal_history}
 use Rattle.clover_rule.proofs.Keys.{key_discrete}
 use Rattle.clover_rule.proofs.ServerTools.{held_out, free_place}
@@ -295,23 +298,23 @@ module _ (p : Pool) (first : Tagged) (used : List ℕ) (ws : List ℕ) (vs : Lis
       (ap (λ (z : ℕ). m.body (home z) j) (sym w.2) ∙ a.0, ap (λ (z : ℕ). m.fbody (home z) j) (sym w.2) ∙ a.1)
 
   -- the commits of a history stand in the log of their key's slot
-  in_log : (e : Entry) (w : Version) → Within e h → commit_of e ≡ Some w → (s : ℕ) → st.keys s ≡ Some (key_of e) → Within w (st.log s)
-  in_log e w a b s k = subst (Within w) (sym (r.whole.basis.tale.told s (key_of e) k)) (within_back w (st.first s) (commits (key_of e) h) (within_commits h e w a b))
+  in_log : (e : Entry) (w : Version) → Within e h → commit_of e ≡ Some w → (s : ℕ) → st.keys s ≡ Some (entry_key e) → Within w (st.log s)
+  in_log e w a b s k = subst (Within w) (sym (r.whole.basis.tale.told s (entry_key e) k)) (within_back w (st.first s) (commits_at (entry_key e) h) (within_commits h e w a b))
 
   committed_here : (e : Entry) (w : Version) → Within e h → commit_of e ≡ Some w → value_by st w.tag ≡ w.value
-  committed_here e w a b = go (st.keys (st.slot_named (key_of e))) refl
+  committed_here e w a b = go (st.keys (st.slot_named (entry_key e))) refl
     where
       k : List ℕ
-      k = key_of e
+      k = entry_key e
 
-      unbound : ((s : ℕ) → st.keys s ≢ Some (key_of e)) → ⊥
-      unbound f = subst (Within w) (r.whole.basis.tale.unbound (key_of e) f).1 (within_commits h e w a b)
+      unbound : ((s : ℕ) → st.keys s ≢ Some (entry_key e)) → ⊥
+      unbound f = subst (Within w) (r.whole.basis.tale.unbound (entry_key e) f).1 (within_commits h e w a b)
 
-      go : (x : Option (List ℕ)) → st.keys (st.slot_named (key_of e)) ≡ x → value_by st w.tag ≡ w.value
-      go None q = absurd (unbound (λ s z. let f = r.whole.help.naming.found s (key_of e) z in absurd (let y : ◌≡◌ {A = Option (List ℕ)} None (Some (key_of e)) = sym q ∙ ap st.keys f ∙ z in cc)))
-      go (Some j) q = dite (key_discrete j (key_of e))
-          (λ d. let i = within_nth w (st.log (st.slot_named (key_of e))) (in_log e w a b (st.slot_named (key_of e)) (q ∙ ap Some d)) in value_at (st.slot_named (key_of e)) i.0 w i.1)
-          (λ n. absurd (unbound (λ s z. let f = r.whole.help.naming.found s (key_of e) z in n (let y : Some j ≡ Some (key_of e) = sym q ∙ ap st.keys f ∙ z in cc))))
+      go : (x : Option (List ℕ)) → st.keys (st.slot_named (entry_key e)) ≡ x → value_by st w.tag ≡ w.value
+      go None q = absurd (unbound (λ s z. let f = r.whole.help.naming.found s (entry_key e) z in absurd (let y : ◌≡◌ {A = Option (List ℕ)} None (Some (entry_key e)) = sym q ∙ ap st.keys f ∙ z in cc)))
+      go (Some j) q = dite (key_discrete j (entry_key e))
+          (λ d. let i = within_nth w (st.log (st.slot_named (entry_key e))) (in_log e w a b (st.slot_named (entry_key e)) (q ∙ ap Some d)) in value_at (st.slot_named (entry_key e)) i.0 w i.1)
+          (λ n. absurd (unbound (λ s z. let f = r.whole.help.naming.found s (entry_key e) z in n (let y : Some j ≡ Some (entry_key e) = sym q ∙ ap st.keys f ∙ z in cc))))
 
   -- the task's version under recycling has its content in both copies
   leaving_here : (T : ServerTask) → AtStage p m st T → (s t : ℕ) → recycled_by T s ≡ Some t → Holds m (record { tag = t; value = value_by st t })
@@ -554,11 +557,11 @@ module _ (p : Pool) (first : Tagged) (used : List ℕ) (ws : List ℕ) (vs : Lis
   map_bound s k e =
       let f = r.whole.help.keyed.filled s k e in
       let d = c.rooted s f in let n = c.sure_most s in
-      leads_commits (shows first) h k ∙ ap (λ (y : Option Held). ends y (commits k h)) (sym (r.whole.basis.tale.began s k e)) ∙ sym (ends_more None (st.first s) (commits k h)) ∙ ap (ends None) (sym (r.whole.basis.tale.told s k e))
+      leads_commits (shows first) h k ∙ ap (λ (y : Option Held). ends y (commits_at k h)) (sym (r.whole.basis.tale.began s k e)) ∙ sym (ends_more None (st.first s) (commits_at k h)) ∙ ap (ends None) (sym (r.whole.basis.tale.told s k e))
       ∙ sym (tail_of (value_by st) (st.log s) (st.lead s) (omega arith) (λ i w q. value_at s i w q))
 
   map_unbound : (k : List ℕ) → ((s : ℕ) → st.keys s ≢ Some k) → leads (shows first) h k ≡ None
-  map_unbound k f = let u = r.whole.basis.tale.unbound k f in leads_commits (shows first) h k ∙ ap (ends (shows first k)) u.1 ∙ u.0
+  map_unbound k f = let u = r.whole.basis.tale.unbound k f in leads_commits (shows first) h k ∙ ap (ends (get first k)) u.1 ∙ u.0
 
   not_owned : (i t u : ℕ) → Spent m st t → Owned m st i u → u ≡ t → ⊥
   not_owned i t u sp o e = ⊎_elim {C = ⊥} (λ a. let x = o.1 in let y = ap (λ (z : ℕ). gen (m.next (home z))) e in let w = ap age e in omega arith)
@@ -566,7 +569,7 @@ module _ (p : Pool) (first : Tagged) (used : List ℕ) (ws : List ℕ) (vs : Lis
 
   part_11 : HistoryAndMap p first used m vs (chain_of st) (value_by st) st.keys h
   part_11 = let l = legal_history first used h r.whole.basis.tale.legal in record {
-    legal = l.2;
+    legal = r.whole.basis.tale.legal;
     keys_are = record {
       rooted = λ s t e. key_here s t (sym (c.root s) ∙ e) (st.keys s) refl;
       bound = λ s k e. root_here s k e (m.root s) refl;
@@ -574,7 +577,7 @@ module _ (p : Pool) (first : Tagged) (used : List ℕ) (ws : List ℕ) (vs : Lis
       spelled = r.whole.help.keyed.current;
       once = r.whole.basis.keyed;
     };
-    map = record { map = l.0; leads = l.1; bound = λ s k e. ap (λ (f : Map). f k) l.3 ∙ map_bound s k e; unbound = λ k f. ap (λ (g : Map). g k) l.3 ∙ map_unbound k f };
+    map = record { map = l.0; leads = l.1; bound = λ s k e. ap (λ (f : Map). f k) l.2 ∙ map_bound s k e; unbound = λ k f. ap (λ (g : Map). g k) l.2 ∙ map_unbound k f };
     old = each_map (λ t d. let b = r.whole.help.ranged.below (home t) in let a = d.1 in omega arith) (used_by used h) r.whole.safe;
     unstocked = λ v w. let x = within_there vs v w in each_map (λ t sp q. not_stocked x.0 t sp v.pass.stock (r.whole.basis.views x.0 v x.1).stocked q) (used_by used h) r.whole.basis.spent;
     unfree = λ v sv. let s = r.whole.serves sv.0 v sv.1 sv.2 in each_map (λ t sp i e. let f = free_place st.task st (st.place (home t)) (gen (m.next (home t))) (home t) (age t) (sym (s.books (home t) i) ∙ e) in

@@ -1,12 +1,17 @@
 -- A client's load that decides its call with a reply that commits nothing: the entry joins the history, and the
 -- view has what the load taught it, next words or the count.
-use Rattle.std.proofs.Common.{◌≡◌, ℕ, ◌≤◌, ◌≢◌, ◌⊎◌, List, [], ◌∷◌, ◌++◌, append-nil, Bool, true, false, cond, refl, sym, ap, ◌∙◌, inl, inr, arith, subst, eq-eqb, ne_eqb}
+use Rattle.std.proofs.Common.{◌≡◌, ℕ, ◌≤◌, ◌≢◌, ◌⊎◌, List, [], ◌∷◌, ◌++◌, append-nil, Bool, true, false, cond, refl, sym, ap, ◌∙◌, inl, inr, arith, subst}
 use Rattle.std.specs.Prelude.{Option, Some, None}
 use Rattle.clover_map.specs.declared.call.Call.{Call}
 use Rattle.clover_map.specs.declared.call.Reply.{Reply}
 use Rattle.clover_map.specs.declared.call.Entry.{Entry}
 use Rattle.std.specs.Str.{bytes_eq}
-use Rattle.clover_rule.specs.History.{Version, Map, own, used_by, commits, joined, key_of, commit_of, lost_in, grown, Does, named, committed, leads}
+use Rattle.clover_map.specs.History.{key_of}
+use Rattle.clover_map.proofs.Parts.{own_push, own_push_other}
+use Rattle.clover_map.specs.Tagged.{Tagged}
+use Rattle.clover_map.specs.Legal.{used_by}
+use Rattle.std.specs.List.{cons_option}
+use Rattle.clover_rule.specs.History.{Version, commits_at, entry_key, commit_of, lost_in, committed}
 use Rattle.clover_rule.specs.Knowing.{link_entry}
 use Rattle.clover_rule.specs.Lists.{Each, nth, Within}
 use Rattle.clover_rule.specs.Memory.{word, Mem}
@@ -16,20 +21,22 @@ use Rattle.clover_rule.specs.declared.view.Role.{Role}
 use Rattle.clover_rule.specs.declared.view.Role.TheVariants.{Client}
 use Rattle.clover_rule.specs.declared.view.Shown.{Shown}
 use Rattle.clover_rule.specs.declared.view.View.{View}
-use Rattle.clover_rule.proofs.Histories.{legal_snoc, commits_snoc}
-use Rattle.clover_rule.proofs.Snocs.{unread_snoc, used_snoc, own_snoc}
+use Rattle.clover_rule.proofs.KeyMaps.{leads, shows}
+use Rattle.clover_rule.proofs.TaggedMaps.{Permits, new_none}
+use Rattle.clover_rule.proofs.Histories.{legal_snoc, commits_snoc, commits_first}
+use Rattle.clover_rule.proofs.Snocs.{unread_snoc, each_used}
 use Rattle.clover_rule.proofs.Steps.{prefix_self, Grows, view_kept, nth_set, set_here, role_was}
 
--- the view of a client that loaded this, and counts the call among its own and the history's
+-- the view of a client that loaded this, and counts the call among its own the and history's
 abbrev pub answered : View → List Entry → ℕ → List Shown → ℕ → Call → Reply → View
 answered v h n words most call reply = record v {
   pass = record v.pass { calls = v.pass.calls ++ link_entry v n call reply ∷ []; history = h ++ link_entry v n call reply ∷ []; words = words; most = most };
 }
 
-module _ (m0 : Map) (used : List ℕ) (m : Mem) (vs : List View) (st : Story) (h : List Entry) (r : Basis m0 used m vs st h) (id : ℕ) (v : View) (at : nth vs id ≡ Some v) (n : ℕ) (role : v.pass.role ≡ Client n)
-    (k : List ℕ) (unread_after : (x : Entry) → Within x h → lost_in (unsure st) (commit_of x) ≡ true → k ≢ key_of x)
+module _ (m0 : Tagged) (used : List ℕ) (m : Mem) (vs : List View) (st : Story) (h : List Entry) (r : Basis m0 used m vs st h) (id : ℕ) (v : View) (at : nth vs id ≡ Some v) (n : ℕ) (role : v.pass.role ≡ Client n)
+    (k : List ℕ) (unread_after : (x : Entry) → Within x h → lost_in (unsure st) (commit_of x) ≡ true → k ≢ entry_key x)
     (words : List Shown) (words_ok : Each (λ (p : Shown). Past m st p.buffer (word p.own p.link)) words) (most : ℕ) (most_ok : most ≤ m.count)
-    (call : Call) (reply : Reply) (nm : named call ≡ k) (cm : committed call reply ≡ None) (does : Does (leads m0 h k) (used_by used h) call reply) where
+    (call : Call) (reply : Reply) (nm : key_of call ≡ k) (cm : committed call reply ≡ None) (does : Permits (leads (shows m0) h k) (used_by used h) call reply) where
   ok : ViewOk m st h id v
   ok = r.views id v at
 
@@ -42,24 +49,24 @@ module _ (m0 : Map) (used : List ℕ) (m : Mem) (vs : List View) (st : Story) (h
   abbrev v' : View
   v' = answered v h n words most call reply
 
-  none_more : (k1 : List ℕ) → commits k1 (e ∷ []) ≡ []
-  none_more k1 = ap (λ (o : Option Version). cond (bytes_eq (named call) k1) (joined o []) []) cm ∙ both (bytes_eq (named call) k1)
+  none_more : (k1 : List ℕ) → commits_at k1 (e ∷ []) ≡ []
+  none_more k1 = commits_first k1 e [] ∙ ap (λ (o : Option Version). cond (bytes_eq (key_of call) k1) (cons_option o []) []) cm ∙ both (bytes_eq (key_of call) k1)
     where
-      both : (b : Bool) → ◌≡◌ {A = List Version} (cond b (joined None []) []) []
+      both : (b : Bool) → ◌≡◌ {A = List Version} (cond b (cons_option None []) []) []
       both true = refl
       both false = refl
 
-  told' : (s1 : ℕ) (k1 : List ℕ) → st.keys s1 ≡ Some k1 → st.log s1 ≡ st.first s1 ++ commits k1 h'
-  told' s1 k1 q = r.tale.told s1 k1 q ∙ ap (λ (ws : List Version). st.first s1 ++ ws) (sym (commits_snoc k1 h e ∙ ap (λ (ws : List Version). commits k1 h ++ ws) (none_more k1) ∙ append-nil (commits k1 h)))
+  told' : (s1 : ℕ) (k1 : List ℕ) → st.keys s1 ≡ Some k1 → st.log s1 ≡ st.first s1 ++ commits_at k1 h'
+  told' s1 k1 q = r.tale.told s1 k1 q ∙ ap (λ (ws : List Version). st.first s1 ++ ws) (sym (commits_snoc k1 h e ∙ ap (λ (ws : List Version). commits_at k1 h ++ ws) (none_more k1) ∙ append-nil (commits_at k1 h)))
 
   tale' : Tale st m0 used h'
   tale' = record {
-    legal = legal_snoc m0 used h e r.tale.legal (subst (λ (j : List ℕ). Does (leads m0 h j) (used_by used h) call reply) (sym nm) does);
+    legal = legal_snoc m0 used h e r.tale.legal (subst (λ (j : List ℕ). Permits (leads (shows m0) h j) (used_by used h) call reply) (sym nm) does);
     told = told';
     began = r.tale.began;
     unread = unread_snoc (unsure st) (unsure st) h e r.tale.unread (λ x1 a b. (b, λ q. unread_after x1 a b (sym nm ∙ q)));
     settled = r.tale.settled;
-    unbound = λ k1 f. let z = r.tale.unbound k1 f in (z.0, commits_snoc k1 h e ∙ ap (λ (ws : List Version). commits k1 h ++ ws) (none_more k1) ∙ append-nil (commits k1 h) ∙ z.1);
+    unbound = λ k1 f. let z = r.tale.unbound k1 f in (z.0, commits_snoc k1 h e ∙ ap (λ (ws : List Version). commits_at k1 h ++ ws) (none_more k1) ∙ append-nil (commits_at k1 h) ∙ z.1);
   }
 
   grows : Grows m st h m st h'
@@ -79,7 +86,7 @@ module _ (m0 : Map) (used : List ℕ) (m : Mem) (vs : List View) (st : Story) (h
     most = most_ok;
     words = words_ok;
     history = prefix_self h';
-    calls = subst (λ (o : Role). OwnCalls o v.pass.calls h → OwnCalls o (v.pass.calls ++ e ∷ []) h') (sym role) (λ q. ap (λ (xs : List Entry). xs ++ e ∷ []) q ∙ sym (own_snoc n h e ∙ ap (λ (b : Bool). own n h ++ cond b (e ∷ []) []) (eq-eqb n n refl))) ok.calls;
+    calls = subst (λ (o : Role). OwnCalls o v.pass.calls h → OwnCalls o (v.pass.calls ++ e ∷ []) h') (sym role) (λ q. ap (λ (xs : List Entry). xs ++ e ∷ []) q ∙ sym (own_push h e)) ok.calls;
   }
 
   views' : (i1 : ℕ) (v1 : View) → nth (renewed vs id v') i1 ≡ Some v1 → ViewOk m st h' i1 v1
@@ -88,14 +95,14 @@ module _ (m0 : Map) (used : List ℕ) (m : Mem) (vs : List View) (st : Story) (h
       go : ((i1 ≡ id) × (v' ≡ v1)) ⊎ ((i1 ≢ id) × (nth vs i1 ≡ Some v1)) → ViewOk m st h' i1 v1
       go (inl a) = rw (a.0, ← a.1) new_ok
       go (inr a) = view_kept m st h m st h' grows i1 v1 (λ b o. record { place = o; next = refl; body = λ y. refl; fbody = λ y. refl })
-          (λ c f. own_snoc c h e ∙ ap (λ (b : Bool). own c h ++ cond b (e ∷ []) []) (ne_eqb n c (λ g. a.0 (r.numbered i1 id n v1 v a.1 at (f ∙ ap Client (sym g)) role))) ∙ append-nil (own c h)) (r.views i1 v1 a.1)
+          (λ c f. own_push_other h e c (λ g. a.0 (r.numbered i1 id n v1 v a.1 at (f ∙ ap Client (sym g)) role))) (r.views i1 v1 a.1)
 
   pub answered_rule : Basis m0 used m (renewed vs id v') st h'
   answered_rule = record {
     core = r.core;
     tale = tale';
     bodies = r.bodies;
-    spent = subst (Each (Spent m st)) (sym (used_snoc used h e ∙ ap (grown (used_by used h)) cm)) r.spent;
+    spent = each_used (Spent m st) used h e r.spent (subst (Each (Spent m st)) (sym (new_none (leads (shows m0) h k) (used_by used h) call reply does cm)) tt);
     bound = r.bound;
     keyed = r.keyed;
     views = views';

@@ -15,8 +15,8 @@ use Rattle.clover_map.specs.declared.call.Call.{Call}
 use Rattle.clover_map.specs.declared.call.Call.TheVariants.{Get, Put, Delete, Swap}
 use Rattle.clover_map.specs.declared.call.Reply.{Reply}
 use Rattle.clover_map.specs.declared.call.Reply.TheVariants.{Stored, Found, Absent, Deleted, Differs}
+use Rattle.clover_map.specs.History.{key_of}
 use Rattle.clover_rule.specs.Content.{content, value_meta, Spells}
-use Rattle.clover_rule.specs.History.{named}
 use Rattle.clover_rule.specs.Lists.{nth, Within}
 use Rattle.clover_rule.specs.Memory.{Mem}
 use Rattle.clover_rule.specs.Chains.{Walk}
@@ -92,15 +92,15 @@ SawFor u (Get k) acts = ⊥
 
 -- the exchange of a commit, with the words that stood before it
 abbrev pub Committed : Pool → List ℕ → Call → ℕ → List Act → Type 0
-Committed p ws c t acts = (u : ℕ) × (before after : List Act) × (acts ≡ before ++ wrote_link u t ∷ after) × StoredBoth t (value_of c) before × SawFor u c before × IsTail (mem_of p ws) (named c) u
+Committed p ws c t acts = (u : ℕ) × (before after : List Act) × (acts ≡ before ++ wrote_link u t ∷ after) × StoredBoth t (value_of c) before × SawFor u c before × IsTail (mem_of p ws) (key_of c) u
 
 -- a last load that showed the tail, with the words that stood then
 abbrev pub AtTail : Pool → List ℕ → Call → ℕ → (List Act → Type 0) → List Act → Type 0
-AtTail p ws c t seen acts = (before : List Act) × (acts ≡ before ++ shows_tail t ∷ []) × seen before × IsTail (mem_of p ws) (named c) t
+AtTail p ws c t seen acts = (before : List Act) × (acts ≡ before ++ shows_tail t ∷ []) × seen before × IsTail (mem_of p ws) (key_of c) t
 
 -- a last load of the count that gave the length of the client's copy of the bindings, where the key is not in it
 abbrev pub NoBinding : List (ℕ × List ℕ) → Call → List Act → Type 0
-NoBinding names c acts = (before : List Act) × (acts ≡ before ++ Load Count (length names) ∷ []) × ((s : ℕ) → Within (s, named c) names → ⊥)
+NoBinding names c acts = (before : List Act) × (acts ≡ before ++ Load Count (length names) ∷ []) × ((s : ℕ) → Within (s, key_of c) names → ⊥)
 
 -- The acts of a call since its start decide its reply: ws are the words at the deciding access, names the client's copy of the bindings.
 abbrev pub Decides : Pool → List ℕ → List (ℕ × List ℕ) → List Act → Call → Reply → Type 0

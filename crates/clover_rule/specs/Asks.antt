@@ -7,8 +7,9 @@ use Rattle.clover_map.specs.declared.call.Call.{Call}
 use Rattle.clover_map.specs.declared.call.Call.TheVariants.{Get, Put, Delete, Swap}
 use Rattle.clover_map.specs.declared.call.Reply.{Reply}
 use Rattle.clover_map.specs.declared.call.Reply.TheVariants.{Found, Absent, Differs}
-use Rattle.clover_rule.specs.Content.{content, spelling, inside, Fits, IsKey}
-use Rattle.clover_rule.specs.History.{named}
+use Rattle.clover_map.specs.History.{key_of}
+use Rattle.clover_map.specs.Key.{IsKey}
+use Rattle.clover_rule.specs.Content.{content, spelling, inside, Fits}
 use Rattle.clover_rule.specs.Knowing.{CopiedValue, SawValue, SawTombstone}
 use Rattle.clover_rule.specs.Lists.{Within, nth}
 use Rattle.clover_rule.specs.Steps.{Step, LoadNext, DecideNext, RaiseNext, LinkNext, StoreContent, FlushContent, LoadContent, ReadRoot, ReadShort, StoreShort, ReadCount, AbsentCount, ReadVersion, FlushLink, StoreRoot, FlushRoot, PassRoot, FreeRoot, StoreTombstone, FlushTombstone, StoreKey, FlushKey, BindRoot, FlushBoundRoot, StoreCount, Restart, word_of, value_of, IsClient}
@@ -34,7 +35,7 @@ MayReply v s t c r = ⊥
 pub record MayDecide (v : View) (s t : ℕ) (c : Call) (r : Reply) : Type 0 where
   pub client : IsClient v
   pub tail : Within (s, t) v.pass.durable
-  pub name : Within (s, named c) v.pass.names
+  pub name : Within (s, key_of c) v.pass.names
   pub reply : MayReply v s t c r
 
 -- what a client must have read to commit the call behind the tail u of a slot
@@ -50,7 +51,7 @@ pub record MayCommit (p : Pool) (v : View) (s u t : ℕ) (c : Call) : Type 0 whe
   pub rest : List ℕ
   pub stock : v.pass.stock ≡ t ∷ rest
   pub tail : Within (s, u) v.pass.durable
-  pub name : Within (s, named c) v.pass.names
+  pub name : Within (s, key_of c) v.pass.names
   pub stored : (j x : ℕ) → nth (content (value_of c)) j ≡ Some x → Within (record { tag = t; place = j; word = x }) v.pass.written × Within (record { tag = t; place = j; word = x }) v.pass.flushed
   pub fits : Fits p (value_of c)
   pub call : MayCall v s u c
@@ -98,7 +99,7 @@ May p (ReadRoot s) v = IsClient v
 May p (ReadShort s) v = IsClient v
 May p (StoreShort s t) v = IsClient v × Within (s, t) v.pass.durable
 May p ReadCount v = IsClient v
-May p (AbsentCount c) v = IsClient v × MayMiss c × ((s : ℕ) → Within (s, named c) v.pass.names → ⊥)
+May p (AbsentCount c) v = IsClient v × MayMiss c × ((s : ℕ) → Within (s, key_of c) v.pass.names → ⊥)
 May p (ReadVersion s r) v = IsAt v Idle × (root_at v.server s ≡ Some r)
 May p (FlushLink c) v = IsAt v (Loaded c)
 May p (StoreRoot c) v = IsAt v (Raised c)

@@ -41,12 +41,6 @@ Fits p (Some v) = (v.flags < 2 ^ 32) × (length v.bytes ≤ 8 * p.words) × AreB
 unfoldable pub spelling : List ℕ → List ℕ
 spelling k = all_words (length k ∷ k)
 
--- a key: bytes, 1 to 250 of them
-pub record IsKey (k : List ℕ) : Type 0 where
-  pub some : 1 ≤ length k
-  pub most : length k ≤ 250
-  pub bytes : AreBytes k
-
 -- the first words of a list are those that spell the key; what lies behind them is not said
 abbrev pub Spells : (ℕ → ℕ) → List ℕ → Type 0
 Spells f k = (j x : ℕ) → nth (spelling k) j ≡ Some x → f j ≡ x

@@ -10,10 +10,11 @@ use Rattle.clover_words.specs.Tag.{home, age}
 use Rattle.clover_words.specs.Version.{buffer_at, content_at}
 use Rattle.clover_map.specs.declared.bytes.Held.{Held}
 use Rattle.clover_map.specs.declared.call.Entry.{Entry}
+use Rattle.clover_map.specs.Key.{IsKey}
 use Rattle.clover_map.specs.Tagged.{Tagged}
-use Rattle.clover_map.specs.Legal.{Legal, Leads}
-use Rattle.clover_rule.specs.Content.{inside, IsKey, Spells}
-use Rattle.clover_rule.specs.History.{ends, kept, used_by, Last}
+use Rattle.clover_map.specs.Legal.{Legal, Leads, used_by}
+use Rattle.clover_rule.specs.Content.{inside, Spells}
+use Rattle.clover_rule.specs.History.{ends, kept, Last}
 use Rattle.clover_rule.specs.Image.{Image}
 use Rattle.clover_rule.specs.Lists.{Each, Within}
 use Rattle.clover_rule.specs.Meets.{IsCode}

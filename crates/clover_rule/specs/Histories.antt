@@ -6,10 +6,11 @@ use Rattle.clover_words.specs.Tag.{home, age}
 use Rattle.clover_map.specs.declared.bytes.Held.{Held}
 use Rattle.clover_map.specs.declared.bytes.Value.{Value}
 use Rattle.clover_map.specs.declared.call.Entry.{Entry}
-use Rattle.clover_map.specs.Legal.{Legal, Leads}
+use Rattle.clover_map.specs.Key.{IsKey}
+use Rattle.clover_map.specs.Legal.{Legal, Leads, used_by}
 use Rattle.clover_map.specs.Tagged.{Tagged}
-use Rattle.clover_rule.specs.Content.{inside, IsKey, Spells}
-use Rattle.clover_rule.specs.History.{used_by, paired}
+use Rattle.clover_rule.specs.Content.{inside, Spells}
+use Rattle.clover_rule.specs.History.{paired}
 use Rattle.clover_rule.specs.Holding.{IsServer}
 use Rattle.clover_rule.specs.Lists.{Each, Within, IsPrefix, nth}
 use Rattle.clover_rule.specs.Memory.{Mem, gen}

@@ -1,9 +1,9 @@
 -- Images of a power cut, and the chains that are read from them.
 use Prim.Native.Nat.{zero, suc}
-use Rattle.std.specs.Prelude.{◌≡◌, ℕ, ◌≢◌, ◌⊎◌, List, [], ◌∷◌, map, Bool, true, false, ◌&&◌, Option, Some, None, if◌then◌else◌}
+use Rattle.std.specs.Prelude.{◌≡◌, ℕ, ◌⊎◌, List, [], ◌∷◌, map, Bool, true, false, ◌&&◌, Option, Some, None, if◌then◌else◌}
 use Rattle.clover_words.specs.Tag.{home, age}
 use Rattle.clover_map.specs.declared.bytes.Held.{Held}
-use Rattle.clover_rule.specs.History.{Version, Map, ends}
+use Rattle.clover_rule.specs.History.{Version, ends}
 use Rattle.clover_rule.specs.Memory.{Mem, Next, gen, link}
 use Rattle.clover_rule.specs.Story.{Story, tag_at, unsure}
 
@@ -60,8 +60,3 @@ pub record Reads (im : Image) (s : ℕ) (x : Option Held) : Type 0 where
   pub versions : List Version
   pub chain : Chain im (im.root s) (tags versions)
   pub last : ends None versions ≡ x
-
--- each bound slot reads as the map says at its key
-pub record ReadsMap (st : Story) (im : Image) (m : Map) : Type 0 where
-  pub bound : (s : ℕ) (k : List ℕ) → st.keys s ≡ Some k → Reads im s (m k)
-  pub unbound : (k : List ℕ) → ((s : ℕ) → st.keys s ≢ Some k) → m k ≡ None

@@ -1,4 +1,5 @@
 -- The laws that the crate's functions promise.
+use Rattle.std.specs.FinMap.{get}
 use Rattle.std.specs.Prelude.{◌≡◌, ◌≢◌, ℕ, ◌<◌, ◌⊎◌, List, [], ◌∷◌, ◌++◌, length, slice_set, Bool, Some, None}
 use Rattle.clover_words.specs.declared.pool.Pool.{Pool}
 use Rattle.clover_words.specs.declared.word.Word.{Word}
@@ -15,7 +16,6 @@ use Rattle.clover_rule.specs.Moves.{MayAccept, MayGrant, MayHand, MayMake, MayNo
 use Rattle.clover_rule.specs.Opening.{BlankOpening, FirstViews, Opening}
 use Rattle.clover_rule.specs.Rule.{Rule, longest}
 use Rattle.clover_rule.specs.Asks.{Asks}
-use Rattle.clover_rule.specs.History.{shows}
 use Rattle.clover_rule.specs.Learned.{found, words_after_step, next_view, next_history}
 use Rattle.clover_rule.specs.Steps.{Operation, Step, act_of, act_on, becomes, result, side_in, side_of, word_of}
 use Rattle.clover_rule.specs.Story.{Story}
@@ -75,7 +75,7 @@ IsBlank p ws = (length ws ≡ pool_words p) × ((w : Word) (s : Side) → copy_i
 
 -- Words of 0 are such words, for a map with nothing and no used tag.
 abbrev pub BlankLaw : Type 0
-BlankLaw = (p : Pool) (first : Tagged) (ws : List ℕ) → IsBlank p ws → ((k : List ℕ) → shows first k ≡ None) → BlankOpening p first ws
+BlankLaw = (p : Pool) (first : Tagged) (ws : List ℕ) → IsBlank p ws → ((k : List ℕ) → get first k ≡ None) → BlankOpening p first ws
 
 -- The server makes a client.
 abbrev pub ClientLaw : Type 0

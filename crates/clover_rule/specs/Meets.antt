@@ -10,7 +10,6 @@ use Rattle.clover_words.specs.Next.{root_code}
 use Rattle.clover_map.specs.declared.call.Entry.{Entry}
 use Rattle.clover_map.specs.Tagged.{Tagged}
 use Rattle.std.specs.Prelude.{Some}
-use Rattle.clover_rule.specs.History.{shows}
 use Rattle.clover_rule.specs.Lists.{nth, Within}
 use Rattle.clover_rule.specs.Server.{Whole}
 use Rattle.clover_rule.specs.Story.{Stocked, Story}
@@ -47,7 +46,7 @@ pub record Meets (p : Pool) (first : Tagged) (used : List ℕ) (ws : List ℕ) (
   pub still : (i : ℕ) (v : View) → nth vs i ≡ Some v → v.plan ≡ []
   -- a buffer whose place is a stock is in that stock
   pub stocks : InStocks vs st
-  pub whole : Whole p (shows first) used (mem_of p ws) vs st h
+  pub whole : Whole p first used (mem_of p ws) vs st h
 
 -- there is such a story
 abbrev pub IsMet : Pool → Tagged → List ℕ → List ℕ → List View → List Entry → Type 0

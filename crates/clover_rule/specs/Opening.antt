@@ -1,9 +1,11 @@
 -- How a run begins: what restart leaves, or a preset pool has, and the first views.
 use Rattle.clover_words.specs.Tag.{home, age}
 use Rattle.clover_words.specs.Place.{pool_words}
+use Rattle.std.specs.FinMap.{get}
+use Rattle.clover_map.specs.Key.{IsKey}
 use Rattle.clover_map.specs.Tagged.{Tagged}
-use Rattle.clover_rule.specs.Content.{inside, IsKey, Spells}
-use Rattle.clover_rule.specs.History.{ends, shows, Map}
+use Rattle.clover_rule.specs.Content.{inside, Spells}
+use Rattle.clover_rule.specs.History.{ends}
 use Rattle.clover_rule.specs.Image.{Image}
 use Rattle.clover_rule.specs.Lists.{IsPrefix, Each, nth, Within}
 use Rattle.clover_rule.specs.Meets.{Decodes, OfRun}
@@ -20,7 +22,7 @@ use Rattle.std.specs.Prelude.{◌≡◌, ℕ, ◌<◌, ◌≤◌, ◌≢◌, ◌
 use Rattle.clover_words.specs.declared.pool.Pool.{Pool}
 
 -- what restart leaves: both copies are the image's, and what its books and directory say of it
-pub record Opens (l : Pool) (im : Image) (sound : Sound l im) (m0 : Map) (used : List ℕ) (m : Mem) : Type 0 where
+pub record Opens (l : Pool) (im : Image) (sound : Sound l im) (m0 : Tagged) (used : List ℕ) (m : Mem) : Type 0 where
   pub next : (b : ℕ) → (m.next b ≡ im.next b) × (m.fnext b ≡ im.next b)
   pub root : (s : ℕ) → (m.root s ≡ im.root s) × (m.froot s ≡ im.root s)
   pub body : (b j : ℕ) → (m.body b j ≡ im.body b j) × (m.fbody b j ≡ im.body b j)
@@ -45,8 +47,8 @@ pub record Opens (l : Pool) (im : Image) (sound : Sound l im) (m0 : Map) (used :
   pub slot_named : List ℕ → ℕ
   pub found : (s : ℕ) (k : List ℕ) → keys s ≡ Some k → slot_named k ≡ s
   -- the map, and the used tags
-  pub map_is : (s : ℕ) (k : List ℕ) → keys s ≡ Some k → ends None (versions_of (sound.chain s) (sound.value s)) ≡ m0 k
-  pub map_else : (k : List ℕ) → ((s : ℕ) → keys s ≢ Some k) → m0 k ≡ None
+  pub map_is : (s : ℕ) (k : List ℕ) → keys s ≡ Some k → ends None (versions_of (sound.chain s) (sound.value s)) ≡ get m0 k
+  pub map_else : (k : List ℕ) → ((s : ℕ) → keys s ≢ Some k) → get m0 k ≡ None
   pub used_is : Each (λ (t : ℕ). (age t < l.wear) × ((age t < gen (im.next (home t))) ⊎ ((s : ℕ) × (i : ℕ) × (spot (home t) ≡ Some (s, i)) × (age t ≡ gen (im.next (home t)))))) used
 
 -- which seat has each buffer in its stock as a run begins: none of them is on a chain or worn
@@ -78,7 +80,7 @@ pub record Opening (p : Pool) (first : Tagged) (used ws : List ℕ) : Type 0 whe
   pub decodes : Decodes p ws
   pub image : Image
   pub sound : Sound p image
-  pub opens : Opens p image sound (shows first) used (mem_of p ws)
+  pub opens : Opens p image sound first used (mem_of p ws)
 
 -- an actor that knows how the run began, and maybe some of the bindings, and nothing else
 pub record Begins (p : Pool) (first : Tagged) (used ws : List ℕ) (o : Opening p first used ws) (v : View) : Type 0 where

@@ -1,12 +1,13 @@
 -- The preset pool: the first slots are bound, each to its key with a tombstone alone, every other buffer is at rest, and no call was made.
+use Rattle.std.specs.FinMap.{get}
 use Rattle.std.specs.Prelude.{◌≡◌, ℕ, ◌<◌, ◌≤◌, List, [], ◌∷◌, length, true, Option, Some, None}
 use Prim.Native.Nat.{suc}
 use Rattle.clover_words.specs.declared.pool.Pool.{Pool}
 use Rattle.clover_words.specs.Meta.{tombstone}
 use Rattle.clover_words.specs.Tag.{home, age}
+use Rattle.clover_map.specs.Key.{IsKey}
 use Rattle.clover_map.specs.Tagged.{Tagged}
-use Rattle.clover_rule.specs.Content.{inside, spelling, IsKey}
-use Rattle.clover_rule.specs.History.{shows}
+use Rattle.clover_rule.specs.Content.{inside, spelling}
 use Rattle.clover_rule.specs.Lists.{Within, nth}
 use Rattle.clover_rule.specs.Meets.{OfRun, Decodes}
 use Rattle.clover_rule.specs.Memory.{Mem, word}
@@ -57,6 +58,6 @@ pub record PresetViews (p : Pool) (keys : List (List ℕ)) (tomb : ℕ → ℕ) 
 -- The rule holds of the preset pool, with the empty history and no used tag, from a map with nothing.
 abbrev pub PresetLaw : Type 0
 PresetLaw = (p : Pool) (first : Tagged) (ws : List ℕ) (vs : List View) (keys : List (List ℕ)) (tomb : ℕ → ℕ) (owner : ℕ → Option ℕ)
-    → length ws ≡ pool_words p → Decodes p ws → ((i : ℕ) (v : View) → nth vs i ≡ Some v → OfRun p first [] v) → ((k : List ℕ) → shows first k ≡ None)
+    → length ws ≡ pool_words p → Decodes p ws → ((i : ℕ) (v : View) → nth vs i ≡ Some v → OfRun p first [] v) → ((k : List ℕ) → get first k ≡ None)
     → PresetWords p keys tomb (mem_of p ws) → PresetKeys p keys tomb → PresetViews p keys tomb owner (mem_of p ws) vs
     → Rule p first [] ws vs []

@@ -4,8 +4,11 @@ use Rattle.std.specs.Prelude.{◌≡◌, ℕ, ◌+◌, ◌<◌, ◌≤◌, ◌�
 use Rattle.clover_words.specs.Meta.{tombstone}
 use Rattle.clover_words.specs.Tag.{home, age}
 use Rattle.clover_map.specs.declared.call.Entry.{Entry}
-use Rattle.clover_rule.specs.Content.{inside, spelling, IsKey, InRange, Spells, Fits}
-use Rattle.clover_rule.specs.History.{Version, Map, used_by}
+use Rattle.clover_map.specs.Key.{IsKey}
+use Rattle.clover_map.specs.Tagged.{Tagged}
+use Rattle.clover_rule.specs.Content.{inside, spelling, InRange, Spells, Fits}
+use Rattle.clover_map.specs.Legal.{used_by}
+use Rattle.clover_rule.specs.History.{Version}
 use Rattle.clover_rule.specs.Lists.{Each, nth, Within}
 use Rattle.clover_rule.specs.Memory.{Mem, word, gen}
 use Rattle.clover_rule.specs.Story.{Place, Chained, Stocked, Free, Worn, Taken, Story, tag_at, Durable}
@@ -183,7 +186,7 @@ pub record Serves (l : Pool) (m : Mem) (st : Story) (task : ServerTask) (sv : Se
   pub books : (b : ℕ) → inside l b ≡ true → book_at sv b ≡ book_of task st (st.place b) (gen (m.next b)) b
 
 -- the helping facts of words, views, story and history
-pub record Whole (l : Pool) (m0 : Map) (used : List ℕ) (m : Mem) (vs : List View) (st : Story) (h : List Entry) : Type 0 where
+pub record Whole (l : Pool) (m0 : Tagged) (used : List ℕ) (m : Mem) (vs : List View) (st : Story) (h : List Entry) : Type 0 where
   pub basis : Basis m0 used m vs st h
   pub help : Help l m st
   pub serves : (i : ℕ) (v : View) → nth vs i ≡ Some v → v.pass.role ≡ Serving → Serves l m st st.task v.server

@@ -1,6 +1,7 @@
 -- Images that break no rule, and what restart makes of them.
 use Rattle.clover_words.specs.Tag.{home}
-use Rattle.clover_rule.specs.Content.{IsKey, InRange, Spells, Fits, content}
+use Rattle.clover_map.specs.Key.{IsKey}
+use Rattle.clover_rule.specs.Content.{InRange, Spells, Fits, content}
 use Rattle.clover_rule.specs.History.{ends, Version}
 use Rattle.clover_rule.specs.Image.{Image, Chain}
 use Rattle.clover_rule.specs.Lists.{nth}

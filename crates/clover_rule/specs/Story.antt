@@ -1,6 +1,9 @@
 -- The story behind the words, which no code holds: the versions of each slot, and the core facts that hold of it and the words.
 use Rattle.clover_words.specs.Tag.{home, age}
-use Rattle.clover_rule.specs.History.{Version, Map, Legal, commits, ends, Unread}
+use Rattle.std.specs.FinMap.{get}
+use Rattle.clover_map.specs.Legal.{Legal}
+use Rattle.clover_map.specs.Tagged.{Tagged}
+use Rattle.clover_rule.specs.History.{Version, commits_at, ends, Unread}
 use Rattle.clover_rule.specs.Lists.{nth}
 use Rattle.clover_rule.specs.Memory.{Next, word, gen, link, Mem}
 use Rattle.clover_rule.specs.declared.view.ServerTask.{ServerTask}
@@ -117,13 +120,13 @@ abbrev pub unsure : Story → ℕ → Bool
 unsure st t = leb (st.sure (st.slot_of t)) (st.rank t)
 
 -- the history of the run, and the map and used tags with which it began
-pub record Tale (st : Story) (m0 : Map) (used : List ℕ) (h : List Entry) : Type 0 where
+pub record Tale (st : Story) (m0 : Tagged) (used : List ℕ) (h : List Entry) : Type 0 where
   pub legal : Legal m0 used h
-  pub told : (s : ℕ) (k : List ℕ) → st.keys s ≡ Some k → st.log s ≡ st.first s ++ commits k h
-  pub began : (s : ℕ) (k : List ℕ) → st.keys s ≡ Some k → ends None (st.first s) ≡ m0 k
+  pub told : (s : ℕ) (k : List ℕ) → st.keys s ≡ Some k → st.log s ≡ st.first s ++ commits_at k h
+  pub began : (s : ℕ) (k : List ℕ) → st.keys s ≡ Some k → ends None (st.first s) ≡ get m0 k
   pub unread : Unread (unsure st) h
   pub settled : (s i : ℕ) (w : Version) → nth (st.first s) i ≡ Some w → i < st.sure s
-  pub unbound : (k : List ℕ) → ((s : ℕ) → st.keys s ≢ Some k) → (m0 k ≡ None) × (commits k h ≡ [])
+  pub unbound : (k : List ℕ) → ((s : ℕ) → st.keys s ≢ Some k) → (get m0 k ≡ None) × (commits_at k h ≡ [])
 
 -- the version at place i of slot s is durable
 abbrev pub Durable : Story → ℕ → ℕ → Type 0

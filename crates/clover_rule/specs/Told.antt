@@ -10,14 +10,15 @@ use Rattle.clover_words.specs.Tag.{age, home}
 use Rattle.clover_words.specs.Version.{unlinked, linked}
 use Rattle.clover_map.specs.declared.bytes.Value.{Value}
 use Rattle.clover_map.specs.declared.call.Entry.{Entry}
+use Rattle.clover_map.specs.History.{key_of}
+use Rattle.clover_map.specs.Key.{IsKey}
 use Rattle.clover_map.specs.Tagged.{Tagged}
 use Rattle.clover_map.specs.Legal.{Legal}
 use Rattle.atomic_table.specs.Table.{State, Me, Allows}
 use Rattle.clover_rule.specs.Accesses.{IsTail}
 use Rattle.clover_rule.specs.Asks.{Asks}
-use Rattle.clover_rule.specs.Content.{Spells, inside, InRange, IsKey, Fits, content, value_meta}
+use Rattle.clover_rule.specs.Content.{Spells, inside, InRange, Fits, content, value_meta}
 use Rattle.clover_rule.specs.Cut.{IsCut, image_of}
-use Rattle.clover_rule.specs.History.{named}
 use Rattle.clover_rule.specs.Image.{Chain}
 use Rattle.clover_rule.specs.Learned.{found, next_view, next_history, words_after_step}
 use Rattle.clover_rule.specs.Lists.{Each, IsPrefix, Within, nth}
@@ -103,8 +104,8 @@ pub record IsDurableBinding (m : Mem) (b : NewBinding) : Type 0 where
 abbrev pub Says : Pool → List ℕ → Step → View → ℕ → Type 0
 Says p ws (LoadNext s t) v x = x ≡ unlinked t → (y : ℕ) → Within (s, record { tag = t; place = 0; word = y }) v.pass.copied → IsMetaWord p y
 Says p ws (ReadRoot s) v x = (k : List ℕ) → Within (s, k) v.pass.names → (t : ℕ) × (root_of x ≡ Some t)
-Says p ws (DecideNext s t c r) v x = x ≡ unlinked t → IsTail (mem_of p ws) (named c) t × AreOneVersion p s t v
-Says p ws (LinkNext s u t c) v x = x ≡ unlinked u → IsTail (mem_of p ws) (named c) u
+Says p ws (DecideNext s t c r) v x = x ≡ unlinked t → IsTail (mem_of p ws) (key_of c) t × AreOneVersion p s t v
+Says p ws (LinkNext s u t c) v x = x ≡ unlinked u → IsTail (mem_of p ws) (key_of c) u
 Says p ws ReadCount v x = (length v.pass.names ≤ x) × (x ≤ p.slots)
 Says p ws (AbsentCount c) v x = (length v.pass.names ≤ x) × (x ≤ p.slots)
 Says p ws (ReadVersion s r) v x = gen (next_of x) ≡ age r

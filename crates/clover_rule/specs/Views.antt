@@ -3,8 +3,10 @@ use Prim.Native.Nat.{suc}
 use Rattle.std.specs.Prelude.{◌≡◌, ℕ, ◌<◌, ◌≤◌, ◌≢◌, ◌⊎◌, List, [], ◌∷◌, length, set, true, false, Option, Some, None, if◌then◌else◌, ◌==◌}
 use Rattle.clover_words.specs.Tag.{home, age}
 use Rattle.clover_map.specs.declared.call.Entry.{Entry}
+use Rattle.clover_map.specs.History.{own}
 use Rattle.clover_rule.specs.Content.{content}
-use Rattle.clover_rule.specs.History.{Version, Map, used_by, own}
+use Rattle.clover_map.specs.Legal.{used_by}
+use Rattle.clover_rule.specs.History.{Version}
 use Rattle.clover_rule.specs.Lists.{Within, IsPrefix, IsPart, Each, nth, upd}
 use Rattle.clover_rule.specs.Memory.{Mem, Next, word, gen, link}
 use Rattle.clover_rule.specs.Story.{Place, Chained, Stocked, Story, tag_at, Core, Tale, Durable}
@@ -92,7 +94,7 @@ Apart (t ∷ ts) = Each (λ (u : ℕ). home u ≢ home t) ts × Apart ts
 
 -- a client's calls are its entries
 abbrev pub OwnCalls : Role → List Entry → List Entry → Type 0
-OwnCalls (Client c) calls h = calls ≡ own c h
+OwnCalls (Client c) calls h = calls ≡ own h c
 OwnCalls _ calls h = Unit {0}
 
 -- what holds of the view of the seat id
@@ -116,7 +118,7 @@ abbrev pub Numbered : List View → Type 0
 Numbered vs = (i j n : ℕ) (v w : View) → nth vs i ≡ Some v → nth vs j ≡ Some w → v.pass.role ≡ Client n → w.pass.role ≡ Client n → i ≡ j
 
 -- the facts of the core, the history and the views
-pub record Basis (m0 : Map) (used : List ℕ) (m : Mem) (vs : List View) (st : Story) (h : List Entry) : Type 0 where
+pub record Basis (m0 : Tagged) (used : List ℕ) (m : Mem) (vs : List View) (st : Story) (h : List Entry) : Type 0 where
   pub core : Core m st
   pub tale : Tale st m0 used h
   pub bodies : (s i : ℕ) (w : Version) → Stands st s i w → st.gone s ≤ i → Holds m w
@@ -140,10 +142,10 @@ without t (c ∷ cs) = if c.tag == t then without t cs else c ∷ without t cs
 abbrev pub raise_view : View → Link → View
 raise_view v l = record v { pass = record v.pass { durable = (l.slot, l.to) ∷ v.pass.durable } }
 
--- the buffers of a batch change hands
-abbrev pub handed : (ℕ → Place) → List ℕ → Place → ℕ → Place
-handed f [] q = f
-handed f (t ∷ ts) q = handed (upd f (home t) q) ts q
+-- where buffers are once those of a batch are at one place
+abbrev pub batch_at : (ℕ → Place) → List ℕ → Place → ℕ → Place
+batch_at f [] q = f
+batch_at f (t ∷ ts) q = batch_at (upd f (home t) q) ts q
 
 -- the server's part of any other actor
 abbrev pub no_server : Server

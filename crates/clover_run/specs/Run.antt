@@ -25,7 +25,7 @@ use Rattle.clover_rule.specs.declared.access.Act.{Act}
 use Rattle.clover_rule.specs.declared.access.Act.TheVariants.{Load, Store, Exchange, Raise}
 use Rattle.clover_rule.specs.declared.access.Actor.TheVariants.{Client}
 use Rattle.clover_walk.specs.Walking.{Ended, budget, most_accesses}
-use Rattle.clover_node.specs.Calling.{Calling, begun_call, due, LeadsTo}
+use Rattle.clover_call.specs.Calling.{Calling, begun_call, due, LeadsTo}
 use Rattle.clover_run.specs.declared.event.CallRefusal.{CallRefusal}
 use Rattle.clover_run.specs.declared.event.CallRefusal.TheVariants.{Unreached, Linked, Behind, TooLong}
 use Rattle.clover_run.specs.declared.event.Event.{Event}

@@ -156,9 +156,9 @@ module _ (o : Opening) (rs : List Record) (r : Record) where
     abbrev more : AllAlone o (rs ++ r ∷ [])
     more x = (finds x (split x), answers x (split x))
 
-    module _ (stays : (x : RunsAlone o rs) (now : x.after ≡ []) (own : IsOwnStep x.client r) (i : ℕ) (y : ClientState) → suc i ≡ x.client → nth clients i ≡ Some y → EndsIn o.setup.pool ws (left x now own).0 y.under)
-        (begins : (c : ℕ) (call : Call) (opens : OpensCall c call r) (i : ℕ) (y : ClientState) → suc i ≡ c → nth clients i ≡ Some y → EndsIn o.setup.pool ws (cost_of o c rs call (found c call opens)) y.under) where
-      underway : (x : RunsAlone o (rs ++ r ∷ [])) → x.after ≡ [] → (i : ℕ) (y : ClientState) → suc i ≡ x.client → nth clients i ≡ Some y → (s : Past x ⊎ (Goes x ⊎ Opens x)) → (n : ℕ) × (length x.steps + n ≡ cost_of o x.client x.before x.call (finds x s)) × EndsIn o.setup.pool ws n y.under
+    module _ (stays : (x : RunsAlone o rs) (now : x.after ≡ []) (own : IsOwnStep x.client r) (i : ℕ) (y : ClientState) → suc i ≡ x.client → nth clients i ≡ Some y → EndsIn o.setup.pool ws (left x now own).0 y.node.under y.room)
+        (begins : (c : ℕ) (call : Call) (opens : OpensCall c call r) (i : ℕ) (y : ClientState) → suc i ≡ c → nth clients i ≡ Some y → EndsIn o.setup.pool ws (cost_of o c rs call (found c call opens)) y.node.under y.room) where
+      underway : (x : RunsAlone o (rs ++ r ∷ [])) → x.after ≡ [] → (i : ℕ) (y : ClientState) → suc i ≡ x.client → nth clients i ≡ Some y → (s : Past x ⊎ (Goes x ⊎ Opens x)) → (n : ℕ) × (length x.steps + n ≡ cost_of o x.client x.before x.call (finds x s)) × EndsIn o.setup.pool ws n y.node.under y.room
       underway x now i y seat here (inl p) = absurd (p.behind now)
       underway x now i y seat here (inr (inl g)) =
           let l = left (old_goes x g) refl g.own in

@@ -14,14 +14,16 @@ use Rattle.clover_rule.specs.declared.access.Act.{Act}
 use Rattle.clover_rule.specs.declared.view.View.{View}
 use Rattle.clover_walk.specs.declared.start.Start.{Start}
 use Rattle.clover_walk.specs.Walking.{Walking, Stand, AtShort, AtRoot, AtTag, AtLink, OnTail, Ended, made_walk, begun, goes_from, goes_on, followed, hops, turned, shortened, rooted, next_start, begins, budget, most_accesses}
-use Rattle.clover_node.specs.Calling.{Calling, Deed, Reads, Links, Ends, Leaves, begun_call, deed, done, after, walks, LeadsTo}
-use Rattle.clover_sched.specs.Client.{IsUnder, since_of}
+use Rattle.clover_call.specs.Calling.{Calling, Deed, Reads, Links, Ends, Leaves, begun_call, deed, done, after, walks, LeadsTo}
+use Rattle.clover_words.specs.declared.bytes.ValueBuf.{ValueBuf}
+use Rattle.clover_call.specs.Caller.{CallHolds}
+use Rattle.clover_sched.specs.Client.{since_of}
 use Rattle.clover_sched.specs.Folds.{Doing}
 use Rattle.clover_sched.specs.Machine.{GoesSoFar}
 use Rattle.clover_sched.specs.Record.{Record}
 use Rattle.clover_sched.specs.Run.{Opening, AllDue, IsCalling, most_made, own_of}
-use Rattle.clover_sched.specs.declared.client.Underway.{Underway}
-use Rattle.clover_sched.specs.declared.client.Underway.TheVariants.{Nothing}
+use Rattle.clover_call.specs.declared.under.Underway.{Underway}
+use Rattle.clover_call.specs.declared.under.Underway.TheVariants.{Nothing}
 use Rattle.clover_sched.proofs.Dues.{stands_turns, under_within, more_allow}
 
 -- a walk of this pool has made no more turns than the budget, and fewer where it has not ended
@@ -125,10 +127,10 @@ few_law o a d h r dues x is free =
     omega arith
 
 -- what is under way has made fewer accesses than a call makes at most
-pub since_few : (o : Opening) (a : ℕ) (d : Doing) (h : List (List ℕ × ℕ)) (v : View) (u : Underway) → u ≢ Nothing → IsUnder o.setup.pool v u → GoesSoFar o a d h u → length (since_of u v) < most_made o.setup.pool
-since_few o a d h v u busy is g =
+pub since_few : (o : Opening) (a : ℕ) (d : Doing) (h : List (List ℕ × ℕ)) (v : View) (u : Underway) (room : ValueBuf) → u ≢ Nothing → CallHolds o.setup.pool u v room → GoesSoFar o a d h u room → length (since_of u v) < most_made o.setup.pool
+since_few o a d h v u room busy is g =
     let own = own_of o.setup a d.taken in
-    let few = under_within o.setup.pool u v g.calling.call own g.stands busy is g.under g.fits in
-    let turns = stands_turns u g.calling.call own g.stands busy g.under in
+    let few = under_within o.setup.pool u v room g.calling.call own g.stands busy is g.under g.fits in
+    let turns = stands_turns u room g.calling.call own g.stands busy g.under in
     let most = calling_most o a d h d.since g.stands g.calling in
     omega (arith, subst (λ (t : ℕ). length (since_of u v) < most_accesses o.setup.pool t) (sym turns) few)

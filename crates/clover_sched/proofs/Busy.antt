@@ -2,37 +2,21 @@
 use Rattle.std.proofs.Common.{zero, suc, ◌≡◌, ◌≢◌, ◌≤◌, ◌<◌, ◌-◌, ℕ, List, [], ◌∷◌, length, Option, Some, None, refl, subst, sym, ◌∙◌, arith, inl, inr}
 use Rattle.std.proofs.lemmas.Bool.Decides.{leb_tells}
 use Rattle.clover_rule.specs.Lists.{nth}
-use Rattle.clover_rule.specs.declared.view.View.{View}
-use Rattle.clover_plain.specs.Plain.{view_at}
-use Rattle.clover_sched.specs.Client.{UnderMatches}
-use Rattle.clover_sched.specs.Folds.{Doing, doing}
+use Rattle.clover_sched.specs.Folds.{doing}
 use Rattle.clover_sched.specs.Machine.{Parts, IsAt, HasCall, IsBusy}
 use Rattle.clover_sched.specs.Record.{Record}
 use Rattle.clover_sched.specs.Run.{Opening}
 use Rattle.clover_sched.specs.declared.client.ClientState.{ClientState}
-use Rattle.clover_sched.specs.declared.client.Underway.{Underway}
-use Rattle.clover_sched.specs.declared.client.Underway.TheVariants.{Nothing, Get, Write, Raise}
-
-under_task : (u : Underway) (v : View) (d : Doing) → UnderMatches u v d → u ≢ Nothing → d.task ≢ None
-under_task Nothing v d m some e = some refl
-under_task (Get g into call) v d m some e = let no : None ≡ Some _ = sym e ∙ m.0.1 in cc
-under_task (Write c call) v d m some e = let no : None ≡ Some _ = sym e ∙ m.0.1 in cc
-under_task (Raise c) v d m some e = let no : None ≡ Some _ = sym e ∙ m.0.1 in cc
-
-idle_task : (u : Underway) (v : View) (d : Doing) → UnderMatches u v d → (u ≢ Nothing → ⊥) → d.task ≡ None
-idle_task Nothing v d m none = m
-idle_task (Get g into call) v d m none = absurd (none (λ e. cc))
-idle_task (Write c call) v d m none = absurd (none (λ e. cc))
-idle_task (Raise c) v d m none = absurd (none (λ e. cc))
+use Rattle.clover_sched.proofs.Turns.{not_busy}
 
 module _ (o : Opening) (m : Parts) (rs : List Record) (at : IsAt o m rs) where
   has_call : (i : ℕ) (x : Option ClientState) → nth m.clients i ≡ x → HasCall x → (doing (suc i) rs).task ≢ None
   has_call i None e busy = absurd busy
-  has_call i (Some x) e busy = let c = at.each i x e in under_task x.under (view_at m.pool i) (doing (suc i) rs) c.matches.under busy
+  has_call i (Some x) e busy = let c = at.each i x e in (λ none. let g = c.matches.busy busy in let no : None ≡ Some _ = sym none ∙ g.task in cc)
 
   no_call : (i : ℕ) (x : Option ClientState) → nth m.clients i ≡ x → (HasCall x → ⊥) → (x ≢ None) → (doing (suc i) rs).task ≡ None
   no_call i None e idle some = absurd (some refl)
-  no_call i (Some x) e idle some = let c = at.each i x e in idle_task x.under (view_at m.pool i) (doing (suc i) rs) c.matches.under idle
+  no_call i (Some x) e idle some = let c = at.each i x e in (c.matches.idle (not_busy x.node.under idle)).0
 
   pub busy_task : (a : ℕ) → IsBusy m a → (doing a rs).task ≢ None
   busy_task a (i, is, busy) = subst (λ (b : ℕ). (doing b rs).task ≢ None) is (has_call i (nth m.clients i) refl busy)

@@ -33,30 +33,30 @@ use Rattle.clover_put.specs.Putting.{Putting, Stage, Storing, Flushing, Seeking,
 use Rattle.clover_put.specs.declared.job.Job.{Job}
 use Rattle.clover_put.specs.declared.job.Job.TheVariants.{Put, Delete, Swap}
 use Rattle.clover_put.proofs.Known.{bounded}
-use Rattle.clover_sched.specs.Beginning.{IsBegun}
-use Rattle.clover_node.specs.Calling.{Calling, Deed, Reads, Links, Ends, Leaves, own_words, begun_call, deed, done, due, after, walks, LeadsTo}
-use Rattle.clover_node.specs.Mirroring.{reads, GetMirrors, PutMirrors, Writes}
-use Rattle.clover_sched.specs.Calls.{UnderStands}
-use Rattle.clover_node.specs.Beginning.{size_of}
-use Rattle.clover_sched.specs.Client.{IsUnder, MakesDue, Starts, since_of}
+use Rattle.clover_call.specs.Calling.{Calling, Deed, Reads, Links, Ends, Leaves, own_words, begun_call, deed, done, due, after, walks, LeadsTo}
+use Rattle.clover_call.specs.Mirroring.{reads, GetMirrors, PutMirrors, Mirrors, Writes}
+use Rattle.clover_call.specs.Beginning.{size_of}
+use Rattle.clover_sched.specs.Client.{MakesDue, Starts, since_of}
 use Rattle.clover_sched.specs.Ends.{ended_by, MayBegin}
 use Rattle.clover_sched.specs.Folds.{Doing, ends}
 use Rattle.clover_sched.specs.Machine.{GoesSoFar}
 use Rattle.clover_sched.specs.Run.{Opening, IsCalling, IsDue, Tells, own_of, room}
-use Rattle.clover_sched.specs.declared.client.Underway.{Underway}
-use Rattle.clover_sched.specs.declared.client.Underway.TheVariants.{Nothing, Get, Write, Raise}
+use Rattle.clover_call.specs.declared.under.Underway.{Underway}
+use Rattle.clover_call.specs.declared.under.Underway.TheVariants.{Nothing, Get, Write}
+use Rattle.clover_sched.specs.declared.client.ClientState.{ClientState}
 use Rattle.clover_sched.specs.declared.event.Note.{Note}
 use Rattle.clover_sched.specs.declared.event.Note.TheVariants.{Quiet, Answered, Refused, Busy, Missing}
-use Rattle.clover_node.proofs.Calling.{leads_more}
+use Rattle.clover_call.specs.Caller.{CallHolds}
+use Rattle.clover_call.proofs.Begins.{mirrors}
+use Rattle.clover_call.proofs.Calling.{leads_more}
 use Rattle.clover_sched.proofs.Lefts.{copied_few}
 use Rattle.clover_sched.proofs.Starting.{value_fits}
 
 -- the turns of what is under way
 abbrev turns_of : Underway → ℕ
 turns_of Nothing = 0
-turns_of (Get g into asked) = g.walk.turns
-turns_of (Write c asked) = c.walk.turns
-turns_of (Raise c) = c.walk.turns
+turns_of (Get g) = g.walk.turns
+turns_of (Write c) = c.walk.turns
 
 same_turns : (w : Walking) (xs : List ℕ) (c : Calling) → c ≡ reads w xs → c.walk.turns ≡ w.turns
 same_turns w xs c e = ap (λ (z : Calling). z.walk.turns) e
@@ -82,11 +82,10 @@ put_turns (AtRaise u) w call c h = ap (λ (z : Calling). z.walk.turns) h.1
 put_turns AtShort w call c h = ap (λ (z : Calling). z.walk.turns) h.1
 put_turns Over w call c h = ap (λ (z : Calling). z.walk.turns) h.0
 
-pub stands_turns : (u : Underway) (call : Call) (own : ℕ) (c : Calling) → u ≢ Nothing → UnderStands u call own c → c.walk.turns ≡ turns_of u
-stands_turns Nothing call own c busy h = absurd (busy refl)
-stands_turns (Get g into asked) call own c busy h = get_turns g.stage g.walk into c h.1
-stands_turns (Write w asked) call own c busy h = put_turns w.stage w call c h.2
-stands_turns (Raise w) call own c busy h = put_turns w.stage w call c h.2
+pub stands_turns : (u : Underway) (room : ValueBuf) (call : Call) (own : ℕ) (c : Calling) → u ≢ Nothing → Mirrors u room call own c → c.walk.turns ≡ turns_of u
+stands_turns Nothing room call own c busy h = absurd (busy refl)
+stands_turns (Get g) room call own c busy h = get_turns g.stage g.walk room c h.1
+stands_turns (Write w) room call own c busy h = put_turns w.stage w call c h.2
 
 -- the turns of a walk never fall
 hops_turns : (w : Walking) (t : ℕ) (l : Option ℕ) → w.turns ≤ (hops w t l).turns
@@ -181,14 +180,10 @@ own_body w call (key, is) = ap own_words is ∙ go w.job
     go (Swap t) = refl
 
 -- what is under way has made fewer accesses than its turns allow
-pub under_within : (p : Pool) (u : Underway) (v : View) (call : Call) (own : ℕ) (c : Calling) → u ≢ Nothing → IsUnder p v u → UnderStands u call own c → length (own_words call) ≤ p.words + 1 → length (since_of u v) < most_accesses p (turns_of u)
-under_within p Nothing v call own c busy is at fits = absurd (busy refl)
-under_within p (Get g into asked) v call own c busy is at fits = subst (λ (q : Pool). length (cond g.walk.first [] v.pass.since) < most_accesses q g.walk.turns) is.1 (get_within g v into is.2)
-under_within p (Write w asked) v call own c busy is at fits =
-    let n : length (own_words call) ≡ length (body w) = ap length (own_body w call at.0) in
-    let q : w.walk.pool.words ≡ p.words = ap (λ (z : Pool). z.words) is.1 in
-    subst (λ (q : Pool). length (cond w.walk.first [] v.pass.since) < most_accesses q w.walk.turns) is.1 (put_within w v is.2 (omega arith))
-under_within p (Raise w) v call own c busy is at fits =
+pub under_within : (p : Pool) (u : Underway) (v : View) (room : ValueBuf) (call : Call) (own : ℕ) (c : Calling) → u ≢ Nothing → CallHolds p u v room → Mirrors u room call own c → length (own_words call) ≤ p.words + 1 → length (since_of u v) < most_accesses p (turns_of u)
+under_within p Nothing v room call own c busy is at fits = absurd (busy refl)
+under_within p (Get g) v room call own c busy is at fits = subst (λ (q : Pool). length (cond g.walk.first [] v.pass.since) < most_accesses q g.walk.turns) is.0 (get_within g v room is.1)
+under_within p (Write w) v room call own c busy is at fits =
     let n : length (own_words call) ≡ length (body w) = ap length (own_body w call at.0) in
     let q : w.walk.pool.words ≡ p.words = ap (λ (z : Pool). z.words) is.0 in
     subst (λ (q : Pool). length (cond w.walk.first [] v.pass.since) < most_accesses q w.walk.turns) is.0 (put_within w v is.1 (omega arith))
@@ -210,21 +205,21 @@ calling_as o a d e h k acts n task taken same x = record {
 }
 
 -- and so is where it stands
-pub goes_as : (o : Opening) (a : ℕ) (d e : Doing) (h k : List (List ℕ × ℕ)) (u : Underway) → e.task ≡ d.task → e.since ≡ d.since → e.taken ≡ d.taken → k ≡ h → GoesSoFar o a d h u → GoesSoFar o a e k u
+pub goes_as : (o : Opening) (a : ℕ) (d e : Doing) (h k : List (List ℕ × ℕ)) (u : Underway) (room : ValueBuf) → e.task ≡ d.task → e.since ≡ d.since → e.taken ≡ d.taken → k ≡ h → GoesSoFar o a d h u room → GoesSoFar o a e k u room
 unfolding calling_as
-goes_as o a d e h k u task since taken same g = record {
+goes_as o a d e h k u room task since taken same g = record {
   stands = g.stands;
   calling = subst (λ (l : List Act). IsCalling o a e k l g.stands) (sym since) (calling_as o a d e h k d.since g.stands task taken same g.calling);
-  under = subst (λ (m : ℕ). UnderStands u g.calling.call (own_of o.setup a m) g.stands) (sym taken) g.under;
+  under = subst (λ (m : ℕ). Mirrors u room g.calling.call (own_of o.setup a m) g.stands) (sym taken) g.under;
   fits = g.fits;
 }
 
 -- an access that is the step that is due of what is under way is due in the run, and leads what is under way on
-module _ (o : Opening) (a : ℕ) (d : Doing) (h : List (List ℕ × ℕ)) (v : View) (x y : Underway) (act : Act) (note : Note) (busy : x ≢ Nothing) (is : IsUnder o.setup.pool v x) (since : d.since ≡ since_of x v) (g : GoesSoFar o a d h x) (makes : MakesDue x y act note) where
+module _ (o : Opening) (a : ℕ) (d : Doing) (h : List (List ℕ × ℕ)) (v : View) (x y : ClientState) (act : Act) (note : Note) (busy : x.node.under ≢ Nothing) (is : CallHolds o.setup.pool x.node.under v x.room) (since : d.since ≡ since_of x.node.under v) (g : GoesSoFar o a d h x.node.under x.room) (makes : MakesDue x y act note) where
   abbrev own : ℕ
   own = own_of o.setup a d.taken
 
-  made : (b : Step) × (k : ℕ) × (due g.calling.call own g.stands ≡ Some b) × (act ≡ act_of b k) × UnderStands y g.calling.call own (after g.calling.call own g.stands k) × Tells g.calling.call own (after g.calling.call own g.stands k) note
+  made : (b : Step) × (k : ℕ) × (due g.calling.call own g.stands ≡ Some b) × (act ≡ act_of b k) × Mirrors y.node.under y.room g.calling.call own (after g.calling.call own g.stands k) × Tells g.calling.call own (after g.calling.call own g.stands k) note
   made = makes g.calling.call own g.stands g.under
 
   abbrev next : Calling
@@ -250,14 +245,14 @@ module _ (o : Opening) (a : ℕ) (d : Doing) (h : List (List ℕ × ℕ)) (v : V
     tells = made.5;
     few =
         let count = ap length since in
-        let least = under_within o.setup.pool x v g.calling.call own g.stands busy is g.under g.fits in
-        let turns = stands_turns x g.calling.call own g.stands busy g.under in
+        let least = under_within o.setup.pool x.node.under v x.room g.calling.call own g.stands busy is g.under g.fits in
+        let turns = stands_turns x.node.under x.room g.calling.call own g.stands busy g.under in
         let rise = after_turns g.calling.call own g.stands made.1 in
-        let more = more_allow (turns_of x) next.walk.turns o.setup.pool.words (omega arith) in
+        let more = more_allow (turns_of x.node.under) next.walk.turns o.setup.pool.words (omega arith) in
         omega arith;
   }
 
-  pub leads_on : GoesSoFar o a (record d { since = d.since ++ act ∷ [] }) h y
+  pub leads_on : GoesSoFar o a (record d { since = d.since ++ act ∷ [] }) h y.node.under y.room
   unfolding calling_as calling made
   leads_on = record { stands = next; calling = calling_as o a d (record d { since = d.since ++ act ∷ [] }) h h (d.since ++ act ∷ []) next refl refl refl calling; under = made.4; fits = g.fits }
 
@@ -270,15 +265,6 @@ ended_not c (Some (ClientTask call n)) (Refused b why) x h goes = refl
 ended_not c (Some (ClientTask call n)) (Busy b) x h goes = refl
 ended_not c (Some (ClientTask call n)) (Missing b) x h goes = refl
 
--- where a call that has just begun stands
-begun_stands : (s : Setup) (slot : ℕ) (known : Option ℕ) (a n : ℕ) (call : Call) (u : Underway) → IsBegun s slot known a n call u → UnderStands u call (own_of s a n) (begun_call s.pool slot known (own_of s a n) call)
-begun_stands s slot known a n (GetOf key) u b = subst (λ (z : Underway). UnderStands z (GetOf key) (own_of s a n) (begun_call s.pool slot known (own_of s a n) (GetOf key))) (sym b.1) (refl, refl)
-begun_stands s slot known a n (PutOf key value) u b = subst (λ (z : Underway). UnderStands z (PutOf key value) (own_of s a n) (begun_call s.pool slot known (own_of s a n) (PutOf key value))) (sym b) ((key, refl), refl, refl)
-begun_stands s slot known a n (DeleteOf key) u b = subst (λ (z : Underway). UnderStands z (DeleteOf key) (own_of s a n) (begun_call s.pool slot known (own_of s a n) (DeleteOf key))) (sym b) ((key, refl), refl, refl)
-begun_stands s slot known a n (SwapOf key expected value) u b =
-    subst (λ (z : Underway). UnderStands z (SwapOf key expected value) (own_of s a n) (begun_call s.pool slot known (own_of s a n) (SwapOf key expected value))) (sym b.2)
-    ((key, ap (λ (t : ℕ). SwapOf key t value) (sym b.1)), refl, refl)
-
 -- a buffer has room for its version
 words_fit : (s : Setup) (call : Call) → size_of call ≤ room s → length (own_words call) ≤ s.pool.words + 1
 words_fit s (GetOf key) fits = omega arith
@@ -287,11 +273,11 @@ words_fit s (DeleteOf key) fits = let e = content_words None in omega arith
 words_fit s (SwapOf key expected value) fits = let e = content_words (Some value) in let k = value_fits s.pool value fits in omega arith
 
 -- a call that a client begins stands at its start
-pub goes_first : (o : Opening) (a n : ℕ) (d : Doing) (h : List (List ℕ × ℕ)) (known : Known) (call : Call) (written : ℕ) (u : Underway) → n ≡ d.taken → (s : Starts o a n known call u) → MayBegin h (key_of call) (number_of (cursor_at s.slot known))
-    → GoesSoFar o a (record { task = Some (ClientTask call written); decided = None; since = []; refusing = d.refusing; taken = d.taken }) h u
-goes_first o a n d h known call written u taken s may = record {
+pub goes_first : (o : Opening) (a n : ℕ) (d : Doing) (h : List (List ℕ × ℕ)) (known : Known) (call : Call) (written : ℕ) (u : Underway) (into : ValueBuf) → n ≡ d.taken → (s : Starts o a n known call u) → MayBegin h (key_of call) (number_of (cursor_at s.slot known))
+    → GoesSoFar o a (record { task = Some (ClientTask call written); decided = None; since = []; refusing = d.refusing; taken = d.taken }) h u into
+goes_first o a n d h known call written u into taken s may = record {
   stands = begun_call o.setup.pool s.slot (number_of (cursor_at s.slot known)) (own_of o.setup a d.taken) call;
   calling = record { call = call; written = written; task = refl; slot = s.slot; named = s.named; cursor = number_of (cursor_at s.slot known); may = may; leads = refl };
-  under = subst (λ (m : ℕ). UnderStands u call (own_of o.setup a m) (begun_call o.setup.pool s.slot (number_of (cursor_at s.slot known)) (own_of o.setup a m) call)) taken (begun_stands o.setup s.slot (number_of (cursor_at s.slot known)) a n call u s.begun);
+  under = subst (λ (m : ℕ). Mirrors u into call (own_of o.setup a m) (begun_call o.setup.pool s.slot (number_of (cursor_at s.slot known)) (own_of o.setup a m) call)) taken (mirrors o.setup.pool s.slot (number_of (cursor_at s.slot known)) (own_of o.setup a n) call u into s.begun);
   fits = words_fit o.setup call s.fits;
 }

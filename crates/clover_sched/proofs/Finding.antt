@@ -43,16 +43,16 @@ use Rattle.clover_walk.specs.Walking.{made_walk}
 use Rattle.clover_walk.specs.declared.start.Start.TheVariants.{FromCursor, FromShort, FromRoot}
 use Rattle.clover_walk.proofs.Alone.{content_words}
 use Rattle.clover_sched.specs.declared.client.ClientState.{ClientState}
-use Rattle.clover_sched.specs.declared.client.Underway.{Underway}
+use Rattle.clover_call.specs.declared.under.Underway.{Underway}
 use Rattle.clover_sched.specs.Alone.{EndsIn, Finds, HasChain, cost_of}
-use Rattle.clover_sched.specs.Beginning.{IsBegun}
-use Rattle.clover_node.specs.Node.{IsCursor}
-use Rattle.clover_node.specs.Beginning.{size_of}
+use Rattle.clover_words.specs.declared.bytes.ValueBuf.{ValueBuf}
+use Rattle.clover_call.specs.Caller.{IsCursor}
+use Rattle.clover_call.specs.Beginning.{IsBegun, size_of}
 use Rattle.clover_sched.specs.Client.{Stands}
 use Rattle.clover_sched.specs.Ends.{ended, MayBegin}
 use Rattle.clover_sched.specs.Folds.{words_after}
 use Rattle.clover_sched.specs.Record.{Record}
-use Rattle.clover_sched.specs.Run.{Opening, room}
+use Rattle.clover_sched.specs.Run.{Opening, own_of, room}
 use Rattle.clover_sched.proofs.Beginning.{stock_first}
 use Rattle.clover_sched.proofs.Starting.{comes_made, starts, value_fits, dead_fits}
 
@@ -265,9 +265,9 @@ module _ (o : Opening) (rs : List Record) (p : Plain) (i : ℕ) (x : ClientState
       has = here.onward.has;
     }
 
-    pub begins_alone : (f : Finds o (suc i) rs call) × ((u : Underway) → IsBegun o.setup slot known (suc i) x.taken call u → size_of call ≤ room o.setup → (takes call ≡ 1 → HasDealt o.setup (suc i) x.taken) → EndsIn o.setup.pool p.words (cost_of o (suc i) rs call f) u)
+    pub begins_alone : (f : Finds o (suc i) rs call) × ((u : Underway) (into : ValueBuf) → IsBegun (made_walk o.setup.pool slot known) (own_of o.setup (suc i) x.taken) call u → size_of call ≤ room o.setup → (takes call ≡ 1 → HasDealt o.setup (suc i) x.taken) → EndsIn o.setup.pool p.words (cost_of o (suc i) rs call f) u into)
     begins_alone = (
       finds_here,
-      λ u begun fits dealt. subst (λ (l : List ℕ). EndsIn o.setup.pool l (cost_of o (suc i) rs call finds_here) u) (sym words)
-          (starts o.setup (suc i) x.taken ws slot known way here.onward.tags here.onward.tail here.onward.version comes_here here.onward.has off_chain call u begun fits dealt),
+      λ u into begun fits dealt. subst (λ (l : List ℕ). EndsIn o.setup.pool l (cost_of o (suc i) rs call finds_here) u into) (sym words)
+          (starts o.setup (suc i) x.taken ws slot known way here.onward.tags here.onward.tail here.onward.version comes_here here.onward.has off_chain call u into begun fits dealt),
     )

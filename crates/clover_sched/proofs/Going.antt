@@ -1,7 +1,7 @@
--- One more step of a client, from its parts: that a refused one is a step of the run, and that the client stands behind a step.
+-- A step of a client whose access was refused, the client's seat, and the numbers of its entries.
 use Prim.Native.Nat.{suc}
 use Rattle.std.proofs.Common.{◌≡◌, ℕ, List, [], ◌∷◌, ◌++◌, length, true, false, refl, sym, ap, ◌∙◌, arith, append-nil}
-use Rattle.std.specs.Prelude.{Option, Some, None}
+use Rattle.std.specs.Prelude.{Some, None}
 use Rattle.std.proofs.lemmas.Option.{same_Some}
 use Rattle.clover_words.specs.declared.setup.Setup.{Setup}
 use Rattle.clover_map.specs.History.{own}
@@ -9,14 +9,13 @@ use Rattle.clover_map.specs.declared.call.Entry.{Entry}
 use Rattle.clover_script.specs.declared.line.Task.{Task}
 use Rattle.clover_rule.specs.declared.access.Access.{Access}
 use Rattle.clover_rule.specs.declared.access.Act.{Act}
-use Rattle.clover_plain.specs.Plain.{Plain, view_at}
+use Rattle.clover_plain.specs.Plain.{Plain}
 use Rattle.clover_sched.proofs.Moving.{IsSeated}
 use Rattle.clover_sched.proofs.Stepping.{task_there, own_more}
 use Rattle.clover_sched.specs.declared.client.ClientState.{ClientState}
 use Rattle.clover_sched.specs.declared.event.Note.{Note}
 use Rattle.clover_sched.specs.declared.event.Note.TheVariants.{Refused}
-use Rattle.clover_node.specs.Node.{AreCursors}
-use Rattle.clover_sched.specs.Client.{access, Stands, Moved, IsUnder, stock_at, step_record}
+use Rattle.clover_sched.specs.Client.{access, Stands, step_record}
 use Rattle.clover_sched.specs.Folds.{Doing}
 use Rattle.clover_sched.specs.Run.{Opening, IsStep, IsBlank, lost}
 
@@ -36,25 +35,6 @@ step_refused o i d ws n act note t task going blank told = record {
 -- a seat that stands is one of the pool's
 pub seat_below : (o : Opening) (p : Plain) (i : ℕ) (x : ClientState) → Stands o p i x → IsSeated i p
 seat_below o p i x s = let a = s.seat in let b = s.seats in let c = ap (λ (z : Setup). z.clients) s.setup in (omega arith, omega arith)
-
--- the client stands behind an access
-pub stands_moved : (o : Opening) (i : ℕ) (x y : ClientState) (p q : Plain) (a : Access) (e : Option Entry) → Stands o p i x → Moved i a e p q
-    → (view_at q i).pass.pool ≡ (view_at p i).pass.pool → (view_at q i).pass.role ≡ (view_at p i).pass.role → (view_at q i).pass.names ≡ (view_at p i).pass.names → (view_at q i).pass.stock ≡ stock_at o.setup (suc i) y.taken
-    → y.number ≡ length (own q.entries (suc i)) → IsUnder o.setup.pool (view_at q i) y.under → AreCursors o.setup.pool (view_at q i) y.cursors → Stands o q i y
-stands_moved o i x y p q a e s m pool role names stock number under cursors = record {
-  setup = m.setup ∙ s.setup;
-  opened = m.opened ∙ s.opened;
-  entered = m.entered;
-  seat = s.seat;
-  seats = m.seats ∙ s.seats;
-  pool = pool ∙ s.pool;
-  role = role ∙ s.role;
-  names = names ∙ s.names;
-  stock = stock;
-  number = number;
-  under = under;
-  cursors = cursors;
-}
 
 -- the numbers of a client's entries, with none more and with one more
 pub number_same : (n c : ℕ) (h k : List Entry) → n ≡ length (own h c) → k ≡ h ++ [] → n ≡ length (own k c)

@@ -1,10 +1,9 @@
 -- What an event of an actor comes to, by what the machine's client of that number does.
 use Rattle.std.proofs.Common.{◌≡◌, ◌≢◌, ℕ, ◌-◌, ◌≤◌, ◌<◌, suc, length, set, get_or, List, [], ◌∷◌, ◌++◌, Bool, true, refl, sym, ap, ◌∙◌, subst, arith}
-use Rattle.std.specs.Prelude.{Option, Some, None, Result, Ok, Err, IfSome, IfOk, OnErr, slice_get, if◌then◌else◌}
+use Rattle.std.specs.Prelude.{Option, Some, None, Result, Ok, Err, IfOk, OnErr, slice_get, if◌then◌else◌}
 use Rattle.std.specs.FinMap as finite
 use Rattle.std.proofs.lemmas.Result.{IfOk-weaker}
-use Rattle.std.proofs.lemmas.Option.{IfSome_then, same_Some}
-use Rattle.clover_words.specs.Tag.{tag_number}
+use Rattle.std.proofs.lemmas.Option.{same_Some}
 use Rattle.clover_map.specs.Legal.{Legal}
 use Rattle.clover_map.specs.Tagged.{Tagged}
 use Rattle.clover_list.specs.declared.memory.OutOfMemory.{OutOfMemory}
@@ -13,8 +12,6 @@ use Rattle.clover_words.specs.Preset.{HasDealt}
 use Rattle.clover_words.specs.declared.setup.Setup.{Setup}
 use Rattle.clover_map.specs.History.{key_of}
 use Rattle.clover_walk.specs.Walking.{key_at}
-use Rattle.clover_cache.specs.Node.{cursor_at}
-use Rattle.clover_rule.specs.Content.{InRange}
 use Rattle.clover_rule.specs.Lists.{nth, Within}
 use Rattle.clover_rule.specs.Preset.{bindings_from}
 use Rattle.clover_rule.specs.Rule.{longest}
@@ -37,14 +34,15 @@ use Rattle.clover_sched.specs.Machine.{Parts, IsAt, IsBehind, IsSame, IsBusy, Ha
 use Rattle.clover_sched.specs.Record.{Record}
 use Rattle.clover_sched.specs.Run.{Opening, most_made}
 use Rattle.clover_sched.specs.declared.client.ClientState.{ClientState}
-use Rattle.clover_sched.specs.declared.client.Underway.{Underway}
-use Rattle.clover_sched.specs.declared.client.Underway.TheVariants.{Nothing, Get, Write, Raise}
+use Rattle.clover_call.specs.declared.under.Underway.{Underway}
+use Rattle.clover_call.specs.declared.under.Underway.TheVariants.{Nothing}
 use Rattle.clover_sched.specs.declared.event.Event.{Event}
 use Rattle.clover_sched.specs.declared.event.Event.TheVariants.{Begin, Step, Refuse}
 use Rattle.clover_sched.specs.declared.event.Note.{Note}
 use Rattle.clover_sched.specs.declared.event.Note.TheVariants.{Quiet, Busy, Missing}
-use Rattle.clover_sched.proofs.Stepping.{stands_kept}
-use Rattle.clover_node.proofs.Knowing.{cursor_held}
+use Rattle.clover_call.specs.Caller.{AreCursors}
+use Rattle.clover_sched.proofs.Stepping.{held_of, stands_kept}
+use Rattle.clover_sched.proofs.Turns.{not_busy}
 use Rattle.clover_sched.proofs.Busies.{busy_within, busy_here}
 use Rattle.clover_sched.proofs.Budget.{since_few}
 use Rattle.clover_sched.proofs.Lefts.{left_less}
@@ -58,12 +56,6 @@ none_made x is = cc
 
 pub behind : (m n : Parts) (e : Event) (note : Note) → Happens m n e note → IsBehind m → IsBehind n
 behind m n e note h b = let x = h b.0 b.1 b.2 in (b.0, b.1 ++ x.0 ∷ [], x.3)
-
-pub not_busy : (u : Underway) → ((u ≢ Nothing) → ⊥) → u ≡ Nothing
-not_busy Nothing h = refl
-not_busy (Get g into call) h = absurd (h (λ e. cc))
-not_busy (Write c call) h = absurd (h (λ e. cc))
-not_busy (Raise c) h = absurd (h (λ e. cc))
 
 -- the access of a client's step is the last that it was told
 went_told : (o : Opening) (m : Parts) (i : ℕ) (x y : ClientState) (q : Plain) (note : Note) → (w : Went o i x y m.pool q note) → IsTold (with_pool m i y q) (step_record i w.access w.entry note)
@@ -87,7 +79,7 @@ module _ (m : Parts) (a : ℕ) (one : 1 ≤ a) where
   refused_nobody past o rs at = (_, refl, refl, refused_far o m rs at a (above o rs at past), λ z is free. absurd (none_made z is))
 
   -- there is one
-  pub busy_happens : (t : Task) (x : ClientState) → nth m.clients (a - 1) ≡ Some x → x.under ≢ Nothing → Happens m m (Begin a t) (Busy a)
+  pub busy_happens : (t : Task) (x : ClientState) → nth m.clients (a - 1) ≡ Some x → x.node.under ≢ Nothing → Happens m m (Begin a t) (Busy a)
   busy_happens t x here busy o rs at = (_, ap (λ (b : ℕ). Begin b t) same_actor, ap Busy same_actor, begun_busy o m rs at (a - 1) x t here busy, λ z is free. absurd (none_made z is))
 
   pub refused_happens : (x : ClientState) → nth m.clients (a - 1) ≡ Some x → Happens m (with_client m (a - 1) (refusing x)) (Refuse a) Quiet
@@ -96,13 +88,13 @@ module _ (m : Parts) (a : ℕ) (one : 1 ≤ a) where
   -- no call is under way
   quiet_at : (z : Option ClientState) → nth m.clients (a - 1) ≡ z → (IsBusy m a → ⊥) → Happens m m (Step a) Quiet
   quiet_at None past not o rs at = (_, refl, refl, idled_far o m rs at a (above o rs at (nth_past m.clients (a - 1) past)), λ z is free. absurd (none_made z is))
-  quiet_at (Some x) here not o rs at = (_, ap Step same_actor, refl, idled_client o m rs at (a - 1) x here (not_busy x.under (λ (busy : x.under ≢ Nothing). not (a - 1, same_actor, subst HasCall (sym here) busy))), λ z is free. absurd (none_made z is))
+  quiet_at (Some x) here not o rs at = (_, ap Step same_actor, refl, idled_client o m rs at (a - 1) x here (not_busy x.node.under (λ (busy : x.node.under ≢ Nothing). not (a - 1, same_actor, subst HasCall (sym here) busy))), λ z is free. absurd (none_made z is))
 
   pub quiet_happens : (IsBusy m a → ⊥) → Happens m m (Step a) Quiet
   quiet_happens not = quiet_at (nth m.clients (a - 1)) refl not
 
   -- a client without a call begins
-  pub begin_happens : (t : Task) (x y : ClientState) (note : Note) → nth m.clients (a - 1) ≡ Some x → x.under ≡ Nothing
+  pub begin_happens : (t : Task) (x y : ClientState) (note : Note) → nth m.clients (a - 1) ≡ Some x → x.node.under ≡ Nothing
       → ((o : Opening) (rs : List Record) → IsAt o m rs → Stands o m.pool (a - 1) x → Begins o m.pool (a - 1) x y t note) → (m.pool.opened ≡ true → Running m.pool) → Happens m (with_client m (a - 1) y) (Begin a t) note
   begin_happens t x y note here idle begins running o rs at = (_, ap (λ (b : ℕ). Begin b t) same_actor, refl, begun_client o m rs at (a - 1) x y t note here idle (begins o rs at (at.each (a - 1) x here).stands) (running at.pool.opened), λ z is free. absurd (none_made z is))
 
@@ -184,42 +176,45 @@ pub may_one : (m : Parts) (a : ℕ) (t : Task) → MayCome m (Begin a t) → 1 �
 may_one m a (ClientTask call written) may = may.0
 
 -- a client without a call has a buffer for a task that asks for one
-pub may_stock : (m : Parts) (a : ℕ) (t : Task) (x : ClientState) → MayCome m (Begin a t) → nth m.clients (a - 1) ≡ Some x → x.under ≡ Nothing → takes (call_in t) ≡ 1 → HasDealt m.setup a x.taken
+pub may_stock : (m : Parts) (a : ℕ) (t : Task) (x : ClientState) → MayCome m (Begin a t) → nth m.clients (a - 1) ≡ Some x → x.node.under ≡ Nothing → takes (call_in t) ≡ 1 → HasDealt m.setup a x.taken
 may_stock m a (ClientTask call written) x may here idle takes =
     let one = may.0 in
     let dealt : HasDealt m.setup a (spent x) = may.2.stock (a - 1) x (omega arith) here takes in
     subst (λ (n : ℕ). HasDealt m.setup a n) (ap (λ (u : Underway). spent_by u x.taken) idle) dealt
 
--- each cursor of a client is a tag of the pool
-pub may_cursor : (m : Parts) (a slot : ℕ) (x : ClientState) → nth m.clients (a - 1) ≡ Some x → IsBehind m → IfSome (cursor_at slot x.cursors) (λ t. InRange m.setup.pool (tag_number t))
-may_cursor m a slot x here (o, rs, at) = subst (λ (s : Setup). IfSome (cursor_at slot x.cursors) (λ t. InRange s.pool (tag_number t))) (sym at.setup)
-    (IfSome_then (cursor_at slot x.cursors) (cursor_held o.setup.pool (view_at m.pool (a - 1)) slot x.cursors (at.each (a - 1) x here).stands.cursors) (λ t known. known.0))
+-- each cursor of a client is one that it knows
+pub may_cursors : (m : Parts) (a : ℕ) (x : ClientState) → nth m.clients (a - 1) ≡ Some x → IsBehind m → (v : View) × AreCursors x.node.pool v x.node.cursors
+may_cursors m a x here (o, rs, at) = (view_at m.pool (a - 1), (at.each (a - 1) x here).stands.holds.cursors)
+
+-- its node is of the machine's pool
+pub may_pool : (m : Parts) (a : ℕ) (x : ClientState) → nth m.clients (a - 1) ≡ Some x → IsBehind m → x.node.pool ≡ m.setup.pool
+may_pool m a x here (o, rs, at) = (at.each (a - 1) x here).stands.pool ∙ sym (ap (λ (s : Setup). s.pool) at.setup)
 
 -- what a begin of the client on the slot of the task's key says in every run
 abbrev pub BeginsOn : Parts → ℕ → ℕ → ClientState → ClientState → Task → Note → Type 0
 BeginsOn m a slot x y t note = (o : Opening) (p : Plain) (i : ℕ) → suc i ≡ a → o.setup ≡ m.setup → Within (slot, key_of (call_in t)) o.names → key_at o.names slot ≡ key_of (call_in t) → Stands o p i x → Begins o p i x y t note
 
-pub begin_on : (m : Parts) (a slot : ℕ) (x y : ClientState) (t : Task) (note : Note) → 1 ≤ a → nth m.clients (a - 1) ≡ Some x → x.under ≡ Nothing → slice_get m.names slot ≡ Some (key_of (call_in t)) → BeginsOn m a slot x y t note → (m.pool.opened ≡ true → Running m.pool)
+pub begin_on : (m : Parts) (a slot : ℕ) (x y : ClientState) (t : Task) (note : Note) → 1 ≤ a → nth m.clients (a - 1) ≡ Some x → x.node.under ≡ Nothing → slice_get m.names slot ≡ Some (key_of (call_in t)) → BeginsOn m a slot x y t note → (m.pool.opened ≡ true → Running m.pool)
     → Happens m (with_client m (a - 1) y) (Begin a t) note
 begin_on m a slot x y t note one here idle named begins running = begin_happens m a one t x y note here idle (λ o rs at s. begins o m.pool (a - 1) (omega arith) (sym at.setup)
     (subst (λ (l : List (ℕ × List ℕ)). Within (slot, key_of (call_in t)) l) (sym at.names) (bound_within 0 m.names slot slot (key_of (call_in t)) (omega arith) (sym (nth_get m.names slot) ∙ named)))
     (ap (λ (l : List (ℕ × List ℕ)). key_at l slot) at.names ∙ bound_key 0 m.names slot slot (key_of (call_in t)) (omega arith) (sym (nth_get m.names slot) ∙ named)) s) running
 
-pub step_less : (m p : Parts) (a : ℕ) (x y : ClientState) (q : Plain) (r : Result Note OutOfMemory) → m ≡ p → 1 ≤ a → nth m.clients (a - 1) ≡ Some x → IfOk r (GoesOn m a x y q) → IsBehind m → x.under ≢ Nothing
+pub step_less : (m p : Parts) (a : ℕ) (x y : ClientState) (q : Plain) (r : Result Note OutOfMemory) → m ≡ p → 1 ≤ a → nth m.clients (a - 1) ≡ Some x → IfOk r (GoesOn m a x y q) → IsBehind m → x.node.under ≢ Nothing
     → IfOk r (λ note. IsBusy p a → left (with_pool m (a - 1) y q) a < left p a)
 step_less m p a x y q r same one here went b busy = IfOk-weaker r (GoesOn m a x y q) (λ note. IsBusy p a → left (with_pool m (a - 1) y q) a < left p a) (λ note w is_busy.
     let i = a - 1 in
     let was = b.2.each i x here in
     let go = w b.0 i (omega arith) was.stands in
-    let few : length (since_of x.under (view_at m.pool i)) < most_made m.setup.pool = subst (λ (z : Setup). length (since_of x.under (view_at m.pool i)) < most_made z.pool) (sym b.2.setup) (since_few b.0 (suc i) (doing (suc i) b.1) (ended (suc i) b.1) (view_at m.pool i) x.under busy was.stands.under (was.goes busy)) in
-    let less : left_by m.setup.pool y.under (view_at q i) < left_by m.setup.pool x.under (view_at m.pool i) = left_less m.setup.pool x.under y.under (view_at m.pool i) (view_at q i) busy few go.longer in
-    let new : left (with_pool m i y q) a ≡ left_by m.setup.pool y.under (view_at q i) = ap (left_of (with_pool m i y q) i) (set_here m.clients i y x here) in
-    let old : left m a ≡ left_by m.setup.pool x.under (view_at m.pool i) = ap (left_of m i) here in
+    let few : length (since_of x.node.under (view_at m.pool i)) < most_made m.setup.pool = subst (λ (z : Setup). length (since_of x.node.under (view_at m.pool i)) < most_made z.pool) (sym b.2.setup) (since_few b.0 (suc i) (doing (suc i) b.1) (ended (suc i) b.1) (view_at m.pool i) x.node.under x.room busy (held_of b.0 m.pool i x was.stands) (was.goes busy)) in
+    let less : left_by m.setup.pool y.node.under (view_at q i) < left_by m.setup.pool x.node.under (view_at m.pool i) = left_less m.setup.pool x.node.under y.node.under (view_at m.pool i) (view_at q i) busy few go.longer in
+    let new : left (with_pool m i y q) a ≡ left_by m.setup.pool y.node.under (view_at q i) = ap (left_of (with_pool m i y q) i) (set_here m.clients i y x here) in
+    let old : left m a ≡ left_by m.setup.pool x.node.under (view_at m.pool i) = ap (left_of m i) here in
     subst (λ (z : Parts). left (with_pool m i y q) a < left z a) same (omega arith)) went
 
 -- the client that is read where the actor has a call
 pub busy_read : (m p : Parts) (a : ℕ) (x : ClientState) → m ≡ p → IsBusy p a → x ≡ get_or m.clients (a - 1) x → nth m.clients (a - 1) ≡ Some x
 busy_read m p a x same busy read = nth_here m.clients (a - 1) x (busy_within m a (subst (λ (z : Parts). IsBusy z a) (sym same) busy)) read
 
-pub busy_client : (m p : Parts) (a : ℕ) (x : ClientState) → m ≡ p → IsBusy p a → x ≡ get_or m.clients (a - 1) x → x.under ≢ Nothing
+pub busy_client : (m p : Parts) (a : ℕ) (x : ClientState) → m ≡ p → IsBusy p a → x ≡ get_or m.clients (a - 1) x → x.node.under ≢ Nothing
 busy_client m p a x same busy read = busy_here m a x (busy_read m p a x same busy read) (subst (λ (z : Parts). IsBusy z a) (sym same) busy)

@@ -10,8 +10,8 @@ use Rattle.clover_get.specs.Holding.{StandsOn, copied}
 use Rattle.clover_sched.specs.Client.{since_of}
 use Rattle.clover_sched.specs.Machine.{left_by}
 use Rattle.clover_sched.specs.Run.{most_made}
-use Rattle.clover_sched.specs.declared.client.Underway.{Underway}
-use Rattle.clover_sched.specs.declared.client.Underway.TheVariants.{Nothing, Get, Write, Raise}
+use Rattle.clover_call.specs.declared.under.Underway.{Underway}
+use Rattle.clover_call.specs.declared.under.Underway.TheVariants.{Nothing, Get, Write}
 
 -- the accesses of a get since its last turn
 pub copied_few : (s : GetStage) (w : Walking) (v : View) (into : ValueBuf) → StandsOn s w v into → copied s w.stand w.pool.words ≤ 5 + w.pool.words
@@ -26,12 +26,10 @@ copied_few GetOver w v into h = absurd h
 -- a call that has ended has none left, and one that goes on has one less
 left_some : (p : Pool) (u : Underway) (v : View) → u ≢ Nothing → left_by p u v ≡ most_made p - length (since_of u v)
 left_some p Nothing v not = absurd (not refl)
-left_some p (Get g into call) v not = refl
-left_some p (Write c call) v not = refl
-left_some p (Raise c) v not = refl
+left_some p (Get g) v not = refl
+left_some p (Write c) v not = refl
 
 pub left_less : (p : Pool) (u n : Underway) (v w : View) → u ≢ Nothing → length (since_of u v) < most_made p → (n ≢ Nothing → length (since_of n w) ≡ suc (length (since_of u v))) → left_by p n w < left_by p u v
 left_less p u Nothing v w busy few longer = let l = left_some p u v busy in omega arith
-left_less p u (Get g into call) v w busy few longer = let l = left_some p u v busy in let more = longer (λ e. cc) in omega arith
-left_less p u (Write c call) v w busy few longer = let l = left_some p u v busy in let more = longer (λ e. cc) in omega arith
-left_less p u (Raise c) v w busy few longer = let l = left_some p u v busy in let more = longer (λ e. cc) in omega arith
+left_less p u (Get g) v w busy few longer = let l = left_some p u v busy in let more = longer (λ e. cc) in omega arith
+left_less p u (Write c) v w busy few longer = let l = left_some p u v busy in let more = longer (λ e. cc) in omega arith

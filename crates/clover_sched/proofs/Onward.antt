@@ -26,16 +26,14 @@ use Rattle.clover_script.specs.Form.{call_in}
 use Rattle.clover_script.specs.declared.line.Task.{Task}
 use Rattle.clover_script.specs.declared.line.Task.TheVariants.{Client as ClientTask}
 use Rattle.clover_sched.specs.Alone.{OpensCall, IsOwnStep, Finds, RunsAlone, cost_of, EndsIn, NotesWith, AloneSoFar, AllFound, HasChain}
-use Rattle.clover_node.specs.Node.{AreCursors}
-use Rattle.clover_sched.specs.Client.{Stands, Matches, UnderMatches, Moved, Went, Starts, Begins, IsUnder, spent, since_of, slot_of, taken_by, step_record}
+use Rattle.clover_sched.specs.Client.{Stands, Matches, Moved, Went, Starts, Begins, spent, since_of, step_record}
 use Rattle.clover_sched.specs.Ends.{ended, MayBegin}
 use Rattle.clover_sched.specs.Folds.{listed, accesses_in, entries_in, words_by, words_after, made_by, made_in, Doing, actor_of, rested, takes_by, replied, begun, stepped, ends, does, doing}
 use Rattle.clover_sched.specs.Machine.{Parts, Remembers, GoesSoFar, IsAt, IsPoolAt, IsClientAt, asked}
 use Rattle.clover_sched.specs.Record.{Record}
 use Rattle.clover_sched.specs.Run.{Opening, Follows, IsStep, IsEntry, AllDue, IsDue, lost, begin_note}
 use Rattle.clover_sched.specs.declared.client.ClientState.{ClientState}
-use Rattle.clover_sched.specs.declared.client.Underway.{Underway}
-use Rattle.clover_sched.specs.declared.client.Underway.TheVariants.{Nothing, Get, Write, Raise}
+use Rattle.clover_call.specs.declared.under.Underway.TheVariants.{Nothing}
 use Rattle.clover_sched.specs.declared.event.Event.{Event}
 use Rattle.clover_sched.specs.declared.event.Event.TheVariants.{Begin, Step, Refuse}
 use Rattle.clover_sched.specs.declared.event.Note.{Note}
@@ -44,8 +42,10 @@ use Rattle.clover_sched.proofs.Pasts.{accesses_more, entries_more, words_more, m
 use Rattle.clover_sched.proofs.Finding.{begins_alone, chain_here}
 use Rattle.clover_sched.proofs.Alone.{all_found_more, alone_more}
 use Rattle.clover_sched.proofs.Bound.{AreBindings, bindings_are}
-use Rattle.clover_node.proofs.Knowing.{cursor_held}
+use Rattle.clover_call.proofs.Knowing.{cursor_held}
 use Rattle.clover_sched.proofs.Dues.{goes_as, goes_first, leads_on, is_due, ended_not}
+use Rattle.clover_call.specs.Caller.{slot_of}
+use Rattle.clover_sched.proofs.Stepping.{cursors_of, held_of, stands_same}
 use Rattle.clover_sched.proofs.Remembering.{IsOn, AnswersOnly, ended_still, ended_other, answers_own, under_on, remembers_asked, remembers_step, may_begin}
 
 -- one record more, from what it owes
@@ -102,18 +102,18 @@ other_client o p q i x rs r at apart stands same stays = record {
   stands = stands;
   matches = subst (λ (v : View). Matches x v (doing (suc i) (rs ++ r ∷ []))) (sym same) (subst (λ (d : Doing). Matches x (view_at p i) d) (sym (doing_other (suc i) rs r apart)) at.matches);
   spent = let l = asked_least (suc i) rs r in let s = at.spent in omega arith;
-  cursors = subst (Remembers o.names x.cursors) (sym stays) at.cursors;
-  goes = λ busy. let e = doing_other (suc i) rs r apart in goes_as o (suc i) (doing (suc i) rs) (doing (suc i) (rs ++ r ∷ [])) (ended (suc i) rs) (ended (suc i) (rs ++ r ∷ [])) x.under (ap (λ (d : Doing). d.task) e) (ap (λ (d : Doing). d.since) e) (ap (λ (d : Doing). d.taken) e) stays (at.goes busy);
+  cursors = subst (Remembers o.names x.node.cursors) (sym stays) at.cursors;
+  goes = λ busy. let e = doing_other (suc i) rs r apart in goes_as o (suc i) (doing (suc i) rs) (doing (suc i) (rs ++ r ∷ [])) (ended (suc i) rs) (ended (suc i) (rs ++ r ∷ [])) x.node.under x.room (ap (λ (d : Doing). d.task) e) (ap (λ (d : Doing). d.since) e) (ap (λ (d : Doing). d.taken) e) stays (at.goes busy);
 }
 
 -- the client of which it is
-own_client : (o : Opening) (q : Plain) (i : ℕ) (y : ClientState) (rs : List Record) (r : Record) → actor_of r.event ≡ suc i → Stands o q i y → Matches y (view_at q i) (does (doing (suc i) rs) r r.event) → spent y ≤ asked (suc i) (rs ++ r ∷ []) → Remembers o.names y.cursors (ended (suc i) (rs ++ r ∷ [])) → (y.under ≢ Nothing → GoesSoFar o (suc i) (does (doing (suc i) rs) r r.event) (ended (suc i) (rs ++ r ∷ [])) y.under) → IsClientAt o q i y (rs ++ r ∷ [])
+own_client : (o : Opening) (q : Plain) (i : ℕ) (y : ClientState) (rs : List Record) (r : Record) → actor_of r.event ≡ suc i → Stands o q i y → Matches y (view_at q i) (does (doing (suc i) rs) r r.event) → spent y ≤ asked (suc i) (rs ++ r ∷ []) → Remembers o.names y.node.cursors (ended (suc i) (rs ++ r ∷ [])) → (y.node.under ≢ Nothing → GoesSoFar o (suc i) (does (doing (suc i) rs) r r.event) (ended (suc i) (rs ++ r ∷ [])) y.node.under y.room) → IsClientAt o q i y (rs ++ r ∷ [])
 own_client o q i y rs r e stands matches few cursors goes = record {
   stands = stands;
   matches = subst (λ (d : Doing). Matches y (view_at q i) d) (sym (doing_own (suc i) rs r e)) matches;
   spent = few;
   cursors = cursors;
-  goes = λ busy. subst (λ (d : Doing). GoesSoFar o (suc i) d (ended (suc i) (rs ++ r ∷ [])) y.under) (sym (doing_own (suc i) rs r e)) (goes busy);
+  goes = λ busy. subst (λ (d : Doing). GoesSoFar o (suc i) d (ended (suc i) (rs ++ r ∷ [])) y.node.under y.room) (sym (doing_own (suc i) rs r e)) (goes busy);
 }
 
 -- the clients where that of one place is another
@@ -138,7 +138,7 @@ client_set m i y j z seat there = ⊎_elim
 
 -- a call that the client begins there finds its way, and ends in as many accesses as it costs
 abbrev BeginsAlone : (o : Opening) → List Record → List ℕ → List ClientState → ℕ → Call → Type 0
-BeginsAlone o rs ws clients c call = (f : Finds o c rs call) × ((i : ℕ) (y : ClientState) → suc i ≡ c → nth clients i ≡ Some y → EndsIn o.setup.pool ws (cost_of o c rs call f) y.under)
+BeginsAlone o rs ws clients c call = (f : Finds o c rs call) × ((i : ℕ) (y : ClientState) → suc i ≡ c → nth clients i ≡ Some y → EndsIn o.setup.pool ws (cost_of o c rs call f) y.node.under y.room)
 
 module _ (o : Opening) (m : Parts) (rs : List Record) (at : IsAt o m rs) where
   names_are : AreBindings o.names
@@ -183,8 +183,8 @@ module _ (o : Opening) (m : Parts) (rs : List Record) (at : IsAt o m rs) where
 
       each : (i : ℕ) (x : ClientState) → nth m.clients i ≡ Some x → IsClientAt o m.pool i x (rs ++ still e note ∷ [])
       each i x here = let was = at.each i x here in dite (ℕ_discrete (actor_of e) (suc i))
-          (λ (h : actor_of e ≡ suc i). own_client o m.pool i x rs (still e note) h was.stands (subst (λ (d : Doing). Matches x (view_at m.pool i) d) (sym (same (doing (suc i) rs))) was.matches) (let l = asked_least (suc i) rs (still e note) in let s = was.spent in omega arith) (subst (Remembers o.names x.cursors) (sym (still_ended (suc i) e note)) was.cursors)
-          (λ busy. subst (λ (d : Doing). GoesSoFar o (suc i) d (ended (suc i) (rs ++ still e note ∷ [])) x.under) (sym (same (doing (suc i) rs))) (subst (λ (l : List (List ℕ × ℕ)). GoesSoFar o (suc i) (doing (suc i) rs) l x.under) (sym (still_ended (suc i) e note)) (was.goes busy))))
+          (λ (h : actor_of e ≡ suc i). own_client o m.pool i x rs (still e note) h was.stands (subst (λ (d : Doing). Matches x (view_at m.pool i) d) (sym (same (doing (suc i) rs))) was.matches) (let l = asked_least (suc i) rs (still e note) in let s = was.spent in omega arith) (subst (Remembers o.names x.node.cursors) (sym (still_ended (suc i) e note)) was.cursors)
+          (λ busy. subst (λ (d : Doing). GoesSoFar o (suc i) d (ended (suc i) (rs ++ still e note ∷ [])) x.node.under x.room) (sym (same (doing (suc i) rs))) (subst (λ (l : List (List ℕ × ℕ)). GoesSoFar o (suc i) (doing (suc i) rs) l x.node.under x.room) (sym (still_ended (suc i) e note)) (was.goes busy))))
           (λ h. other_client o m.pool m.pool i x rs (still e note) was h was.stands refl (still_ended (suc i) e note))
 
   -- an actor that there is not
@@ -206,14 +206,11 @@ module _ (o : Opening) (m : Parts) (rs : List Record) (at : IsAt o m rs) where
   absent i x here above = let l = seated i x here in omega arith
 
   -- what is under way has a task
-  task_of : (u : Underway) (v : View) (d : Doing) → UnderMatches u v d → u ≢ Nothing → (s : Task) × (d.task ≡ Some s)
-  task_of Nothing v d h not = absurd (not refl)
-  task_of (Get g into call) v d h not = (ClientTask call h.0.0, h.0.1)
-  task_of (Write c call) v d h not = (ClientTask call h.0.0, h.0.1)
-  task_of (Raise c) v d h not = (ClientTask _ h.0.0, h.0.1)
+  task_of : (x : ClientState) (v : View) (d : Doing) → Matches x v d → x.node.under ≢ Nothing → (s : Task) × (d.task ≡ Some s)
+  task_of x v d h busy = let g = h.busy busy in (ClientTask _ g.written, g.task)
 
   -- an actor whose call is not over
-  pub begun_busy : (i : ℕ) (x : ClientState) (t : Task) → nth m.clients i ≡ Some x → x.under ≢ Nothing → IsAt o m (rs ++ still (Begin (suc i) t) (Busy (suc i)) ∷ [])
+  pub begun_busy : (i : ℕ) (x : ClientState) (t : Task) → nth m.clients i ≡ Some x → x.node.under ≢ Nothing → IsAt o m (rs ++ still (Begin (suc i) t) (Busy (suc i)) ∷ [])
   begun_busy i x t here busy = stayed (Begin (suc i) t) (Busy (suc i)) (refl, refl, told) (λ d. refl) (λ c call s. let q : Busy (suc i) ≡ Quiet = s.quiet in absurd cc)
     where
       if_false : (b : Bool) (y z : Note) → b ≡ false → (if b then y else z) ≡ z
@@ -226,21 +223,21 @@ module _ (o : Opening) (m : Parts) (rs : List Record) (at : IsAt o m rs) where
           ∙ if_false (ltb o.setup.clients (suc i)) (Missing (suc i)) (Busy (suc i)) (le-ltb o.setup.clients (suc i) (seated i x here))
 
       told : Busy (suc i) ≡ begin_note o.setup (doing (suc i) rs) (suc i) t
-      told = let s = task_of x.under (view_at m.pool i) (doing (suc i) rs) (at.each i x here).matches.under busy in sym (busy_note (doing (suc i) rs) s.0 t s.1)
+      told = let s = task_of x (view_at m.pool i) (doing (suc i) rs) (at.each i x here).matches busy in sym (busy_note (doing (suc i) rs) s.0 t s.1)
 
   -- one client is another, and the record has no access and no entry
   pub changed : (i : ℕ) (x y : ClientState) (e : Event) (note : Note) → nth m.clients i ≡ Some x → actor_of e ≡ suc i → Follows o rs (still e note) → Stands o m.pool i y
-      → Matches y (view_at m.pool i) (does (doing (suc i) rs) (still e note) e) → spent y ≤ asked (suc i) (rs ++ still e note ∷ []) → Remembers o.names y.cursors (ended (suc i) rs) → (y.under ≢ Nothing → GoesSoFar o (suc i) (does (doing (suc i) rs) (still e note) e) (ended (suc i) rs) y.under) → BeginsSo e note (set m.clients i y) → IsAt o (with_client m i y) (rs ++ still e note ∷ [])
+      → Matches y (view_at m.pool i) (does (doing (suc i) rs) (still e note) e) → spent y ≤ asked (suc i) (rs ++ still e note ∷ []) → Remembers o.names y.node.cursors (ended (suc i) rs) → (y.node.under ≢ Nothing → GoesSoFar o (suc i) (does (doing (suc i) rs) (still e note) e) (ended (suc i) rs) y.node.under y.room) → BeginsSo e note (set m.clients i y) → IsAt o (with_client m i y) (rs ++ still e note ∷ [])
   changed i x y e note here actor follows stands matches few cursors goes opens = pushed o m (with_client m i y) rs (still e note) at follows refl refl (still_pool o m.pool rs (still e note) at.pool refl refl) (length-set m.clients i y)
-      (each_set (λ (j : ℕ) (z : ClientState). IsClientAt o m.pool j z (rs ++ still e note ∷ [])) m.clients i y (own_client o m.pool i y rs (still e note) actor stands matches few (subst (Remembers o.names y.cursors) (sym (still_ended (suc i) e note)) cursors)
-      (λ busy. subst (λ (l : List (List ℕ × ℕ)). GoesSoFar o (suc i) (does (doing (suc i) rs) (still e note) e) l y.under) (sym (still_ended (suc i) e note)) (goes busy)))
+      (each_set (λ (j : ℕ) (z : ClientState). IsClientAt o m.pool j z (rs ++ still e note ∷ [])) m.clients i y (own_client o m.pool i y rs (still e note) actor stands matches few (subst (Remembers o.names y.node.cursors) (sym (still_ended (suc i) e note)) cursors)
+      (λ busy. subst (λ (l : List (List ℕ × ℕ)). GoesSoFar o (suc i) (does (doing (suc i) rs) (still e note) e) l y.node.under y.room) (sym (still_ended (suc i) e note)) (goes busy)))
       (λ j z apart there. let was = at.each j z there in other_client o m.pool m.pool j z rs (still e note) was (λ (s : actor_of e ≡ suc j). apart (omega (arith, s, actor))) was.stands refl (still_ended (suc j) e note)))
       (λ d above h. absurd (absent i x here (subst (λ (b : ℕ). o.setup.clients < b) actor above)))
       (still_legal (still e note) refl) (found_still e note) (alone_still e note (set m.clients i y) opens)
 
   -- a client with nothing under way has no task
-  idle_task : (i : ℕ) (x : ClientState) → nth m.clients i ≡ Some x → x.under ≡ Nothing → (doing (suc i) rs).task ≡ None
-  idle_task i x here idle = subst (λ (u : Underway). UnderMatches u (view_at m.pool i) (doing (suc i) rs)) idle (at.each i x here).matches.under
+  idle_task : (i : ℕ) (x : ClientState) → nth m.clients i ≡ Some x → x.node.under ≡ Nothing → (doing (suc i) rs).task ≡ None
+  idle_task i x here idle = ((at.each i x here).matches.idle idle).0
 
   -- a call that a client begins: at its cursor of the key's slot where it has one
   opened : (i : ℕ) (x y : ClientState) (t : Task) (note : Note) → nth m.clients i ≡ Some x → Begins o m.pool i x y t note → Running m.pool → BeginsSo (Begin (suc i) t) note (set m.clients i y)
@@ -253,14 +250,14 @@ module _ (o : Opening) (m : Parts) (rs : List Record) (at : IsAt o m rs) where
       mine : note ≡ Quiet → BeginsAlone o rs m.pool.words (set m.clients i y) (suc i) (call_in t)
       mine quiet =
           let was = at.each i x here in
-          let s : Starts o (suc i) x.taken x.cursors (call_in t) y.under = b.starts quiet in
-          let may : MayBegin (ended (suc i) rs) (key_of (call_in t)) (number_of (cursor_at s.slot x.cursors)) = may_begin o.names names_are x.cursors (ended (suc i) rs) s.slot (key_of (call_in t)) was.cursors s.named in
-          let known = cursor_held o.setup.pool (view_at m.pool i) s.slot x.cursors was.stands.cursors in
-          let found = begins_alone o rs m.pool i x was.stands running at.pool.words (call_in t) s.slot s.named (cursor_at s.slot x.cursors) known may in
-          (found.0, λ j z seat there. subst (λ (k : ClientState). EndsIn o.setup.pool m.pool.words (cost_of o (suc i) rs (call_in t) found.0) k.under) (client_set m i y j z seat there) (found.1 y.under s.begun s.fits s.dealt))
+          let s : Starts o (suc i) x.taken x.node.cursors (call_in t) y.node.under = b.starts quiet in
+          let may : MayBegin (ended (suc i) rs) (key_of (call_in t)) (number_of (cursor_at s.slot x.node.cursors)) = may_begin o.names names_are x.node.cursors (ended (suc i) rs) s.slot (key_of (call_in t)) was.cursors s.named in
+          let known = cursor_held o.setup.pool (view_at m.pool i) s.slot x.node.cursors (cursors_of o m.pool i x was.stands) in
+          let found = begins_alone o rs m.pool i x was.stands running at.pool.words (call_in t) s.slot s.named (cursor_at s.slot x.node.cursors) known may in
+          (found.0, λ j z seat there. subst (λ (k : ClientState). EndsIn o.setup.pool m.pool.words (cost_of o (suc i) rs (call_in t) found.0) k.node.under k.room) (client_set m i y j z seat there) (found.1 y.node.under y.room s.begun s.fits s.dealt))
 
   -- a client begins
-  pub begun_client : (i : ℕ) (x y : ClientState) (t : Task) (note : Note) → nth m.clients i ≡ Some x → x.under ≡ Nothing → Begins o m.pool i x y t note → Running m.pool → IsAt o (with_client m i y) (rs ++ still (Begin (suc i) t) note ∷ [])
+  pub begun_client : (i : ℕ) (x y : ClientState) (t : Task) (note : Note) → nth m.clients i ≡ Some x → x.node.under ≡ Nothing → Begins o m.pool i x y t note → Running m.pool → IsAt o (with_client m i y) (rs ++ still (Begin (suc i) t) note ∷ [])
   begun_client i x y t note here idle b running =
       let was = at.each i x here in
       let own = asked_own (suc i) rs (still (Begin (suc i) t) note) t refl in
@@ -268,11 +265,11 @@ module _ (o : Opening) (m : Parts) (rs : List Record) (at : IsAt o m rs) where
       let more = b.spent in
       changed i x y (Begin (suc i) t) note here refl (refl, refl, b.says (doing (suc i) rs) (idle_task i x here idle)) b.stands (b.matches (doing (suc i) rs) was.matches) (omega arith) (remembers note refl) (goes note refl) (opened i x y t note here b running)
     where
-      same : y.cursors ≡ x.cursors → Remembers o.names y.cursors (ended (suc i) rs)
+      same : y.node.cursors ≡ x.node.cursors → Remembers o.names y.node.cursors (ended (suc i) rs)
       same e = subst (λ (k : Known). Remembers o.names k (ended (suc i) rs)) (sym e) (at.each i x here).cursors
 
-      remembers : (k : Note) → note ≡ k → Remembers o.names y.cursors (ended (suc i) rs)
-      remembers Quiet is = let s = b.asks is in subst (λ (k : Known). Remembers o.names k (ended (suc i) rs)) (sym s.2) (remembers_asked o.names s.0 x.cursors (ended (suc i) rs) (at.each i x here).cursors)
+      remembers : (k : Note) → note ≡ k → Remembers o.names y.node.cursors (ended (suc i) rs)
+      remembers Quiet is = let s = b.asks is in subst (λ (k : Known). Remembers o.names k (ended (suc i) rs)) (sym s.2) (remembers_asked o.names s.0 x.node.cursors (ended (suc i) rs) (at.each i x here).cursors)
       remembers (Answered c r) is = same (b.away (λ q. let e : Answered c r ≡ Quiet = sym is ∙ q in cc))
       remembers (Refused c r) is = same (b.away (λ q. let e : Refused c r ≡ Quiet = sym is ∙ q in cc))
       remembers (Busy c) is = same (b.away (λ q. let e : Busy c ≡ Quiet = sym is ∙ q in cc))
@@ -282,23 +279,23 @@ module _ (o : Opening) (m : Parts) (rs : List Record) (at : IsAt o m rs) where
       d = doing (suc i) rs
 
       -- a client that was turned away has nothing under way
-      away : (k : Note) → note ≡ k → begun d t k ≡ d → y.under ≢ Nothing → ⊥
+      away : (k : Note) → note ≡ k → begun d t k ≡ d → y.node.under ≢ Nothing → ⊥
       away k is same busy =
-          let under : UnderMatches y.under (view_at m.pool i) d = subst (λ (z : Doing). UnderMatches y.under (view_at m.pool i) z) (ap (begun d t) is ∙ same) (b.matches d (at.each i x here).matches).under in
-          let s = task_of y.under (view_at m.pool i) d under busy in
+          let under : Matches y (view_at m.pool i) d = subst (λ (z : Doing). Matches y (view_at m.pool i) z) (ap (begun d t) is ∙ same) (b.matches d (at.each i x here).matches) in
+          let s = task_of y (view_at m.pool i) d under busy in
           let none : Some s.0 ≡ None = sym s.1 ∙ idle_task i x here idle in
           absurd cc
 
-      first : (k : Task) → t ≡ k → note ≡ Quiet → GoesSoFar o (suc i) (begun d k Quiet) (ended (suc i) rs) y.under
+      first : (k : Task) → t ≡ k → note ≡ Quiet → GoesSoFar o (suc i) (begun d k Quiet) (ended (suc i) rs) y.node.under y.room
       first (ClientTask call written) is quiet =
           let was = at.each i x here in
-          let s : Starts o (suc i) x.taken x.cursors call y.under = subst (λ (k : Task). Starts o (suc i) x.taken x.cursors (call_in k) y.under) is (b.starts quiet) in
-          let may : MayBegin (ended (suc i) rs) (key_of call) (number_of (cursor_at s.slot x.cursors)) = may_begin o.names names_are x.cursors (ended (suc i) rs) s.slot (key_of call) was.cursors s.named in
-          let taken : x.taken ≡ d.taken = subst (λ (u : Underway). x.taken ≡ taken_by u d.taken) idle was.matches.taken in
-          goes_first o (suc i) x.taken d (ended (suc i) rs) x.cursors call written y.under taken s may
+          let s : Starts o (suc i) x.taken x.node.cursors call y.node.under = subst (λ (k : Task). Starts o (suc i) x.taken x.node.cursors (call_in k) y.node.under) is (b.starts quiet) in
+          let may : MayBegin (ended (suc i) rs) (key_of call) (number_of (cursor_at s.slot x.node.cursors)) = may_begin o.names names_are x.node.cursors (ended (suc i) rs) s.slot (key_of call) was.cursors s.named in
+          let taken : x.taken ≡ d.taken = (was.matches.idle idle).1 in
+          goes_first o (suc i) x.taken d (ended (suc i) rs) x.node.cursors call written y.node.under y.room taken s may
 
-      goes : (k : Note) → note ≡ k → y.under ≢ Nothing → GoesSoFar o (suc i) (begun d t note) (ended (suc i) rs) y.under
-      goes Quiet is busy = subst (λ (k : Note). GoesSoFar o (suc i) (begun d t k) (ended (suc i) rs) y.under) (sym is) (first t refl is)
+      goes : (k : Note) → note ≡ k → y.node.under ≢ Nothing → GoesSoFar o (suc i) (begun d t note) (ended (suc i) rs) y.node.under y.room
+      goes Quiet is busy = subst (λ (k : Note). GoesSoFar o (suc i) (begun d t k) (ended (suc i) rs) y.node.under y.room) (sym is) (first t refl is)
       goes (Answered c r) is busy = absurd (away (Answered c r) is refl busy)
       goes (Refused c r) is busy = absurd (away (Refused c r) is refl busy)
       goes (Busy c) is busy = absurd (away (Busy c) is refl busy)
@@ -322,7 +319,7 @@ module _ (o : Opening) (m : Parts) (rs : List Record) (at : IsAt o m rs) where
   pub idled_far : (a : ℕ) → o.setup.clients < a → IsAt o m (rs ++ still (Step a) Quiet ∷ [])
   idled_far a above = idled a (at.far a above)
 
-  pub idled_client : (i : ℕ) (x : ClientState) → nth m.clients i ≡ Some x → x.under ≡ Nothing → IsAt o m (rs ++ still (Step (suc i)) Quiet ∷ [])
+  pub idled_client : (i : ℕ) (x : ClientState) → nth m.clients i ≡ Some x → x.node.under ≡ Nothing → IsAt o m (rs ++ still (Step (suc i)) Quiet ∷ [])
   idled_client i x here idle = idled (suc i) (idle_task i x here idle)
 
   -- the next access of an actor is to be refused
@@ -333,16 +330,10 @@ module _ (o : Opening) (m : Parts) (rs : List Record) (at : IsAt o m rs) where
       let least = asked_least (suc i) rs (still (Refuse (suc i)) Quiet) in
       let few = was.spent in
       changed i x (refusing x) (Refuse (suc i)) Quiet here refl (refl, refl, refl)
-      (record { setup = s.setup; opened = s.opened; entered = s.entered; seat = s.seat; seats = s.seats; pool = s.pool; role = s.role; names = s.names; stock = s.stock; number = s.number; under = s.under; cursors = s.cursors })
-      (record { refusing = refl; under = same (doing (suc i) rs) x.under was.matches.under; taken = was.matches.taken }) (omega arith) was.cursors
-      (λ busy. goes_as o (suc i) (doing (suc i) rs) (record (doing (suc i) rs) { refusing = true }) (ended (suc i) rs) (ended (suc i) rs) x.under refl refl refl refl (was.goes busy))
+      (record { setup = s.setup; opened = s.opened; entered = s.entered; seat = s.seat; seats = s.seats; role = s.role; names = s.names; stock = s.stock; number = s.number; pool = s.pool; holds = s.holds; asked = s.asked; kept = s.kept; linked = s.linked })
+      (record { refusing = refl; idle = was.matches.idle; busy = λ b. let g = was.matches.busy b in record { written = g.written; task = g.task; before = g.before; behind = g.behind; since = g.since } }) (omega arith) was.cursors
+      (λ busy. goes_as o (suc i) (doing (suc i) rs) (record (doing (suc i) rs) { refusing = true }) (ended (suc i) rs) (ended (suc i) rs) x.node.under x.room refl refl refl refl (was.goes busy))
       (silent_opening (Refuse (suc i)) Quiet (set m.clients i (refusing x)) (λ c call s. let q : Refuse (suc i) ≡ Begin c (ClientTask call s.written) = s.event in absurd cc))
-    where
-      same : (d : Doing) (u : Underway) → UnderMatches u (view_at m.pool i) d → UnderMatches u (view_at m.pool i) (record { task = d.task; decided = d.decided; since = d.since; refusing = true; taken = d.taken })
-      same d Nothing h = h
-      same d (Get g into call) h = h
-      same d (Write c call) h = h
-      same d (Raise c) h = h
 
   pub refused_far : (a : ℕ) → o.setup.clients < a → IsAt o m (rs ++ still (Refuse a) Quiet ∷ [])
   refused_far a above = pushed o m m rs (still (Refuse a) Quiet) at (refl, refl, refl) refl refl (still_pool o m.pool rs (still (Refuse a) Quiet) at.pool refl refl) refl
@@ -358,21 +349,7 @@ own_kept h (Some e) c n is apart = filter-append (λ (x : Entry). x.client == c)
 -- another client stands where it stood
 stands_on : (o : Opening) (i j : ℕ) (z : ClientState) (x : Access) (e : Option Entry) (p q : Plain) → j ≢ i → IfSome e (λ (y : Entry). y.client ≡ suc i) → Moved i x e p q → Stands o p j z → Stands o q j z
 stands_on o i j z x e p q apart is moved s =
-    let same = moved.others j apart in
-    record {
-      setup = moved.setup ∙ s.setup;
-      opened = moved.opened ∙ s.opened;
-      entered = moved.entered;
-      seat = s.seat;
-      seats = moved.seats ∙ s.seats;
-      pool = ap (λ (v : View). v.pass.pool) same ∙ s.pool;
-      role = ap (λ (v : View). v.pass.role) same ∙ s.role;
-      names = ap (λ (v : View). v.pass.names) same ∙ s.names;
-      stock = ap (λ (v : View). v.pass.stock) same ∙ s.stock;
-      number = s.number ∙ sym (ap (λ (l : List Entry). length (own l (suc j))) moved.entries ∙ ap length (own_kept p.entries e (suc j) (suc i) is (λ (h : suc i ≡ suc j). apart (omega arith))));
-      under = subst (λ (v : View). IsUnder o.setup.pool v z.under) (sym same) s.under;
-      cursors = subst (λ (v : View). AreCursors o.setup.pool v z.cursors) (sym same) s.cursors;
-    }
+    stands_same o p q j z moved.setup moved.opened moved.entered moved.seats (ap (λ (l : List Entry). length (own l (suc j))) moved.entries ∙ ap length (own_kept p.entries e (suc j) (suc i) is (λ (h : suc i ≡ suc j). apart (omega arith)))) (moved.others j apart) s
 
 -- the pool of one access more
 moved_pool : (o : Opening) (i : ℕ) (x : Access) (e : Option Entry) (note : Note) (p q : Plain) (rs : List Record) → IsPoolAt o p rs → Moved i x e p q → IsPoolAt o q (rs ++ step_record i x e note ∷ [])
@@ -405,7 +382,7 @@ own_client_is e = cc
 
 -- a step of a call that has run alone up to it
 gone : (o : Opening) (m : Parts) (rs : List Record) (at : IsAt o m rs) (i : ℕ) (x y : ClientState) (q : Plain) (note : Note) → nth m.clients i ≡ Some x → (w : Went o i x y m.pool q note)
-    → (s : RunsAlone o rs) → s.after ≡ [] → IsOwnStep s.client (step_record i w.access w.entry note) → (left : ℕ) × (suc (length s.steps) + left ≡ cost_of o s.client s.before s.call (at.alone.all s).0) × NotesWith s.client left note × EndsIn o.setup.pool q.words left y.under
+    → (s : RunsAlone o rs) → s.after ≡ [] → IsOwnStep s.client (step_record i w.access w.entry note) → (left : ℕ) × (suc (length s.steps) + left ≡ cost_of o s.client s.before s.call (at.alone.all s).0) × NotesWith s.client left note × EndsIn o.setup.pool q.words left y.node.under y.room
 gone o m rs at i x y q note here w s now own =
     let seat : suc i ≡ s.client = own_client_is own.event in
     let access : w.access ≡ own.access = (let e : Some w.access ≡ Some own.access = own.is in cc) in
@@ -414,13 +391,6 @@ gone o m rs at i x y q note here w s now own =
     let a = w.alone u.0 free u.2 in
     let n = u.1 in let k = a.one in
     (a.left, omega arith, subst (λ (c : ℕ). NotesWith c a.left note) seat a.notes, a.ends)
-
--- the acts of a call under way are those of the client's view
-under_since : (u : Underway) (v : View) (d : Doing) → u ≢ Nothing → UnderMatches u v d → d.since ≡ since_of u v
-under_since Nothing v d busy h = absurd (busy refl)
-under_since (Get g into call) v d busy h = h.2
-under_since (Write c call) v d busy h = h.2
-under_since (Raise c) v d busy h = h.2
 
 -- a call that goes on behind its access stands where that led it
 module _ (o : Opening) (m : Parts) (rs : List Record) (at : IsAt o m rs) (i : ℕ) (x y : ClientState) (q : Plain) (note : Note) (here : nth m.clients i ≡ Some x) (w : Went o i x y m.pool q note) where
@@ -436,27 +406,27 @@ module _ (o : Opening) (m : Parts) (rs : List Record) (at : IsAt o m rs) (i : �
   went : IsStep o (suc i) d m.pool.words (length (own m.pool.entries (suc i))) (step_record i w.access w.entry note) × Matches y (view_at q i) (stepped d (Some w.access) w.entry note)
   went = w.follows d (at.each i x here).matches
 
-  under_way : x.under ≢ Nothing
+  under_way : x.node.under ≢ Nothing
   under_way idle = let none : Some w.access ≡ None = (went.0.idle (idle_task o m rs at i x here idle)).0 in cc
 
   made_on : (b : Bool) → w.access.refused ≡ b → ends note ≡ false → b ≡ false
   made_on true refused goes = absurd (let e : note ≡ Refused (suc i) (lost d.decided) = (went.0.unreached w.access refl refused).1 in let f : ends note ≡ true = ap ends e in cc)
   made_on false free goes = refl
 
-  goes_by : (b : Bool) → ends note ≡ b → y.under ≢ Nothing → GoesSoFar o (suc i) (if b then rested (d.taken + takes_by (replied d.decided w.entry)) else behind) h1 y.under
+  goes_by : (b : Bool) → ends note ≡ b → y.node.under ≢ Nothing → GoesSoFar o (suc i) (if b then rested (d.taken + takes_by (replied d.decided w.entry)) else behind) h1 y.node.under y.room
   goes_by true over still =
-      let under : UnderMatches y.under (view_at q i) (rested (d.taken + takes_by (replied d.decided w.entry))) = subst (λ (b : Bool). UnderMatches y.under (view_at q i) (if b then rested (d.taken + takes_by (replied d.decided w.entry)) else behind)) over went.1.under in
-      let s = task_of o m rs at y.under (view_at q i) (rested (d.taken + takes_by (replied d.decided w.entry))) under still in
+      let under : Matches y (view_at q i) (rested (d.taken + takes_by (replied d.decided w.entry))) = subst (λ (b : Bool). Matches y (view_at q i) (if b then rested (d.taken + takes_by (replied d.decided w.entry)) else behind)) over went.1 in
+      let s = task_of o m rs at y (view_at q i) (rested (d.taken + takes_by (replied d.decided w.entry))) under still in
       let none : None ≡ Some s.0 = s.1 in
       absurd cc
   goes_by false goes still =
       let was = at.each i x here in
-      let since : d.since ≡ since_of x.under (view_at m.pool i) = under_since x.under (view_at m.pool i) d under_way was.matches.under in
-      let on = leads_on o (suc i) d (ended (suc i) rs) (view_at m.pool i) x.under y.under w.access.act note under_way was.stands.under since (was.goes under_way) (w.calls (made_on w.access.refused refl goes)) in
-      goes_as o (suc i) (record d { since = d.since ++ w.access.act ∷ [] }) behind (ended (suc i) rs) h1 y.under refl refl refl
+      let since : d.since ≡ since_of x.node.under (view_at m.pool i) = (was.matches.busy under_way).since in
+      let on = leads_on o (suc i) d (ended (suc i) rs) (view_at m.pool i) x y w.access.act note under_way (held_of o m.pool i x was.stands) since (was.goes under_way) (w.calls (made_on w.access.refused refl goes)) in
+      goes_as o (suc i) (record d { since = d.since ++ w.access.act ∷ [] }) behind (ended (suc i) rs) h1 y.node.under y.room refl refl refl
       (ended_more (suc i) rs (step_record i w.access w.entry note) ∙ ended_not (suc i) d.task note w.access (ended (suc i) rs) goes) on
 
-  goes_on_so : y.under ≢ Nothing → GoesSoFar o (suc i) (stepped d (Some w.access) w.entry note) h1 y.under
+  goes_on_so : y.node.under ≢ Nothing → GoesSoFar o (suc i) (stepped d (Some w.access) w.entry note) h1 y.node.under y.room
   goes_on_so still = goes_by (ends note) refl still
 
 -- a client makes the next access of its call
@@ -476,20 +446,20 @@ stepped_client o m rs at i x y q note here w running legal =
     let few = was.spent in
     let less = w.spent in
     let answers : AnswersOnly (suc i) note = answers_own o i d m.pool.words (length (own m.pool.entries (suc i))) w.access w.entry note went.0 in
-    let busy : x.under ≢ Nothing = (λ idle. let none : Some w.access ≡ None = (went.0.idle (idle_task o m rs at i x here idle)).0 in cc) in
-    let on : IsOn o.names (slot_of x.under) d.task = under_on o.setup.pool x.under (view_at m.pool i) d o.names was.stands.under was.matches.under was.stands.names busy in
-    let cursors : Remembers o.names y.cursors (ended (suc i) (rs ++ r ∷ [])) = subst (Remembers o.names y.cursors) (sym (ended_more (suc i) rs r))
-    (remembers_step o.names (names_are o m rs at) (suc i) (slot_of x.under) d.task w.access note x.cursors y.cursors (ended (suc i) rs) on answers w.cursor was.cursors) in
+    let busy : x.node.under ≢ Nothing = (λ idle. let none : Some w.access ≡ None = (went.0.idle (idle_task o m rs at i x here idle)).0 in cc) in
+    let knows = held_of o m.pool i x was.stands in
+    let on : IsOn o.names (slot_of x.node.under) d.task = under_on o.setup.pool x (view_at m.pool i) d o.names knows (was.matches.busy busy) was.stands.names busy in
+    let cursors : Remembers o.names y.node.cursors (ended (suc i) (rs ++ r ∷ [])) = subst (Remembers o.names y.node.cursors) (sym (ended_more (suc i) rs r))
+    (remembers_step o.names (names_are o m rs at) (suc i) (slot_of x.node.under) d.task w.access note x.node.cursors y.node.cursors (ended (suc i) rs) on answers w.cursor was.cursors) in
     let alone : AloneSoFar o q.words (set m.clients i y) (rs ++ r ∷ []) = alone_more o rs r at.alone.all q.words (set m.clients i y) (λ c call opens. absurd (no_begin c call opens))
     (λ s now own. let g = gone o m rs at i x y q note here w s now own in (g.0, g.1, g.2))
-    (λ s now own j z seat there. let g = gone o m rs at i x y q note here w s now own in subst (λ (k : ClientState). EndsIn o.setup.pool q.words g.0 k.under) (client_set m i y j z (seat ∙ sym (own_client_is own.event)) there) g.3)
+    (λ s now own j z seat there. let g = gone o m rs at i x y q note here w s now own in subst (λ (k : ClientState). EndsIn o.setup.pool q.words g.0 k.node.under k.room) (client_set m i y j z (seat ∙ sym (own_client_is own.event)) there) g.3)
     (λ c call opens. absurd (no_begin c call opens)) in
-    let knows = was.stands.under in
-    let since : d.since ≡ since_of x.under (view_at m.pool i) = under_since x.under (view_at m.pool i) d busy was.matches.under in
+    let since : d.since ≡ since_of x.node.under (view_at m.pool i) = (was.matches.busy busy).since in
     let dues : AllDue o (suc i) d (ended (suc i) rs) r = (λ z is free.
     let same : w.access ≡ z = same_Some _ _ is in
     let made : w.access.refused ≡ false = ap (λ (k : Access). k.refused) same ∙ free in
-    subst (λ (k : Access). IsDue o (suc i) d (ended (suc i) rs) k.act note) same (is_due o (suc i) d (ended (suc i) rs) (view_at m.pool i) x.under y.under w.access.act note busy knows since (was.goes busy) (w.calls made))) in
+    subst (λ (k : Access). IsDue o (suc i) d (ended (suc i) rs) k.act note) same (is_due o (suc i) d (ended (suc i) rs) (view_at m.pool i) x y w.access.act note busy knows since (was.goes busy) (w.calls made))) in
     pushed o m (with_pool m i y q) rs r at (steps, dues) refl refl pool (length-set m.clients i y)
     (each_set (λ (j : ℕ) (z : ClientState). IsClientAt o q j z (rs ++ r ∷ [])) m.clients i y (own_client o q i y rs r refl w.stands went.1 (omega arith) cursors (λ still. goes_on_so o m rs at i x y q note here w still))
     (λ j z apart there. let was = at.each j z there in other_client o m.pool q j z rs r was (λ (s : suc i ≡ suc j). apart (omega arith)) (stands_on o i j z w.access w.entry m.pool q apart client w.moved was.stands) (w.moved.others j apart)

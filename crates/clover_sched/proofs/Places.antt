@@ -1,5 +1,5 @@
--- The element at a place of a list and of one by repetition, a list with an element put where it stands, and the last of a list.
-use Rattle.std.proofs.Common.{◌≡◌, ℕ, zero, suc, ◌<◌, List, [], ◌∷◌, ◌++◌, length, set, get_or, replicate, reverse, refl, sym, ap, ◌∙◌, arith}
+-- The element at a place of a list, a list with an element put where it stands, and the last of a list.
+use Rattle.std.proofs.Common.{◌≡◌, ℕ, zero, suc, ◌<◌, List, [], ◌∷◌, ◌++◌, length, set, get_or, reverse, refl, sym, ap, ◌∙◌, arith}
 use Rattle.std.specs.Prelude.{Some, slice_get}
 use Rattle.std.proofs.lemmas.List.{reverse-append, reverse-reverse}
 use Rattle.clover_rule.specs.Lists.{nth}
@@ -14,10 +14,10 @@ nth_here [] i x below is = absurd (omega arith)
 nth_here (y ∷ ys) zero x below is = ap Some (sym is)
 nth_here (y ∷ ys) (suc i) x below is = nth_here ys i x (omega arith) is
 
-pub nth_replicate : {A : Type 0} (n i : ℕ) (x y : A) → nth (replicate n x) i ≡ Some y → y ≡ x
-nth_replicate zero i x y e = absurd cc
-nth_replicate (suc n) zero x y e = cc
-nth_replicate (suc n) (suc i) x y e = nth_replicate n i x y e
+pub nth_got : {A : Type 0} (xs : List A) (i : ℕ) (d x : A) → nth xs i ≡ Some x → get_or xs i d ≡ x
+nth_got [] i d x e = absurd cc
+nth_got (y ∷ ys) zero d x e = cc
+nth_got (y ∷ ys) (suc i) d x e = nth_got ys i d x e
 
 pub set_same : {A : Type 0} (xs : List A) (i : ℕ) (x : A) → nth xs i ≡ Some x → set xs i x ≡ xs
 set_same [] i x e = absurd cc

@@ -20,16 +20,18 @@ use Rattle.clover_walk.specs.Standing.{number_of}
 use Rattle.clover_walk.specs.Walking.{key_at}
 use Rattle.clover_cache.specs.Node.{Known, cursor_at, asked, IsSet}
 use Rattle.clover_cache.proofs.Known.{held_at, last-asked, All-asked, All-set_cursor}
-use Rattle.clover_put.specs.Putting.{call_of, call_at}
+use Rattle.clover_put.specs.Putting.{call_of}
 use Rattle.clover_put.specs.declared.job.Job.{Job}
 use Rattle.clover_put.specs.declared.job.Job.TheVariants.{Put, Delete, Swap}
-use Rattle.clover_sched.specs.Client.{IsUnder, UnderMatches, SetsCursor, slot_of, step_record}
+use Rattle.clover_call.specs.Caller.{CallHolds, call_under, slot_of}
+use Rattle.clover_sched.specs.Client.{IsDoing, SetsCursor, step_record}
 use Rattle.clover_sched.specs.Ends.{ended_by, end_tag, IsLatest, IsElsewhere, MayBegin}
 use Rattle.clover_sched.specs.Folds.{Doing}
 use Rattle.clover_sched.specs.Machine.{Remembers}
 use Rattle.clover_sched.specs.Run.{Opening, IsStep, IsCause, lost}
-use Rattle.clover_sched.specs.declared.client.Underway.{Underway}
-use Rattle.clover_sched.specs.declared.client.Underway.TheVariants.{Nothing, Get, Write, Raise}
+use Rattle.clover_call.specs.declared.under.Underway.{Underway}
+use Rattle.clover_call.specs.declared.under.Underway.TheVariants.{Nothing, Get, Write}
+use Rattle.clover_sched.specs.declared.client.ClientState.{ClientState}
 use Rattle.clover_sched.specs.declared.event.Note.{Note}
 use Rattle.clover_sched.specs.declared.event.Note.TheVariants.{Quiet, Answered, Refused, Busy, Missing}
 use Rattle.clover_sched.proofs.Bound.{AreBindings}
@@ -74,14 +76,13 @@ key_of_call Delete k x = refl
 key_of_call (Swap t) k x = refl
 
 -- what is under way is a call on its slot's key
-pub under_on : (p : Pool) (u : Underway) (v : View) (d : Doing) (names : List (ℕ × List ℕ)) → IsUnder p v u → UnderMatches u v d → v.pass.names ≡ names → u ≢ Nothing → IsOn names (slot_of u) d.task
-under_on p u v d names knows is same busy = subst (λ (l : List (ℕ × List ℕ)). IsOn l (slot_of u) d.task) same (go u knows is busy)
+pub under_on : (p : Pool) (x : ClientState) (v : View) (d : Doing) (names : List (ℕ × List ℕ)) → CallHolds p x.node.under v x.room → IsDoing x v d → v.pass.names ≡ names → x.node.under ≢ Nothing → IsOn names (slot_of x.node.under) d.task
+under_on p x v d names knows is same busy = subst (λ (l : List (ℕ × List ℕ)). IsOn l (slot_of x.node.under) d.task) same (go x.node.under knows is.task busy)
   where
-    go : (u : Underway) → IsUnder p v u → UnderMatches u v d → u ≢ Nothing → IsOn v.pass.names (slot_of u) d.task
-    go Nothing knows is busy = absurd (busy refl)
-    go (Get g into call) knows is busy = (call, is.0.0, is.0.1, ap key_of knows.3, knows.2.walk.named)
-    go (Write c call) knows is busy = (call, is.0.0, is.0.1, ap key_of knows.3 ∙ key_of_call c.job (key_at v.pass.names c.walk.slot) c.value, knows.2.walk.named)
-    go (Raise c) knows is busy = (call_at c v, is.0.0, is.0.1, key_of_call c.job (key_at v.pass.names c.walk.slot) c.value, knows.1.walk.named)
+    go : (u : Underway) → CallHolds p u v x.room → d.task ≡ Some (ClientTask (call_under u v) is.written) → u ≢ Nothing → IsOn v.pass.names (slot_of u) d.task
+    go Nothing knows task busy = absurd (busy refl)
+    go (Get g) knows task busy = (call_under (Get g) v, is.written, task, refl, knows.1.walk.named)
+    go (Write c) knows task busy = (call_under (Write c) v, is.written, task, key_of_call c.job (key_at v.pass.names c.walk.slot) c.value, knows.1.walk.named)
 
 -- what a client remembers by a pair of its list, and by the cursor that was set last
 abbrev IsKept : List (ℕ × List ℕ) → List (List ℕ × ℕ) → ℕ × TagParts → Type 0

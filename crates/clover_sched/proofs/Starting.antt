@@ -29,13 +29,11 @@ use Rattle.clover_put.specs.Putting.{Putting, commits, made_put}
 use Rattle.clover_put.specs.declared.job.Job.{Job}
 use Rattle.clover_put.specs.declared.job.Job.TheVariants.{Put, Delete, Swap}
 use Rattle.clover_put.proofs.Alone.{put_law}
-use Rattle.clover_sched.specs.declared.client.Underway.{Underway}
+use Rattle.clover_call.specs.declared.under.Underway.{Underway}
 use Rattle.clover_sched.specs.Alone.{GetEnds, PutEnds, EndsIn, cost}
-use Rattle.clover_node.specs.Beginning.{no_value}
-use Rattle.clover_sched.specs.Beginning.{IsBegun}
-use Rattle.clover_node.specs.Beginning.{size_of}
+use Rattle.clover_call.specs.Beginning.{IsBegun, no_value, size_of}
 use Rattle.clover_sched.specs.Run.{room}
-use Rattle.clover_node.proofs.Begins.{made_pool}
+use Rattle.clover_call.proofs.Begins.{made_pool}
 use Rattle.clover_sched.proofs.Chains.{few_links}
 
 -- a load that shows the tail unlinked makes no turn
@@ -111,14 +109,14 @@ module _ (s : Setup) (c n : ℕ) (ws : List ℕ) (slot : ℕ) (known : Option �
     swaps t expected value e None h key = h
     swaps t expected value e (Some z) h key = subst (λ (k : ℕ). PutEnds s.pool (2 * version_words (Some value) + y.loads + 2 * length ts + 1 + cond (eqb k u) 4 2) ws (put_of (Swap t) value)) e h
 
-    pub starts : (call : Call) (under : Underway) → IsBegun s slot known c n call under → size_of call ≤ room s → (takes call ≡ 1 → HasDealt s c n) → EndsIn s.pool ws (cost call y.loads (length ts) u x) under
-    starts (GetOf key) under b fits dealt =
+    pub starts : (call : Call) (under : Underway) (into : ValueBuf) → IsBegun (made_walk s.pool slot known) own_tag call under → size_of call ≤ room s → (takes call ≡ 1 → HasDealt s c n) → EndsIn s.pool ws (cost call y.loads (length ts) u x) under into
+    starts (GetOf key) under into b fits dealt =
         let k : y.loads + 2 * length ts + 2 + version_words x ≡ cost (GetOf key) y.loads (length ts) u x = omega arith in
-        subst (EndsIn s.pool ws (cost (GetOf key) y.loads (length ts) u x)) (sym b.1)
-        (subst (λ (j : ℕ). GetEnds s.pool j (record { words = ws; call = getting (made_walk s.pool slot known) Seeking; room = b.0 })) k (get_ends s.pool ws (made_walk s.pool slot known) (made_pool s.pool slot known) known y ts u x comes has b.0))
-    starts (PutOf key value) under b fits dealt =
-        subst (EndsIn s.pool ws (cost (PutOf key value) y.loads (length ts) u x)) (sym b) (puts Put value (dealt refl) (value_fits s.pool value fits))
-    starts (DeleteOf key) under b fits dealt =
-        subst (EndsIn s.pool ws (cost (DeleteOf key) y.loads (length ts) u x)) (sym b) (deletes x (puts Delete no_value (dealt refl) (dead_fits s.pool)) key)
-    starts (SwapOf key expected value) under b fits dealt =
-        subst (EndsIn s.pool ws (cost (SwapOf key expected value) y.loads (length ts) u x)) (sym b.2) (swaps b.0 expected value b.1 x (puts (Swap b.0) value (dealt refl) (value_fits s.pool value fits)) key)
+        subst (λ (z : Underway). EndsIn s.pool ws (cost (GetOf key) y.loads (length ts) u x) z into) (sym b)
+        (subst (λ (j : ℕ). GetEnds s.pool j (record { words = ws; call = getting (made_walk s.pool slot known) Seeking; room = into })) k (get_ends s.pool ws (made_walk s.pool slot known) (made_pool s.pool slot known) known y ts u x comes has into))
+    starts (PutOf key value) under into b fits dealt =
+        subst (λ (z : Underway). EndsIn s.pool ws (cost (PutOf key value) y.loads (length ts) u x) z into) (sym b) (puts Put value (dealt refl) (value_fits s.pool value fits))
+    starts (DeleteOf key) under into b fits dealt =
+        subst (λ (z : Underway). EndsIn s.pool ws (cost (DeleteOf key) y.loads (length ts) u x) z into) (sym b) (deletes x (puts Delete no_value (dealt refl) (dead_fits s.pool)) key)
+    starts (SwapOf key expected value) under into b fits dealt =
+        subst (λ (z : Underway). EndsIn s.pool ws (cost (SwapOf key expected value) y.loads (length ts) u x) z into) (sym b.2) (swaps b.0 expected value b.1 x (puts (Swap b.0) value (dealt refl) (value_fits s.pool value fits)) key)

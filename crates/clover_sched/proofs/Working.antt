@@ -36,12 +36,6 @@ leaves_nothing l a before more all = record {
     nothing rs few = subst (λ qs. Stands l before qs) (sym (ap (λ qs. more ++ qs) (none_long rs few) ∙ append-nil more)) all
 
 module _ (a : ℕ) (before : List Record) (r : Record) where
-  pub leaves_call : (t : Task) → r.event ≡ Begin a t → (IsTurnedAway r.note → ⊥) → Leaves (line.Call a t) (Finish a) before (r ∷ [])
-  leaves_call t is kept = record {
-    all = λ rs k. record { first = r; more = rs; all = refl; begins = is; away = λ away. absurd (kept away); on = λ _. k };
-    part = λ rs k. inl (inr (r, rs, refl, is, k));
-  }
-
   pub turned_away : (t : Task) → r.event ≡ Begin a t → IsTurnedAway r.note → Calls a t before (r ∷ [])
   turned_away t is away = record { first = r; more = []; all = refl; begins = is; away = λ _. refl; on = λ kept. absurd (kept away) }
 

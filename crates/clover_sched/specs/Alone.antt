@@ -18,8 +18,9 @@ use Rattle.clover_get.specs.Getting.{IsOpen, Over}
 use Rattle.clover_put.specs.Alone.{alone, IsOpen as IsPutOpen}
 use Rattle.clover_put.specs.Putting.{Putting, put_step, Over as PutOver}
 use Rattle.clover_sched.specs.declared.client.ClientState.{ClientState}
-use Rattle.clover_sched.specs.declared.client.Underway.{Underway}
-use Rattle.clover_sched.specs.declared.client.Underway.TheVariants.{Nothing, Get, Write, Raise}
+use Rattle.clover_words.specs.declared.bytes.ValueBuf.{ValueBuf}
+use Rattle.clover_call.specs.declared.under.Underway.{Underway}
+use Rattle.clover_call.specs.declared.under.Underway.TheVariants.{Nothing, Get, Write}
 use Rattle.clover_sched.specs.declared.event.Event.TheVariants.{Begin, Step}
 use Rattle.clover_sched.specs.declared.event.Note.{Note}
 use Rattle.clover_sched.specs.declared.event.Note.TheVariants.{Quiet, Answered}
@@ -130,11 +131,10 @@ pub record PutEnds (p : Pool) (n : ℕ) (ws : List ℕ) (c : Putting) : Type 0 w
   pub over : (v : ℕ → View) → (alone p v n ws c).1.stage ≡ PutOver
 
 -- what is under way is over after exactly so many accesses, if nobody else makes one
-abbrev pub EndsIn : Pool → List ℕ → ℕ → Underway → Type 0
-EndsIn p ws n Nothing = n ≡ 0
-EndsIn p ws n (Get g into call) = GetEnds p n (record { words = ws; call = g; room = into })
-EndsIn p ws n (Write c call) = PutEnds p n ws c
-EndsIn p ws n (Raise c) = PutEnds p n ws c
+abbrev pub EndsIn : Pool → List ℕ → ℕ → Underway → ValueBuf → Type 0
+EndsIn p ws n Nothing room = n ≡ 0
+EndsIn p ws n (Get g) room = GetEnds p n (record { words = ws; call = g; room = room })
+EndsIn p ws n (Write c) room = PutEnds p n ws c
 
 -- the note of an access behind which a call has so many more to make
 abbrev pub NotesWith : ℕ → ℕ → Note → Type 0
@@ -142,15 +142,15 @@ NotesWith c zero note = IsAnswered c note
 NotesWith c (suc n) note = note ≡ Quiet
 
 -- an access of what is to end in n accesses: it ends in one less, in these words, and the note says whether that is none
-pub record Advances (c : ℕ) (p : Pool) (n : ℕ) (ws : List ℕ) (u : Underway) (note : Note) : Type 0 where
+pub record Advances (c : ℕ) (p : Pool) (n : ℕ) (ws : List ℕ) (u : Underway) (room : ValueBuf) (note : Note) : Type 0 where
   pub left : ℕ
   pub one : n ≡ suc left
-  pub ends : EndsIn p ws left u
+  pub ends : EndsIn p ws left u room
   pub notes : NotesWith c left note
 
 -- each client with a call that has run alone up to the present will be answered after the accesses that are left of its cost
 abbrev pub AllUnderway : (o : Opening) → List ℕ → List ClientState → (rs : List Record) → AllAlone o rs → Type 0
-AllUnderway o ws clients rs all = (x : RunsAlone o rs) → x.after ≡ [] → (i : ℕ) (y : ClientState) → suc i ≡ x.client → nth clients i ≡ Some y → (n : ℕ) × (length x.steps + n ≡ cost_of o x.client x.before x.call (all x).0) × EndsIn o.setup.pool ws n y.under
+AllUnderway o ws clients rs all = (x : RunsAlone o rs) → x.after ≡ [] → (i : ℕ) (y : ClientState) → suc i ≡ x.client → nth clients i ≡ Some y → (n : ℕ) × (length x.steps + n ≡ cost_of o x.client x.before x.call (all x).0) × EndsIn o.setup.pool ws n y.node.under y.room
 
 -- Each call that runs alone is answered at its cost, and one under way will be.
 pub record AloneSoFar (o : Opening) (ws : List ℕ) (clients : List ClientState) (rs : List Record) : Type 0 where

@@ -7,7 +7,6 @@ use Rattle.clover_words.specs.Preset.{buffers_total, HasDealt}
 use Rattle.clover_words.specs.Tag.{TagParts, tag_number}
 use Rattle.clover_map.specs.History.{own, key_of}
 use Rattle.clover_map.specs.declared.call.Call.{Call}
-use Rattle.clover_map.specs.declared.call.Call.TheVariants.{Get as GetCall}
 use Rattle.clover_map.specs.declared.call.Entry.{Entry}
 use Rattle.clover_script.specs.Form.{call_in}
 use Rattle.clover_script.specs.Lines.{takes}
@@ -25,32 +24,30 @@ use Rattle.clover_plain.specs.Plain.{Plain, view_at, history}
 use Rattle.clover_plain.specs.Preset.{dealt_from}
 use Rattle.clover_cache.specs.Node.{Known, cursor_at, asked, IsSet}
 use Rattle.clover_walk.specs.Standing.{number_of}
-use Rattle.clover_walk.specs.Walking.{key_at}
-use Rattle.clover_get.specs.Getting.{IsOpen}
-use Rattle.clover_get.specs.Holding.{GetHolds}
-use Rattle.clover_put.specs.Answering.{IsBefore}
-use Rattle.clover_put.specs.Holding.{PutHolds}
-use Rattle.clover_put.specs.Putting.{Stage, AtRaise, AtShort, call_at}
+use Rattle.clover_walk.specs.Walking.{made_walk}
+use Rattle.clover_put.specs.Putting.{Stage, AtRaise, AtShort}
 use Rattle.clover_sched.specs.declared.client.ClientState.{ClientState}
-use Rattle.clover_sched.specs.declared.client.Underway.{Underway}
-use Rattle.clover_sched.specs.declared.client.Underway.TheVariants.{Nothing, Get, Write, Raise}
+use Rattle.clover_call.specs.declared.under.Underway.{Underway}
+use Rattle.clover_call.specs.declared.under.Underway.TheVariants.{Nothing, Write}
 use Rattle.clover_sched.specs.declared.event.Event.TheVariants.{Step}
 use Rattle.clover_sched.specs.declared.event.Note.{Note}
 use Rattle.clover_sched.specs.declared.event.Note.TheVariants.{Quiet, Answered}
-use Rattle.clover_node.specs.Beginning.{size_of, ExpectsTag}
-use Rattle.clover_node.specs.Node.{AreCursors}
+use Rattle.clover_call.specs.Beginning.{IsBegun, size_of, ExpectsTag}
+use Rattle.clover_call.specs.Caller.{CallerHolds, HasCommitted, IsUncommitted, call_under, first_caller, is_first, new_tag, slot_of}
 use Rattle.clover_sched.specs.Alone.{EndsIn, Advances}
-use Rattle.clover_sched.specs.Beginning.{IsBegun}
-use Rattle.clover_node.specs.Calling.{Calling, due, after}
-use Rattle.clover_sched.specs.Calls.{UnderStands}
+use Rattle.clover_call.specs.Calling.{Calling, due, after}
+use Rattle.clover_call.specs.Mirroring.{Mirrors}
 use Rattle.clover_sched.specs.Ends.{end_tag}
 use Rattle.clover_sched.specs.Folds.{Doing, listed, words_by, made_by, begun, stepped}
 use Rattle.clover_sched.specs.Record.{Record}
-use Rattle.clover_sched.specs.Run.{Opening, Flushes, IsStep, Tells, begin_note, room}
+use Rattle.clover_sched.specs.Run.{Opening, Flushes, IsStep, Tells, begin_note, own_of, room}
 
--- a client that has done nothing
-abbrev pub idle_client : ClientState
-idle_client = record { under = Nothing; refusing = false; taken = 0; number = 0; cursors = record { last = None; list = [] } }
+-- a client of this pool that has done nothing
+pub record IsIdle (p : Pool) (x : ClientState) : Type 0 where
+  pub node : x.node ≡ first_caller p
+  pub refusing : x.refusing ≡ false
+  pub taken : x.taken ≡ 0
+  pub number : x.number ≡ 0
 
 -- the stock of a client that has committed so often
 abbrev pub stock_at : Setup → ℕ → ℕ → List ℕ
@@ -59,62 +56,60 @@ stock_at s c n = dealt_from s c n (buffers_total s.pool - n)
 -- the acts of the call under way since its start, as the client's view holds them
 abbrev pub since_of : Underway → View → List Act
 since_of Nothing v = []
-since_of (Get g into call) v = cond g.walk.first [] v.pass.since
-since_of (Write c call) v = cond c.walk.first [] v.pass.since
-since_of (Raise c) v = cond c.walk.first [] v.pass.since
+since_of u v = cond (is_first u) [] v.pass.since
 
 -- behind its exchange a call has written its link, and once it has raised that it is to store its shortcut
-abbrev pub HasLinked : Stage → ℕ → List Act → Type 0
-HasLinked (AtRaise u) t acts = Within (wrote_link u t) acts
-HasLinked AtShort t acts = Flushes t acts
-HasLinked at t acts = ⊥
+abbrev pub LinkedAt : Stage → ℕ → List Act → Type 0
+LinkedAt (AtRaise u) t acts = Within (wrote_link u t) acts
+LinkedAt AtShort t acts = Flushes t acts
+LinkedAt at t acts = Unit {0}
 
--- what the client must know where its call stands; the call asked for is that of the step machine
-abbrev pub IsUnder : Pool → View → Underway → Type 0
-IsUnder p v Nothing = Unit {0}
-IsUnder p v (Get g into call) = IsOpen g.stage × (g.walk.pool ≡ p) × GetHolds g v into × (call ≡ GetCall (key_at v.pass.names g.walk.slot))
-IsUnder p v (Write c call) = IsBefore c.stage × (c.walk.pool ≡ p) × PutHolds c v × (call ≡ call_at c v)
-IsUnder p v (Raise c) = (c.walk.pool ≡ p) × PutHolds c v × HasLinked c.stage c.own v.pass.since
+abbrev pub HasLinked : Underway → List Act → Type 0
+HasLinked (Write c) acts = LinkedAt c.stage c.own acts
+HasLinked u acts = Unit {0}
 
--- The client of seat i stands in the pool: it knows the bindings and what is left of its stock, what its call needs, and its cursors; each entry was entered.
+-- The client of seat i stands in the pool: its node is that of this pool and of what it knows, it knows the bindings and what is left of its stock, and its call is kept until it is entered; each entry was entered.
 pub record Stands (o : Opening) (p : Plain) (i : ℕ) (x : ClientState) : Type 0 where
   pub setup : p.setup ≡ o.setup
   pub opened : p.opened ≡ true
   pub entered : p.entries ≡ history p
   pub seat : suc i ≤ o.setup.clients
   pub seats : length p.views ≡ o.setup.clients
-  pub pool : (view_at p i).pass.pool ≡ o.setup.pool
   pub role : (view_at p i).pass.role ≡ ClientRole (suc i)
   pub names : (view_at p i).pass.names ≡ o.names
   pub stock : (view_at p i).pass.stock ≡ stock_at o.setup (suc i) x.taken
   pub number : x.number ≡ length (own p.entries (suc i))
-  pub under : IsUnder o.setup.pool (view_at p i) x.under
-  pub cursors : AreCursors o.setup.pool (view_at p i) x.cursors
+  pub pool : x.node.pool ≡ o.setup.pool
+  pub holds : CallerHolds x.node (view_at p i) x.room
+  pub asked : IsUncommitted x.node.under → x.asked ≡ Some (call_under x.node.under (view_at p i))
+  pub kept : HasCommitted x.node.under → x.asked ≡ None
+  pub linked : HasLinked x.node.under (view_at p i).pass.since
 
--- what the client has under way is what the records say
-abbrev pub UnderMatches : Underway → View → Doing → Type 0
-UnderMatches Nothing v d = d.task ≡ None
-UnderMatches (Get g into call) v d = ((n : ℕ) × (d.task ≡ Some (ClientTask call n))) × (d.decided ≡ None) × (d.since ≡ since_of (Get g into call) v)
-UnderMatches (Write c call) v d = ((n : ℕ) × (d.task ≡ Some (ClientTask call n))) × (d.decided ≡ None) × (d.since ≡ since_of (Write c call) v)
-UnderMatches (Raise c) v d = ((n : ℕ) × (d.task ≡ Some (ClientTask (call_at c v) n))) × (d.decided ≡ Some (reply_of c.own (call_at c v))) × (d.since ≡ since_of (Raise c) v)
-
--- how many buffers of its stock a client has committed, where the calls before the one under way took so many
-abbrev pub taken_by : Underway → ℕ → ℕ
-taken_by (Raise c) n = suc n
-taken_by under n = n
+-- The client with this view has under way what the records say: the task's call, which has its reply once it has committed.
+pub record IsDoing (x : ClientState) (v : View) (d : Doing) : Type 0 where
+  pub written : ℕ
+  pub task : d.task ≡ Some (ClientTask (call_under x.node.under v) written)
+  pub before : IsUncommitted x.node.under → (d.decided ≡ None) × (x.taken ≡ d.taken)
+  pub behind : HasCommitted x.node.under → (d.decided ≡ Some (reply_of (new_tag x.node.under) (call_under x.node.under v))) × (x.taken ≡ suc d.taken)
+  pub since : d.since ≡ since_of x.node.under v
 
 pub record Matches (x : ClientState) (v : View) (d : Doing) : Type 0 where
   pub refusing : x.refusing ≡ d.refusing
-  pub under : UnderMatches x.under v d
-  pub taken : x.taken ≡ taken_by x.under d.taken
+  pub idle : x.node.under ≡ Nothing → (d.task ≡ None) × (x.taken ≡ d.taken)
+  pub busy : x.node.under ≢ Nothing → IsDoing x v d
 
 -- how many buffers of its stock the client has committed or may yet commit
+abbrev pub spent_at : Stage → ℕ → ℕ
+spent_at (AtRaise u) n = n
+spent_at AtShort n = n
+spent_at at n = suc n
+
 abbrev pub spent_by : Underway → ℕ → ℕ
-spent_by (Write c call) n = suc n
-spent_by under n = n
+spent_by (Write c) n = spent_at c.stage n
+spent_by u n = n
 
 abbrev pub spent : ClientState → ℕ
-spent x = spent_by x.under x.taken
+spent x = spent_by x.node.under x.taken
 
 -- the act is the last of these
 abbrev pub IsLast : Act → List Act → Type 0
@@ -145,22 +140,15 @@ pub record Moved (i : ℕ) (x : Access) (e : Option Entry) (p q : Plain) : Type 
 abbrev pub step_record : ℕ → Access → Option Entry → Note → Record
 step_record i x e note = record { event = Step (suc i); access = Some x; note = note; entry = e }
 
--- the slot of what is under way
-abbrev pub slot_of : Underway → ℕ
-slot_of Nothing = 0
-slot_of (Get g into call) = g.walk.slot
-slot_of (Write c call) = c.walk.slot
-slot_of (Raise c) = c.walk.slot
-
 -- an answer sets the cursor of the call's slot to the tag at which it ended, and nothing else sets a cursor
 abbrev pub SetsCursor : ℕ → Act → Note → Known → Known → Type 0
 SetsCursor s act (Answered c reply) k n = (t : TagParts) × (end_tag reply act ≡ tag_number t) × IsSet s t k n
 SetsCursor s act note k n = n ≡ k
 
 -- By the definition of what a call does, this act is the step that is due of what is under way where that stands, and the note tells where it leaves that.
-abbrev pub MakesDue : Underway → Underway → Act → Note → Type 0
-MakesDue x y act note = (call : Call) (own : ℕ) (c : Calling) → UnderStands x call own c
-    → (a : Due) × (k : ℕ) × (due call own c ≡ Some a) × (act ≡ act_of a k) × UnderStands y call own (after call own c k) × Tells call own (after call own c k) note
+abbrev pub MakesDue : ClientState → ClientState → Act → Note → Type 0
+MakesDue x y act note = (call : Call) (own : ℕ) (c : Calling) → Mirrors x.node.under x.room call own c
+    → (a : Due) × (k : ℕ) × (due call own c ≡ Some a) × (act ≡ act_of a k) × Mirrors y.node.under y.room call own (after call own c k) × Tells call own (after call own c k) note
 
 -- The client of seat i made the next access of its call, which came to this note: in any run that leads to where it stood this is a step, and it stands where that leads.
 pub record Went (o : Opening) (i : ℕ) (x y : ClientState) (p q : Plain) (note : Note) : Type 0 where
@@ -171,18 +159,18 @@ pub record Went (o : Opening) (i : ℕ) (x y : ClientState) (p q : Plain) (note 
   pub follows : (d : Doing) → Matches x (view_at p i) d
       → IsStep o (suc i) d p.words (length (own p.entries (suc i))) (step_record i access entry note) × Matches y (view_at q i) (stepped d (Some access) entry note)
   -- a call that goes on has made one access more
-  pub longer : y.under ≢ Nothing → length (since_of y.under (view_at q i)) ≡ suc (length (since_of x.under (view_at p i)))
+  pub longer : y.node.under ≢ Nothing → length (since_of y.node.under (view_at q i)) ≡ suc (length (since_of x.node.under (view_at p i)))
   pub spent : spent y ≤ spent x
-  pub cursor : SetsCursor (slot_of x.under) access.act note x.cursors y.cursors
-  pub calls : access.refused ≡ false → MakesDue x.under y.under access.act note
+  pub cursor : SetsCursor (slot_of x.node.under) access.act note x.node.cursors y.node.cursors
+  pub calls : access.refused ≡ false → MakesDue x y access.act note
   -- where its call is to end in so many accesses made alone, this one was one of them
-  pub alone : (n : ℕ) → access.refused ≡ false → EndsIn o.setup.pool p.words n x.under → Advances (suc i) o.setup.pool n q.words y.under note
+  pub alone : (n : ℕ) → access.refused ≡ false → EndsIn o.setup.pool p.words n x.node.under x.room → Advances (suc i) o.setup.pool n q.words y.node.under y.room note
 
 -- a client that has committed so often begins this call: on a slot of its key, at its cursor of that slot where it has one, with a value that a buffer has room for, and where it writes with the next buffer that it was dealt
 pub record Starts (o : Opening) (c n : ℕ) (known : Known) (call : Call) (u : Underway) : Type 0 where
   pub slot : ℕ
   pub named : Within (slot, key_of call) o.names
-  pub begun : IsBegun o.setup slot (number_of (cursor_at slot known)) c n call u
+  pub begun : IsBegun (made_walk o.setup.pool slot (number_of (cursor_at slot known))) (own_of o.setup c n) call u
   pub fits : size_of call ≤ room o.setup
   pub dealt : takes call ≡ 1 → HasDealt o.setup c n
 
@@ -192,10 +180,10 @@ pub record Begins (o : Opening) (p : Plain) (i : ℕ) (x y : ClientState) (t : T
   pub says : (d : Doing) → d.task ≡ None → note ≡ begin_note o.setup d (suc i) t
   pub matches : (d : Doing) → Matches x (view_at p i) d → Matches y (view_at p i) (begun d t note)
   pub spent : spent y ≤ spent x + takes (call_in t)
-  pub starts : note ≡ Quiet → Starts o (suc i) x.taken x.cursors (call_in t) y.under
+  pub starts : note ≡ Quiet → Starts o (suc i) x.taken x.node.cursors (call_in t) y.node.under
   -- it looked up the cursor of its key's slot, and where it began nothing none
-  pub asks : note ≡ Quiet → (s : ℕ) × Within (s, key_of (call_in t)) o.names × (y.cursors ≡ asked s x.cursors)
-  pub away : (note ≡ Quiet → ⊥) → y.cursors ≡ x.cursors
+  pub asks : note ≡ Quiet → (s : ℕ) × Within (s, key_of (call_in t)) o.names × (y.node.cursors ≡ asked s x.node.cursors)
+  pub away : (note ≡ Quiet → ⊥) → y.node.cursors ≡ x.node.cursors
 
 -- the call keeps the first bytes of the value as it was written, at most 1,024
 abbrev pub IsTask : Task → Type 0

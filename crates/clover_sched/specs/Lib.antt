@@ -4,11 +4,9 @@ pub mod Ends
 pub mod Run
 pub mod Lines
 pub mod Text
-pub mod Calls
 pub mod Alone
 pub mod Client
-pub mod Writing
-pub mod Beginning
 pub mod Machine
 pub mod Kept
 pub mod Running
+pub mod Stepping

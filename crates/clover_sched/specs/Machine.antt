@@ -21,14 +21,15 @@ use Rattle.clover_cache.specs.Node.{Known}
 use Rattle.clover_plain.specs.Plain.{Plain, Kept, history, view_at}
 use Rattle.clover_plain.specs.Preset.{IsPreset, AreDistinct}
 use Rattle.clover_sched.specs.declared.client.ClientState.{ClientState}
-use Rattle.clover_sched.specs.declared.client.Underway.{Underway}
-use Rattle.clover_sched.specs.declared.client.Underway.TheVariants.{Nothing}
+use Rattle.clover_words.specs.declared.bytes.ValueBuf.{ValueBuf}
+use Rattle.clover_call.specs.declared.under.Underway.{Underway}
+use Rattle.clover_call.specs.declared.under.Underway.TheVariants.{Nothing}
 use Rattle.clover_sched.specs.declared.event.Event.{Event}
 use Rattle.clover_sched.specs.declared.event.Event.TheVariants.{Begin, Step, Refuse}
 use Rattle.clover_sched.specs.declared.event.Note.{Note}
 use Rattle.clover_sched.specs.Alone.{AllFound, AloneSoFar}
-use Rattle.clover_node.specs.Calling.{Calling, own_words}
-use Rattle.clover_sched.specs.Calls.{UnderStands}
+use Rattle.clover_call.specs.Calling.{Calling, own_words}
+use Rattle.clover_call.specs.Mirroring.{Mirrors}
 use Rattle.clover_sched.specs.Client.{Stands, Matches, IsLast, IsTask, spent, since_of}
 use Rattle.clover_sched.specs.Ends.{ended, IsLatest}
 use Rattle.clover_sched.specs.Folds.{Doing, entries_in, accesses_in, words_after, made_in, doing, along}
@@ -73,10 +74,10 @@ pub record Remembers (names : List (ℕ × List ℕ)) (k : Known) (h : List (Lis
   pub list : All (λ q. IsLatest (key_at names q.0) (tag_number q.1) h × Within (q.0, key_at names q.0) names) k.list
 
 -- Where a call is under way, it is a call with room for its version in a buffer, and stands where its acts since its start have led it, by the definition of what a call does.
-pub record GoesSoFar (o : Opening) (a : ℕ) (d : Doing) (h : List (List ℕ × ℕ)) (u : Underway) : Type 0 where
+pub record GoesSoFar (o : Opening) (a : ℕ) (d : Doing) (h : List (List ℕ × ℕ)) (u : Underway) (room : ValueBuf) : Type 0 where
   pub stands : Calling
   pub calling : IsCalling o a d h d.since stands
-  pub under : UnderStands u calling.call (own_of o.setup a d.taken) stands
+  pub under : Mirrors u room calling.call (own_of o.setup a d.taken) stands
   pub fits : length (own_words calling.call) ≤ o.setup.pool.words + 1
 
 -- The client of seat i is as these records left it.
@@ -84,8 +85,8 @@ pub record IsClientAt (o : Opening) (p : Plain) (i : ℕ) (x : ClientState) (rs 
   pub stands : Stands o p i x
   pub matches : Matches x (view_at p i) (doing (suc i) rs)
   pub spent : spent x ≤ asked (suc i) rs
-  pub cursors : Remembers o.names x.cursors (ended (suc i) rs)
-  pub goes : x.under ≢ Nothing → GoesSoFar o (suc i) (doing (suc i) rs) (ended (suc i) rs) x.under
+  pub cursors : Remembers o.names x.node.cursors (ended (suc i) rs)
+  pub goes : x.node.under ≢ Nothing → GoesSoFar o (suc i) (doing (suc i) rs) (ended (suc i) rs) x.node.under x.room
 
 -- The machine stands where these records lead.
 pub record IsAt (o : Opening) (m : Parts) (rs : List Record) : Type 0 where
@@ -147,7 +148,7 @@ left_by p under v = most_made p - length (since_of under v)
 -- how many accesses the actor's call may still make
 abbrev pub left_of : Parts → ℕ → Option ClientState → ℕ
 left_of m i None = 0
-left_of m i (Some x) = left_by m.setup.pool x.under (view_at m.pool i)
+left_of m i (Some x) = left_by m.setup.pool x.node.under (view_at m.pool i)
 
 abbrev pub left : Parts → ℕ → ℕ
 left m a = left_of m (a - 1) (nth m.clients (a - 1))
@@ -155,7 +156,7 @@ left m a = left_of m (a - 1) (nth m.clients (a - 1))
 -- the actor is a client with a call under way
 abbrev pub HasCall : Option ClientState → Type 0
 HasCall None = ⊥
-HasCall (Some x) = x.under ≢ Nothing
+HasCall (Some x) = x.node.under ≢ Nothing
 
 abbrev pub IsBusy : Parts → ℕ → Type 0
 IsBusy m a = (i : ℕ) × (suc i ≡ a) × HasCall (nth m.clients i)

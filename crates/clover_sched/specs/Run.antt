@@ -30,7 +30,7 @@ use Rattle.clover_sched.specs.declared.event.Event.{Event}
 use Rattle.clover_sched.specs.declared.event.Event.TheVariants.{Begin, Step, Refuse}
 use Rattle.clover_sched.specs.declared.event.Note.{Note}
 use Rattle.clover_sched.specs.declared.event.Note.TheVariants.{Quiet, Answered, Refused, Busy, Missing}
-use Rattle.clover_node.specs.Calling.{Calling, begun_call, due, LeadsTo}
+use Rattle.clover_call.specs.Calling.{Calling, begun_call, due, LeadsTo}
 use Rattle.clover_sched.specs.Ends.{ended, MayBegin}
 use Rattle.clover_sched.specs.Folds.{Doing, entries_in, words_after, doing}
 use Rattle.clover_sched.specs.Record.{Record}

@@ -10,7 +10,7 @@ mod runner;
 mod tests;
 mod text;
 
-pub use client::{ClientState, Underway};
+pub use client::ClientState;
 pub use event::{CallRefusal, Event, Note};
 pub use machine::Machine;
 pub use runner::{Advance, Work, begin_line, work_on};

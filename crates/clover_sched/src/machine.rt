@@ -1,9 +1,9 @@
 // The machine: a pool and its clients, one event at a time.
-ghost use Rattle.std.specs.Prelude.{◌≡◌, ◌<◌, ◌≤◌, ◌++◌, ◌∷◌, [], ◌↔◌, ℕ, List, length, replicate, true, IsTrue, IfOk, OnErr};
+ghost use Rattle.std.specs.Prelude.{◌≡◌, ◌<◌, ◌≤◌, ◌++◌, ◌∷◌, [], ◌↔◌, ℕ, List, length, All, true, IsTrue, IfOk, OnErr};
 ghost use Rattle.clover_words.specs.Preset.{buffers_total};
 ghost use Rattle.clover_map.specs.History.{key_of};
 ghost use Rattle.clover_script.specs.Form.{call_in};
-ghost use Rattle.clover_sched.specs.Client.{idle_client};
+ghost use Rattle.clover_sched.specs.Client.{IsIdle};
 ghost use Rattle.clover_sched.specs.Folds.{entries_in, accesses_in, made_in};
 ghost use Rattle.clover_sched.specs.Machine.{IsAt, IsOpening, Happens, IsSame, MayCome, IsBusy, left};
 ghost use Rattle.clover_sched.specs.Record.{Record};
@@ -14,11 +14,11 @@ ghost use Rattle.clover_sched.specs.declared.event.Note.TheVariants.{Quiet as Is
 use crate::client::ClientState;
 use crate::event::{Event, Note};
 use clover_list::OutOfMemory;
-use clover_map::{Call, Entry, Key};
+use clover_map::{Entry, Key};
 use clover_plain::PlainPool;
 use clover_rule::Access;
 use clover_script::{Names, Task};
-use clover_words::Setup;
+use clover_words::{Pool, Setup};
 use std::alloc::Global;
 use std::marker::Model;
 
@@ -48,13 +48,13 @@ impl Model for Machine {
     ghost invariant = { IsKept };
 }
 
-// So many clients that have done nothing.
-fn idle_clients(alloc: Global, count: u32) -> Result<Vec<ClientState>, OutOfMemory>
-    ensures { IfOk result (λ clients. clients.items ≡ replicate count idle_client) }
+// So many clients of this pool that have done nothing.
+fn idle_clients(alloc: Global, pool: Pool, count: u32) -> Result<Vec<ClientState>, OutOfMemory>
+    ensures { IfOk result (λ clients. (length clients.items ≡ count) × All (IsIdle pool) clients.items) }
 {
     let mut clients = Vec::new(alloc);
     for _ in 0..count {
-        clients.push(ClientState::idle(alloc)?)?;
+        clients.push(ClientState::idle(alloc, pool)?)?;
     }
     Ok(clients)
 }
@@ -64,10 +64,7 @@ fn key_in(task: &Task) -> &Key
     ensures { result.now ≡ key_of (call_in task.now) }
 {
     let Task::Client { call, .. } = task;
-    match call {
-        Call::Get { key } | Call::Put { key, .. } | Call::Delete { key } | Call::Swap { key, .. } =>
-            { key }
-    }
+    call.key()
 }
 
 impl Machine {
@@ -87,7 +84,7 @@ impl Machine {
         let mut pool = PlainPool::make(alloc, setup, trace)?;
         pool.preset(names.keys());
         pool.stands();
-        let clients = idle_clients(alloc, setup.clients)?;
+        let clients = idle_clients(alloc, setup.pool, setup.clients)?;
         Ok(Machine {
             setup,
             names,

@@ -1,8 +1,10 @@
 -- coded texts
-use Rattle.std.proofs.Common.{◌≡◌, ◌/◌, ◌%◌, ◌<◌, ℕ, Bool, true, false, List, [], ◌∷◌, ◌++◌, length, cond, refl, ap, subst, sym, ◌∙◌, arith}
+use Rattle.std.proofs.Common.{zero, suc, ◌≡◌, ◌/◌, ◌%◌, ◌<◌, ℕ, Bool, true, false, List, [], ◌∷◌, ◌++◌, refl, ap, subst, sym, ◌∙◌, arith}
+use Rattle.std.specs.Prelude.{if◌then◌else◌}
 use Rattle.std.proofs.lemmas.Bool.{false≢true}
 use Rattle.std.proofs.lemmas.Bool.Decides.{nat_tests}
-use Rattle.clover_script.specs.Coded.{AreBytes, coded, coded_byte, hex_digit, is_plain}
+use Rattle.clover_words.specs.Pack.{AreBytes}
+use Rattle.clover_script.specs.Coded.{coded, coded_byte, hex_digit, is_plain}
 
 one_hex : (d e : ℕ) → d < 16 → e < 16 → hex_digit d ≡ hex_digit e → d ≡ e
 one_hex d e h k is = grind (arith, nat_tests)
@@ -18,7 +20,7 @@ spelled true b = b ∷ []
 spelled false b = 37 ∷ hex_digit (b / 16) ∷ hex_digit (b % 16) ∷ []
 
 is_spelled : (b : ℕ) → coded_byte b ≡ spelled (is_plain b) b
-is_spelled b = elim (is_plain b) as (λ p. cond p (b ∷ []) (37 ∷ hex_digit (b / 16) ∷ hex_digit (b % 16) ∷ []) ≡ spelled p b) [ true ↦ refl | false ↦ refl ]
+is_spelled b = elim (is_plain b) as (λ p. (if p then b ∷ [] else 37 ∷ hex_digit (b / 16) ∷ hex_digit (b % 16) ∷ []) ≡ spelled p b) [ true ↦ refl | false ↦ refl ]
 
 percent : (b : ℕ) → b ≡ 37 → is_plain b ≡ true → ⊥
 percent b e p = absurd (false≢true (subst (λ x. is_plain x ≡ true) e p))
@@ -43,14 +45,14 @@ no_front true b after e = cc
 no_front false b after e = cc
 
 -- where a coded text goes on behind its first byte
-pub one_front : (b : ℕ) (after all : List ℕ) → b < 256 → AreBytes all → coded_byte b ++ after ≡ coded all → (more : List ℕ) × AreBytes more × (after ≡ coded more)
+pub one_front : (b : ℕ) (after all : List ℕ) → b < 256 → AreBytes all → coded_byte b ++ after ≡ coded all → (more : List ℕ) × AreBytes more × (after ≡ coded more) × (all ≡ b ∷ more)
 one_front b after [] h are e = absurd (no_front (is_plain b) b after (ap (λ s. s ++ after) (sym (is_spelled b)) ∙ e))
-one_front b after (c ∷ cs) h are e = (cs, are.1, (one_byte b c after (coded cs) h are.0 e).1)
+one_front b after (c ∷ cs) h are e = let r = one_byte b c after (coded cs) h (are 0) e in (cs, (λ i. are (suc i)), r.1, ap (λ (x : ℕ). x ∷ cs) (sym r.0))
 
--- a text that begins with no byte's spelling is no coded text
-pub nowhere : (rest more : List ℕ) → AreBytes more → rest ≡ coded more → 0 < length rest → ((b : ℕ) (x : List ℕ) → b < 256 → rest ≡ coded_byte b ++ x → ⊥) → ⊥
-nowhere rest [] are e some none = omega (arith, ap length e)
-nowhere rest (b ∷ bs) are e some none = none b (coded bs) are.0 e
+-- a coded text that begins with no byte's spelling is that of no bytes
+pub nowhere : (rest more : List ℕ) → AreBytes more → rest ≡ coded more → ((b : ℕ) (x : List ℕ) → b < 256 → rest ≡ coded_byte b ++ x → ⊥) → more ≡ []
+nowhere rest [] are e none = refl
+nowhere rest (b ∷ bs) are e none = absurd (none b (coded bs) (are 0) e)
 
 -- a coded text stands for one list of bytes
 pub one_text : (xs ys : List ℕ) → AreBytes xs → AreBytes ys → coded xs ≡ coded ys → xs ≡ ys
@@ -58,11 +60,13 @@ one_text [] [] p q e = refl
 one_text [] (y ∷ ys) p q e = absurd (no_front (is_plain y) y (coded ys) (ap (λ s. s ++ coded ys) (sym (is_spelled y)) ∙ sym e))
 one_text (x ∷ xs) [] p q e = absurd (no_front (is_plain x) x (coded xs) (ap (λ s. s ++ coded xs) (sym (is_spelled x)) ∙ e))
 one_text (x ∷ xs) (y ∷ ys) p q e =
-    let d = one_byte x y (coded xs) (coded ys) p.0 q.0 e in
+    let d = one_byte x y (coded xs) (coded ys) (p 0) (q 0) e in
     let s : x ≡ y = d.0 in
-    let r : xs ≡ ys = one_text xs ys p.1 q.1 d.1 in
+    let r : xs ≡ ys = one_text xs ys (λ i. p (suc i)) (λ i. q (suc i)) d.1 in
     cc
 
 pub are_push : (xs : List ℕ) (b : ℕ) → AreBytes xs → b < 256 → AreBytes (xs ++ b ∷ [])
-are_push [] b h k = (k, tt)
-are_push (x ∷ xs) b h k = (h.0, are_push xs b h.1 k)
+are_push [] b h k zero = k
+are_push [] b h k (suc i) = h i
+are_push (x ∷ xs) b h k zero = h 0
+are_push (x ∷ xs) b h k (suc i) = are_push xs b (λ j. h (suc j)) k i

@@ -1,14 +1,14 @@
 -- texts that are cut, and their lines
-use Rattle.std.proofs.Common.{zero, suc, ◌≡◌, ◌≢◌, ◌==◌, ◌<◌, ◌+◌, ℕ, true, false, Option, Some, None, List, [], ◌∷◌, ◌++◌, length, get_or, take, drop, cond, refl, sym, ap, ◌∙◌, arith}
+use Rattle.std.proofs.Common.{zero, suc, ◌≡◌, ◌≢◌, ◌==◌, ◌<◌, ◌+◌, ℕ, true, false, Option, Some, None, List, [], ◌∷◌, ◌++◌, length, get_or, take, drop, refl, sym, ap, ◌∙◌, arith}
 use Rattle.std.proofs.lemmas.List.{take-append-drop}
-use Rattle.std.specs.Prelude.{IfNone, IfSome, MatchOption, nat_eq}
+use Rattle.std.specs.Prelude.{if◌then◌else◌, IfNone, IfSome, MatchOption, nat_eq}
 use Rattle.std.specs.Cmp.Lexicographic.{pointwise, same_text, other_text}
 use denote.Ref.{Bor}
 use Rattle.std.proofs.lemmas.Bool.Decides.{nat_tests}
 use Rattle.clover_script.specs.Line.{lines_of, with_front}
 use Rattle.clover_script.specs.Split.{Lacks}
 
-no_break : (b : ℕ) (x y : List (List ℕ)) → b ≢ 10 → cond (b == 10) x y ≡ y
+no_break : (b : ℕ) (x y : List (List ℕ)) → b ≢ 10 → (if b == 10 then x else y) ≡ y
 no_break b x y h = grind (arith, nat_tests)
 
 -- a line that LF ends

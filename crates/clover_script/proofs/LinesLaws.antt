@@ -2,13 +2,14 @@
 use Rattle.std.proofs.Common.{◌≡◌, ◌<◌, ◌≤◌, ◌+◌, ◌⊎◌, ℕ, List, [], ◌∷◌, ◌++◌, length, refl, sym, ap, subst, ◌∙◌, inl, inr, arith, append_assoc}
 use Rattle.std.proofs.lemmas.List.Elements.{All-head, All-tail}
 use Rattle.std.proofs.lemmas.Bool.Decides.{leb_tells}
+use Rattle.std.proofs.lemmas.Grind.{flat_map-append}
 use Rattle.std.specs.Prelude.{All, flat_map}
 use Rattle.clover_words.specs.declared.setup.Setup.{Setup}
 use Rattle.clover_words.specs.Preset.{buffers_total}
 use Rattle.clover_map.specs.declared.call.Call.{Call}
 use Rattle.clover_script.specs.declared.line.PoolLine.{PoolLine}
 use Rattle.clover_script.specs.Line.{pool_line, numbers_of, IsPoolLine, HasBadNumbers, IsIgnored, Spoken, IsSpoken, line_text}
-use Rattle.clover_script.specs.Naming.{Names}
+use Rattle.clover_script.specs.Naming.{NamesKeys}
 use Rattle.clover_script.specs.Lines.{calls_in, taken_by, taken, Supplies, Say, Opens, Before, unopened, begun, IsBefore, IsLinesOf, IsClientLine, IsUnbuiltLine, without_shape, too_early, bad_opening, second_opening, too_many_keys, too_many_taken, IsFirstUnbuiltLine, IsRefusedLine}
 use Rattle.clover_script.proofs.SpokenLemmas.{one_spoken, no_pool, not_ignored, pool_stays}
 use Rattle.clover_script.proofs.PoolLineLemmas.{one_pool, are_numbers, none_bad, dealt_also}
@@ -98,10 +99,6 @@ opening_built s line enough e (second_opening h) = h
 opening_built s line enough e (too_many_keys h) = h
 opening_built s line enough e (too_many_taken h) = h
 
-pub calls_append : (xs ys : List Spoken) → flat_map calls_in (xs ++ ys) ≡ flat_map calls_in xs ++ flat_map calls_in ys
-calls_append [] ys = refl
-calls_append (x ∷ xs) ys = ap (λ (l : List Call). calls_in x ++ l) (calls_append xs ys) ∙ sym (append_assoc (calls_in x) (flat_map calls_in xs) (flat_map calls_in ys))
-
 pub taken_append : (c : ℕ) (xs ys : List Spoken) → taken c (xs ++ ys) ≡ taken c xs + taken c ys
 taken_append c [] ys = omega arith
 taken_append c (x ∷ xs) ys = let r = taken_append c xs ys in omega (arith, r)
@@ -117,10 +114,10 @@ said_built s t said other rest keys names line u same p q is e f (too_many_keys 
     let one = one_spoken v u is' is (sym e' ∙ e) in
     let now : calls_in u ≡ call ∷ [] = subst (λ (w : Spoken). calls_in w ≡ call ∷ []) one asks in
     let all : flat_map calls_in said ≡ flat_map calls_in other ++ (call ∷ flat_map calls_in rest) =
-    ap (flat_map calls_in) f ∙ calls_append other (u ∷ rest) ∙ ap (λ (l : List Call). flat_map calls_in other ++ (l ++ flat_map calls_in rest)) now in
-    let parts = names_split [] (flat_map calls_in other) (call ∷ flat_map calls_in rest) keys (subst (λ (l : List Call). Names [] l keys) all p.named) in
+    ap (flat_map calls_in) f ∙ flat_map-append calls_in other (u ∷ rest) ∙ ap (λ (l : List Call). flat_map calls_in other ++ (l ++ flat_map calls_in rest)) now in
+    let parts = names_split [] (flat_map calls_in other) (call ∷ flat_map calls_in rest) keys (subst (λ (l : List Call). NamesKeys [] l keys) all p.named) in
     let between : parts.0 ≡ names = one_names [] (flat_map calls_in other) parts.0 names parts.1 q.named in
-    let next : Names names (call ∷ flat_map calls_in rest) keys = subst (λ (l : List (List ℕ)). Names l (call ∷ flat_map calls_in rest) keys) between parts.2 in
+    let next : NamesKeys names (call ∷ flat_map calls_in rest) keys = subst (λ (l : List (List ℕ)). NamesKeys l (call ∷ flat_map calls_in rest) keys) between parts.2 in
     key_next names call (flat_map calls_in rest) keys s.pool.slots next fresh p.slots (subst (λ (n : PoolLine). n.slots ≤ length names) (sym same) full)
 said_built s t said other rest keys names line u same p q is e f (too_many_taken (v, is', e', c, takes_one, none)) =
     let one = one_spoken v u is' is (sym e' ∙ e) in
@@ -171,7 +168,7 @@ longer_front (a ∷ xs) (b ∷ ys) x y ms ns e lt =
 later : (text : List ℕ) (n m : ℕ) → IsFirstUnbuiltLine text n → IsFirstUnbuiltLine text m → n < m → ⊥
 later text n m a b lt =
     let r = longer_front a.lines b.lines a.line b.line a.more b.more (sym a.parts ∙ b.parts) (omega (arith, a.number, b.number)) in
-    built_line a.lines a.line r.0 b.before a.before (subst (λ (l : List (List ℕ)). IsBefore l b.before) r.1 b.stands) a.stands a.bad
+    built_line a.lines a.line r.0 b.before a.before (subst (λ (l : List (List ℕ)). IsBefore l b.before) r.1 b.so_far) a.so_far a.bad
 
 -- a text is refused at one line
 pub one_refused_line : (text : List ℕ) (n m : ℕ) → IsRefusedLine text n → IsRefusedLine text m → n ≡ m
@@ -182,14 +179,14 @@ one_refused_line text n m (inl a) (inl b) = elim (leb_tells n m) [
   ]
   | inr earlier ↦ absurd (later text m n b a (omega arith))
 ]
-one_refused_line text n m (inl a) (inr b) = absurd (built_line a.lines a.line a.more unopened a.before (subst (All IsIgnored) a.parts b.0) a.stands a.bad)
-one_refused_line text n m (inr a) (inl b) = absurd (built_line b.lines b.line b.more unopened b.before (subst (All IsIgnored) b.parts a.0) b.stands b.bad)
+one_refused_line text n m (inl a) (inr b) = absurd (built_line a.lines a.line a.more unopened a.before (subst (All IsIgnored) a.parts b.0) a.so_far a.bad)
+one_refused_line text n m (inr a) (inl b) = absurd (built_line b.lines b.line b.more unopened b.before (subst (All IsIgnored) b.parts a.0) b.so_far b.bad)
 one_refused_line text n m (inr a) (inr b) = a.1 ∙ sym b.1
 
 -- and then it is no script
 pub lines_not_refused : (text : List ℕ) (s : Setup) (said : List Spoken) (keys : List (List ℕ)) (n : ℕ) → IsLinesOf text s said keys → IsRefusedLine text n → ⊥
 lines_not_refused text s said keys n script (inl a) =
-    built_line a.lines a.line a.more (begun s said keys) a.before (subst (λ (l : List (List ℕ)). IsBefore l (begun s said keys)) a.parts script) a.stands a.bad
+    built_line a.lines a.line a.more (begun s said keys) a.before (subst (λ (l : List (List ℕ)). IsBefore l (begun s said keys)) a.parts script) a.so_far a.bad
 lines_not_refused text s said keys n script (inr none) =
     let over = all_at IsIgnored script.0.over (pool_line (numbers_of s)) script.0.rest (subst (All IsIgnored) script.0.parts none.0) in
     pool_not_over (pool_line (numbers_of s)) (its_pool s) over
@@ -200,5 +197,5 @@ pub one_saying : (text : List ℕ) (s t : Setup) (said other : List Spoken) (key
 one_saying text s t said other keys names a b =
     let same = same_opening a.0.over b.0.over (pool_line (numbers_of s)) (pool_line (numbers_of t)) a.0.rest b.0.rest a.0.ignored b.0.ignored (its_pool s) (its_pool t) (sym a.0.parts ∙ b.0.parts) in
     let told = one_say b.0.rest said other (subst (λ (l : List (List ℕ)). Say l said) same.1 a.0.say) b.0.say in
-    let named : Names [] (flat_map calls_in other) keys = subst (λ (l : List Spoken). Names [] (flat_map calls_in l) keys) told a.1.named in
+    let named : NamesKeys [] (flat_map calls_in other) keys = subst (λ (l : List Spoken). NamesKeys [] (flat_map calls_in l) keys) told a.1.named in
     (one_pool (numbers_of s) (numbers_of t) (are_numbers s) (are_numbers t) same.0, told, one_names [] (flat_map calls_in other) keys names named b.1.named)

@@ -1,16 +1,17 @@
 -- one more line of a script, for a check that reads them one behind the other
-use Rattle.std.proofs.Common.{◌≡◌, ◌<◌, ◌≤◌, ◌+◌, ℕ, Bool, true, false, List, [], ◌∷◌, ◌++◌, length, cond, refl, sym, ap, subst, ◌∙◌, inl, inr, arith, append_assoc, append-nil}
+use Rattle.std.proofs.Common.{◌≡◌, ◌<◌, ◌≤◌, ◌+◌, ℕ, Bool, true, false, List, [], ◌∷◌, ◌++◌, length, refl, sym, ap, subst, ◌∙◌, inl, inr, arith, append_assoc, append-nil}
 use Rattle.std.proofs.lemmas.List.Elements.{All-nil, All-cons, All-append}
 use Rattle.std.proofs.lemmas.Bool.Decides.{leb_tells}
-use Rattle.std.specs.Prelude.{flat_map, nat_eq}
+use Rattle.std.proofs.lemmas.Grind.{flat_map-append}
+use Rattle.std.specs.Prelude.{if◌then◌else◌, ◌==◌, flat_map}
 use Rattle.clover_words.specs.declared.setup.Setup.{Setup}
 use Rattle.clover_words.specs.Preset.{HasDealt, buffers_total}
 use Rattle.clover_map.specs.declared.call.Call.{Call}
 use Rattle.clover_map.specs.declared.call.Call.TheVariants.{Get, Put, Delete, Swap}
 use Rattle.clover_script.specs.Line.{pool_line, numbers_of, IsIgnored, Asked, client, Spoken, says_begin, says_step, says_finish, says_call, says_refuse, IsSpoken, line_text}
-use Rattle.clover_script.specs.Naming.{Names}
+use Rattle.clover_script.specs.Naming.{NamesKeys}
 use Rattle.clover_script.specs.Lines.{calls_in, takes, asked_takes, taken_by, taken, Say, Opens, unopened, begun, IsBefore}
-use Rattle.clover_script.proofs.LinesLaws.{calls_append, taken_append}
+use Rattle.clover_script.proofs.LinesLaws.{taken_append}
 use Rattle.clover_script.proofs.NamingLemmas.{names_append}
 
 -- a line that is passed over changes nothing
@@ -51,7 +52,7 @@ before_first lines s l all e enough = (
   record { named = refl; slots = omega arith; stock = λ c n lt. absurd (omega (arith, lt)) },
 )
 
-takes_most : (b : Bool) (call : Call) → cond b (takes call) 0 ≤ 1
+takes_most : (b : Bool) (call : Call) → (if b then takes call else 0) ≤ 1
 takes_most true (Get k) = omega arith
 takes_most true (Put k v) = omega arith
 takes_most true (Delete k) = omega arith
@@ -59,7 +60,7 @@ takes_most true (Swap k e v) = omega arith
 takes_most false call = omega arith
 
 asked_most : (c a : ℕ) (asked : Asked) → asked_takes c a asked ≤ 1
-asked_most c a (client call) = takes_most (nat_eq a c) call
+asked_most c a (client call) = takes_most (a == c) call
 
 -- a line takes one buffer at most
 pub taken_most : (c : ℕ) (u : Spoken) → taken_by c u ≤ 1
@@ -77,12 +78,12 @@ stock_one s c n before here most lt all one = elim (leb_tells before n) [
 
 -- a line of a client whose keys and buffers there are
 pub before_said : (lines : List (List ℕ)) (s : Setup) (said : List Spoken) (keys now : List (List ℕ)) (l : List ℕ) (u : Spoken) → IsBefore lines (begun s said keys)
-    → IsSpoken u → l ≡ line_text u → Names keys (calls_in u) now → length now ≤ s.pool.slots → ((c : ℕ) → taken_by c u ≡ 1 → HasDealt s c (taken c said))
+    → IsSpoken u → l ≡ line_text u → NamesKeys keys (calls_in u) now → length now ≤ s.pool.slots → ((c : ℕ) → taken_by c u ≡ 1 → HasDealt s c (taken c said))
     → IsBefore (lines ++ l ∷ []) (begun s (said ++ u ∷ []) now)
 before_said lines s said keys now l u (o, p) is e named fits one = (
   opens_longer lines s said (said ++ u ∷ []) l o (say_one o.rest said l u o.say is e),
   record {
-    named = subst (λ (cs : List Call). Names [] cs now) (sym (calls_append said (u ∷ []) ∙ ap (λ (cs : List Call). flat_map calls_in said ++ cs) (append-nil (calls_in u))))
+    named = subst (λ (cs : List Call). NamesKeys [] cs now) (sym (flat_map-append calls_in said (u ∷ []) ∙ ap (λ (cs : List Call). flat_map calls_in said ++ cs) (append-nil (calls_in u))))
         (names_append [] (flat_map calls_in said) (calls_in u) keys now p.named named);
     slots = fits;
     stock = λ c n lt. stock_one s c n (taken c said) (taken_by c u) (taken_most c u) (omega (arith, lt, taken_append c said (u ∷ []))) (p.stock c) (one c);

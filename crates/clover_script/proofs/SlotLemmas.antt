@@ -1,11 +1,11 @@
 -- keys and their slots
-use Rattle.std.proofs.Common.{zero, suc, ◌≡◌, ◌<◌, ℕ, Bool, true, false, Option, Some, None, List, [], ◌∷◌, ◌++◌, length, cond, refl, sym, ap, inl, inr, ◌⊎◌, ◌∙◌, arith}
+use Rattle.std.proofs.Common.{zero, suc, ◌≡◌, ◌<◌, ℕ, Bool, true, false, Option, Some, None, List, [], ◌∷◌, ◌++◌, length, refl, sym, ap, inl, inr, ◌⊎◌, ◌∙◌, arith}
 use Rattle.std.specs.List.{slice_get, Contains}
 use Rattle.std.specs.Cmp.{Equal-is}
 use Rattle.std.specs.Ordering.{nat_cmp, is_eq, ordering_reverse}
 use Rattle.std.specs.declared.cmp.Ordering.{Ordering}
 use Rattle.std.specs.declared.cmp.Ordering.TheVariants.{Less, Equal, Greater}
-use Rattle.std.specs.Prelude.{IfSome, IfNone}
+use Rattle.std.specs.Prelude.{if◌then◌else◌, IfSome, IfNone}
 use Rattle.std.proofs.lemmas.Bool.{false≢true}
 use Rattle.std.proofs.lemmas.Option.{slice_get_within}
 use Rattle.std.specs.Cmp.Lexicographic.{slice_cmp, nat_list_cmp_total}
@@ -54,7 +54,7 @@ one_key k q e = exact_bytes k q ((Equal-is (slice_cmp nat_cmp k q)).0 e)
 
 -- a slot that is in the entries with one key more
 slot_back : (b : Bool) (keys : List (List ℕ)) (es fs : List (List ℕ × ℕ)) (key k : List ℕ) (s : ℕ) → HasSlots keys es → is_at (slice_cmp nat_cmp key) k ≡ b
-    → slot_in fs k ≡ cond b (Some (length keys)) (slot_in es k) → slot_in fs k ≡ Some s → slice_get (keys ++ key ∷ []) s ≡ Some k
+    → slot_in fs k ≡ (if b then Some (length keys) else slot_in es k) → slot_in fs k ≡ Some s → slice_get (keys ++ key ∷ []) s ≡ Some k
 slot_back true keys es fs key k s has at is e =
     let n : s ≡ length keys = cc in
     let same : key ≡ k = one_key key k at in
@@ -62,7 +62,7 @@ slot_back true keys es fs key k s has at is e =
 slot_back false keys es fs key k s has at is e = get_front keys (key ∷ []) s k ((has k s).0 (sym is ∙ e))
 
 slot_there : (b : Bool) (keys : List (List ℕ)) (es fs : List (List ℕ × ℕ)) (key k : List ℕ) (s : ℕ) → HasSlots keys es → (Contains keys key → ⊥) → is_at (slice_cmp nat_cmp key) k ≡ b
-    → slot_in fs k ≡ cond b (Some (length keys)) (slot_in es k) → (slice_get keys s ≡ Some k) ⊎ ((s ≡ length keys) × (k ≡ key)) → slot_in fs k ≡ Some s
+    → slot_in fs k ≡ (if b then Some (length keys) else slot_in es k) → (slice_get keys s ≡ Some k) ⊎ ((s ≡ length keys) × (k ≡ key)) → slot_in fs k ≡ Some s
 slot_there true keys es fs key k s has fresh at is (inl h) =
     let same : k ≡ key = sym (one_key key k at) in
     absurd (fresh (contains_at keys s key (h ∙ ap Some same)))
@@ -74,7 +74,7 @@ slot_there false keys es fs key k s has fresh at is (inr h) =
 
 -- one key more, with the next slot
 pub slots_push : (keys : List (List ℕ)) (es fs : List (List ℕ × ℕ)) (key : List ℕ) → HasSlots keys es → (Contains keys key → ⊥)
-    → ((q : List ℕ) → slot_in fs q ≡ cond (is_at (slice_cmp nat_cmp key) q) (Some (length keys)) (slot_in es q)) → HasSlots (keys ++ key ∷ []) fs
+    → ((q : List ℕ) → slot_in fs q ≡ (if is_at (slice_cmp nat_cmp key) q then Some (length keys) else slot_in es q)) → HasSlots (keys ++ key ∷ []) fs
 slots_push keys es fs key has fresh is k s = (
   slot_back (is_at (slice_cmp nat_cmp key) k) keys es fs key k s has refl (is k),
   λ e. slot_there (is_at (slice_cmp nat_cmp key) k) keys es fs key k s has fresh refl (is k) (get_push keys key s k e),

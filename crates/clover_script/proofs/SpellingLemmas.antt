@@ -1,17 +1,16 @@
 -- what the parts of a line spell, read from their front
-use Rattle.std.proofs.Common.{zero, suc, ◌≡◌, ◌<◌, ◌/◌, ◌%◌, ℕ, Bool, true, false, Option, Some, None, Result, Ok, Err, List, [], ◌∷◌, ◌++◌, length, take, get_or, cond, min, refl, sym, ap, subst, ◌∙◌, arith, append_assoc}
-use Rattle.std.specs.Prelude.{IfOk, IfSome, IfNone, codes}
+use Rattle.std.proofs.Common.{suc, ◌≡◌, ◌<◌, ◌/◌, ◌%◌, ℕ, Bool, true, false, List, [], ◌∷◌, ◌++◌, get_or, refl, sym, ap, ◌∙◌, arith, append_assoc}
+use Rattle.std.specs.Prelude.{if◌then◌else◌, codes}
 use Rattle.std.proofs.lemmas.Bool.Decides.{nat_tests}
+use Rattle.clover_map.specs.Key.{IsKey}
 use Rattle.clover_map.specs.declared.bytes.Value.{Value}
 use Rattle.clover_map.specs.declared.call.Call.{Call}
 use Rattle.clover_map.specs.declared.call.Call.TheVariants.{Get, Put, Delete, Swap}
-use Rattle.clover_script.specs.declared.line.Task.{Task}
-use Rattle.clover_script.specs.declared.line.Task.TheVariants.{Client}
-use Rattle.clover_script.specs.Coded.{AreBytes, coded, is_plain, hex_digit}
+use Rattle.clover_words.specs.Pack.{AreBytes}
+use Rattle.clover_script.specs.Coded.{coded, is_plain, hex_digit}
 use Rattle.clover_script.specs.Split.{Lacks}
-use Rattle.clover_script.specs.Line.{IsKey, IsWritten, IsClientCall, cut_value}
+use Rattle.clover_script.specs.Line.{IsWritten, IsClientCall}
 use Rattle.clover_script.specs.Text.{tag_text, value_text, call_text}
-use Rattle.clover_script.specs.Spelling.{SpellsPut, SpellsSwap, SpellsCall}
 use Rattle.clover_script.proofs.CodedLemmas.{one_text}
 use Rattle.clover_script.proofs.LineLemmas.{one_split}
 use Rattle.clover_script.proofs.PartLemmas.{tag_split}
@@ -20,14 +19,14 @@ pub after_same : (w x y : List ℕ) → w ++ x ≡ w ++ y → x ≡ y
 after_same [] x y e = e
 after_same (b ∷ bs) x y e = let t : bs ++ x ≡ bs ++ y = cc in after_same bs x y t
 
-plain_lacks : (p : Bool) (b : ℕ) (rest : List ℕ) → is_plain b ≡ p → b < 256 → Lacks 32 rest → Lacks 32 (cond p (b ∷ []) (37 ∷ hex_digit (b / 16) ∷ hex_digit (b % 16) ∷ []) ++ rest)
+plain_lacks : (p : Bool) (b : ℕ) (rest : List ℕ) → is_plain b ≡ p → b < 256 → Lacks 32 rest → Lacks 32 ((if p then b ∷ [] else 37 ∷ hex_digit (b / 16) ∷ hex_digit (b % 16) ∷ []) ++ rest)
 plain_lacks true b rest is lt h = (grind (arith, nat_tests), h)
 plain_lacks false b rest is lt h = (grind (arith), (grind (arith, nat_tests), (grind (arith, nat_tests), h)))
 
 -- no space stands in a coded text
 pub coded_lacks : (k : List ℕ) → AreBytes k → Lacks 32 (coded k)
 coded_lacks [] are = tt
-coded_lacks (b ∷ bs) are = plain_lacks (is_plain b) b (coded bs) refl are.0 (coded_lacks bs are.1)
+coded_lacks (b ∷ bs) are = plain_lacks (is_plain b) b (coded bs) refl (are 0) (coded_lacks bs (λ i. are (suc i)))
 
 same_value : (v w : Value) → v.flags ≡ w.flags → v.bytes ≡ w.bytes → v ≡ w
 same_value v w p q = λ i. record { flags = p i; bytes = q i }
@@ -92,57 +91,3 @@ one_client_call (Delete k) (Swap j u w) p q e = absurd (omega (arith, apart (cal
 one_client_call (Swap k t v) (Get j) p q e = absurd (omega (arith, apart (call_text (Swap k t v)) (call_text (Get j)) e))
 one_client_call (Swap k t v) (Put j w) p q e = absurd (omega (arith, apart (call_text (Swap k t v)) (call_text (Put j w)) e))
 one_client_call (Swap k t v) (Delete j) p q e = absurd (omega (arith, apart (call_text (Swap k t v)) (call_text (Delete j)) e))
-
--- as many elements as there are, or n of them, are the first n
-pub kept_front : (n : ℕ) (xs : List ℕ) → take (min (length xs) n) xs ≡ take n xs
-kept_front zero [] = refl
-kept_front zero (x ∷ xs) = let e : min (suc (length xs)) 0 ≡ 0 = omega arith in rw e refl
-kept_front (suc n) [] = let e : min 0 (suc n) ≡ 0 = omega arith in rw e refl
-kept_front (suc n) (x ∷ xs) = let e : min (suc (length xs)) (suc n) ≡ suc (min (length xs) n) = omega arith in rw e (ap (λ l. x ∷ l) (kept_front n xs))
-
-pub get_found : {E : Type 0} (text key : List ℕ) (r : Result (Option Task) E) → text ≡ codes "get " ++ key
-    → IfOk r (λ o. IfSome o (λ task. (k : List ℕ) × IsKey k × (key ≡ coded k) × (task ≡ Client (Get k) 0))) → IfOk r (λ o. IfSome o (SpellsCall text))
-get_found text key (Ok (Some task)) e h = (Get h.0, h.1, e ∙ ap (λ (l : List ℕ). codes "get " ++ l) h.2, h.3)
-get_found text key (Ok None) e h = tt
-get_found text key (Err x) e h = tt
-
-pub delete_found : {E : Type 0} (text key : List ℕ) (r : Result (Option Task) E) → text ≡ codes "delete " ++ key
-    → IfOk r (λ o. IfSome o (λ task. (k : List ℕ) × IsKey k × (key ≡ coded k) × (task ≡ Client (Delete k) 0))) → IfOk r (λ o. IfSome o (SpellsCall text))
-delete_found text key (Ok (Some task)) e h = (Delete h.0, h.1, e ∙ ap (λ (l : List ℕ). codes "delete " ++ l) h.2, h.3)
-delete_found text key (Ok None) e h = tt
-delete_found text key (Err x) e h = tt
-
-put_spelled : (text words value k : List ℕ) (v : Value) → text ≡ codes "put " ++ words → words ≡ coded k ++ 32 ∷ value → value ≡ value_text v → text ≡ call_text (Put k v)
-put_spelled text words value k v e f g =
-    e ∙ ap (λ (l : List ℕ). codes "put " ++ l) (f ∙ ap (λ (l : List ℕ). coded k ++ 32 ∷ l) g) ∙ sym (put_parts k v)
-
-pub put_found : {E : Type 0} (text words : List ℕ) (r : Result (Option Task) E) → text ≡ codes "put " ++ words → IfOk r (λ o. IfSome o (SpellsPut words)) → IfOk r (λ o. IfSome o (SpellsCall text))
-put_found text words (Ok (Some task)) e (k, v, n, value, is, spelled, (whole, fits, text_is, v_is, n_is), task_is) = (
-  Put k whole,
-  (is, fits),
-  put_spelled text words value k whole e spelled text_is,
-  task_is ∙ ap (λ (x : Value). Client (Put k x) n) v_is ∙ ap (λ (m : ℕ). Client (Put k (cut_value whole)) m) n_is,
-)
-put_found text words (Ok None) e h = tt
-put_found text words (Err x) e h = tt
-
-swap_spelled : (text words value k : List ℕ) (t : ℕ) (v : Value) → text ≡ codes "swap " ++ words → words ≡ coded k ++ 32 ∷ (tag_text t ++ 32 ∷ value) → value ≡ value_text v → text ≡ call_text (Swap k t v)
-swap_spelled text words value k t v e f g =
-    e ∙ ap (λ (l : List ℕ). codes "swap " ++ l) (f ∙ ap (λ (l : List ℕ). coded k ++ 32 ∷ (tag_text t ++ 32 ∷ l)) g) ∙ sym (swap_parts k t v)
-
-pub swap_found : {E : Type 0} (text words : List ℕ) (r : Result (Option Task) E) → text ≡ codes "swap " ++ words → IfOk r (λ o. IfSome o (SpellsSwap words)) → IfOk r (λ o. IfSome o (SpellsCall text))
-swap_found text words (Ok (Some task)) e (k, t, v, n, value, is, small, spelled, (whole, fits, text_is, v_is, n_is), task_is) = (
-  Swap k t whole,
-  (is, small, fits),
-  swap_spelled text words value k t whole e spelled text_is,
-  task_is ∙ ap (λ (x : Value). Client (Swap k t x) n) v_is ∙ ap (λ (m : ℕ). Client (Swap k t (cut_value whole)) m) n_is,
-)
-swap_found text words (Ok None) e h = tt
-swap_found text words (Err x) e h = tt
-
--- a fact of what there is, and of there being nothing
-pub some_is : {A : Type 0} (P : A → Type 0) (o : Option A) (x : A) → o ≡ Some x → IfSome o P → P x
-some_is {A} P o x is h = subst (λ (r : Option A). IfSome r P) is h
-
-pub none_is : {A P : Type 0} (o : Option A) → o ≡ None → IfNone o P → P
-none_is {A} {P} o is h = subst (λ (r : Option A). IfNone r P) is h

@@ -1,14 +1,12 @@
 -- the lines of clients, as they are written and as they are kept
-use Rattle.std.proofs.Common.{◌≡◌, ◌<◌, ◌^◌, ℕ, Option, Some, None, List, ◌∷◌, ◌++◌, length, sym, ap, subst, ◌∙◌, inl, inr, arith}
-use Rattle.std.specs.Prelude.{decimal, codes, IfSome}
+use Rattle.std.proofs.Common.{◌≡◌, ◌<◌, ◌^◌, ℕ, List, ◌∷◌, ◌++◌, length, sym, ap, subst, ◌∙◌, inl, inr, arith}
+use Rattle.std.specs.Prelude.{decimal, codes}
 use Rattle.std.proofs.lemmas.Fmt.{decimal_injective}
 use Rattle.clover_script.specs.declared.line.PoolLine.{PoolLine}
 use Rattle.clover_script.specs.declared.line.Line.{Line}
-use Rattle.clover_script.specs.declared.line.Line.TheVariants as kept
-use Rattle.clover_script.specs.declared.line.Task.{Task}
-use Rattle.clover_script.specs.Line.{IsActor, AreTimes, pool_line, IsPoolLine, Asked, client, IsAsked, asked_text, Spoken, says_begin, says_step, says_finish, says_call, says_refuse, IsSpoken, line_text, kept_line, IsLineOf, IsIgnored}
+use Rattle.clover_script.specs.Line.{IsActor, pool_line, IsPoolLine, Asked, client, IsAsked, asked_text, Spoken, says_begin, says_step, says_finish, says_call, says_refuse, IsSpoken, line_text, kept_line, IsLineOf, IsIgnored}
 use Rattle.clover_script.specs.Text.{call_text}
-use Rattle.clover_script.specs.Spelling.{SpellsCall, SpellsNoCall, SpellsAsked, SpellsNothingAsked}
+use Rattle.clover_script.specs.Spelling.{SpellsNoCall, SpellsNothingAsked}
 use Rattle.clover_script.proofs.PartLemmas.{number_split}
 use Rattle.clover_script.proofs.SpellingLemmas.{after_same, apart, one_client_call}
 use Rattle.clover_script.proofs.PoolLineLemmas.{pool_parts, nodes_on}
@@ -96,21 +94,7 @@ apart_lines text = (
   λ pool over. pool_stays pool.0 (subst IsIgnored pool.2 over),
 )
 
--- the lines that the reader finds
-pub step_line : (line words : List ℕ) (o : Option Line) → line ≡ codes "step " ++ words
-    → IfSome o (λ l. (a : ℕ) × (n : ℕ) × IsActor a × AreTimes n × (words ≡ decimal a ++ 32 ∷ decimal n) × (l ≡ kept.Step a n)) → IfSome o (IsLineOf line)
-step_line line words None e h = tt
-step_line line words (Some l) e (a, n, is, times, f, l_is) = (says_step a n, (is, times), e ∙ ap (λ (w : List ℕ). codes "step " ++ w) f, l_is)
-
-pub asked_found : (text words : List ℕ) (a : ℕ) (task : Task) → IsActor a → text ≡ decimal a ++ 32 ∷ words → SpellsCall words task → SpellsAsked text a task
-asked_found text words a task is e (call, is_call, f, task_is) = (client call, (is, is_call), e ∙ ap (λ (w : List ℕ). decimal a ++ 32 ∷ w) f, task_is)
-
+-- a text whose actor is followed by no call
 pub no_asked : (text words : List ℕ) (a : ℕ) → IsActor a → text ≡ decimal a ++ 32 ∷ words → SpellsNoCall words → SpellsNothingAsked text
 no_asked text words a is e none b (client call) p f =
     none call p.1 (number_split a b words (call_text call) (omega (arith, is)) (omega (arith, p.0)) (sym e ∙ f)).1
-
-pub begin_line : (line words : List ℕ) (a : ℕ) (task : Task) → line ≡ codes "begin " ++ words → SpellsAsked words a task → IsLineOf line (kept.Begin a task)
-begin_line line words a task e (asked, is, f, task_is) = (says_begin a asked, is, e ∙ ap (λ (w : List ℕ). codes "begin " ++ w) f, ap (kept.Begin a) task_is)
-
-pub asked_line : (line words : List ℕ) (a : ℕ) (task : Task) → line ≡ codes "call " ++ words → SpellsAsked words a task → IsLineOf line (kept.Call a task)
-asked_line line words a task e (asked, is, f, task_is) = (says_call a asked, is, e ∙ ap (λ (w : List ℕ). codes "call " ++ w) f, ap (kept.Call a) task_is)

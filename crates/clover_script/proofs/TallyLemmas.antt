@@ -1,18 +1,18 @@
 -- the lines of a script that are checked so far
-use Rattle.std.proofs.Common.{◌≡◌, ◌≤◌, ◌+◌, ℕ, Bool, false, Option, Some, None, Result, Ok, Err, List, [], ◌∷◌, ◌++◌, length, cond, refl, sym, ap, subst, ◌∙◌, inl, inr, arith, append_assoc, append-nil}
+use Rattle.std.proofs.Common.{◌≡◌, ◌≤◌, ◌+◌, ℕ, Bool, false, Option, Some, None, Result, Ok, Err, List, [], ◌∷◌, ◌++◌, length, refl, sym, ap, subst, ◌∙◌, inl, inr, arith, append_assoc, append-nil}
 use Rattle.std.proofs.lemmas.List.{length-append}
 use Rattle.std.proofs.lemmas.Bool.Decides.{nat_tests}
-use Rattle.std.specs.Prelude.{All, IfOk, IfNone, IsTrue, slice_index, nat_eq}
+use Rattle.std.specs.Prelude.{if◌then◌else◌, All, IfOk, IfNone, IsTrue, slice_index, ◌==◌}
 use Rattle.clover_words.specs.declared.setup.Setup.{Setup}
 use Rattle.clover_words.specs.Preset.{HasDealt, buffers_total}
 use Rattle.clover_map.specs.declared.call.Call.{Call}
-use Rattle.clover_map.specs.declared.call.Call.TheVariants.{Get, Put, Delete, Swap}
 use Rattle.clover_script.specs.declared.check.Outline.{Outline}
-use Rattle.clover_script.specs.declared.line.Line.{Line}
 use Rattle.clover_script.specs.declared.line.PoolLine.{PoolLine}
+use Rattle.clover_script.specs.declared.spelled.LineText.{LineText}
 use Rattle.clover_script.specs.declared.tally.Tally.{Tally}
-use Rattle.clover_script.specs.Line.{AreNumbers, lines_of, pool_line, numbers_of, HasBadNumbers, cut_call, IsActor, IsIgnored, client, Spoken, says_begin, says_step, says_finish, says_call, says_refuse, IsSpoken, line_text, kept_line, IsLineOf}
+use Rattle.clover_script.specs.Line.{AreNumbers, lines_of, pool_line, numbers_of, HasBadNumbers, IsActor, IsIgnored, client, Spoken, says_begin, says_step, says_finish, says_call, says_refuse, IsSpoken, line_text}
 use Rattle.clover_script.specs.Lines.{calls_in, takes, taken_by, taken, begun, unopened, IsBefore, IsLinesOf, IsUnbuiltLine, bad_opening, too_many_keys, too_many_taken}
+use Rattle.clover_script.specs.Spelling.{said_by, SpellsLine}
 use Rattle.clover_script.specs.Tally.{Counts, AdmitsCall, BarsCall, AdmitsLine, BarsLine, Adds, Follows, FollowsNot}
 use Rattle.clover_script.proofs.LinesLaws.{taken_append}
 use Rattle.clover_script.proofs.LinesSteps.{before_over, unopened_over, before_first, before_said}
@@ -22,26 +22,14 @@ pub bad_pool : (line : List ℕ) (n : PoolLine) (o : Option Setup) → AreNumber
 bad_pool line n None fits e bad = bad_opening (n, fits, e, bad)
 bad_pool line n (Some s) fits e bad = tt
 
-uncut : (old new : Tally) (a : ℕ) (call : Call) → AdmitsCall old a (cut_call call) new → AdmitsCall old a call new
-uncut old new a (Get k) h = record { setup = h.setup; named = h.named; slots = h.slots; stock = h.stock; counted = h.counted }
-uncut old new a (Put k v) h = record { setup = h.setup; named = h.named; slots = h.slots; stock = h.stock; counted = h.counted }
-uncut old new a (Delete k) h = record { setup = h.setup; named = h.named; slots = h.slots; stock = h.stock; counted = h.counted }
-uncut old new a (Swap k e v) h = record { setup = h.setup; named = h.named; slots = h.slots; stock = h.stock; counted = h.counted }
-
-uncut_bars : (t : Tally) (a : ℕ) (call : Call) → BarsCall t a (cut_call call) → BarsCall t a call
-uncut_bars t a (Get k) h = h
-uncut_bars t a (Put k v) h = h
-uncut_bars t a (Delete k) h = h
-uncut_bars t a (Swap k e v) h = h
-
 -- who takes a buffer is the client that is asked
-the_taker : (c a k : ℕ) → cond (nat_eq a c) k 0 ≡ 1 → (a ≡ c) × (k ≡ 1)
+the_taker : (c a k : ℕ) → (if a == c then k else 0) ≡ 1 → (a ≡ c) × (k ≡ 1)
 the_taker c a k h = (grind (arith, nat_tests), grind (arith, nat_tests))
 
-own_take : (a k : ℕ) → cond (nat_eq a a) k 0 ≡ k
+own_take : (a k : ℕ) → (if a == a then k else 0) ≡ k
 own_take a k = grind (arith, nat_tests)
 
-its_stock : (old new : Tally) (a : ℕ) (call : Call) → AdmitsCall old a call new → (c : ℕ) → cond (nat_eq a c) (takes call) 0 ≡ 1 → HasDealt old.setup c (slice_index old.takes c)
+its_stock : (old new : Tally) (a : ℕ) (call : Call) → AdmitsCall old a call new → (c : ℕ) → (if a == c then takes call else 0) ≡ 1 → HasDealt old.setup c (slice_index old.takes c)
 its_stock old new a call h c one =
     let r = the_taker c a (takes call) one in
     subst (λ (n : ℕ). HasDealt old.setup n (slice_index old.takes n)) r.0 (h.stock r.1)
@@ -61,18 +49,18 @@ finish_adds old a = record { setup = refl; named = refl; slots = λ h. h; stock 
 refuse_adds : (old : Tally) (a : ℕ) → Adds old (says_refuse a) old
 refuse_adds old a = record { setup = refl; named = refl; slots = λ h. h; stock = λ c one. absurd (omega (arith, one)); counted = λ c. omega arith }
 
--- what a line as it is kept does, the line does as it is written
-adds : (old new : Tally) (u : Spoken) → AdmitsLine old (kept_line u) new → Adds old u new
-adds old new (says_begin a (client call)) h = begin_adds old new a call (uncut old new a call h)
+-- what a line that is admitted does
+adds : (old new : Tally) (u : Spoken) → AdmitsLine old u new → Adds old u new
+adds old new (says_begin a (client call)) h = begin_adds old new a call h
 adds old new (says_step a n) h = subst (λ (t : Tally). Adds old (says_step a n) t) (sym h) (step_adds old a n)
 adds old new (says_finish a) h = subst (λ (t : Tally). Adds old (says_finish a) t) (sym h) (finish_adds old a)
-adds old new (says_call a (client call)) h = call_adds old new a call (uncut old new a call h)
+adds old new (says_call a (client call)) h = call_adds old new a call h
 adds old new (says_refuse a) h = subst (λ (t : Tally). Adds old (says_refuse a) t) (sym h) (refuse_adds old a)
 
-pub follows_if : {E : Type 0} (old new : Tally) (line : List ℕ) (kept : Line) (r : Result Bool E) → IsLineOf line kept
-    → IfOk r (λ yes. IsTrue yes → AdmitsLine old kept new) → IfOk r (λ yes. IsTrue yes → Follows old line new)
-follows_if old new line kept (Ok b) (u, is, e, same) h = λ yes. inr (u, is, e, adds old new u (subst (λ (l : Line). AdmitsLine old l new) same (h yes)))
-follows_if old new line kept (Err e) is h = tt
+pub follows_if : {E : Type 0} (old new : Tally) (line : List ℕ) (parts : LineText) (r : Result Bool E) → SpellsLine line parts
+    → IfOk r (λ yes. IsTrue yes → (bytes : List ℕ) → AdmitsLine old (said_by parts bytes) new) → IfOk r (λ yes. IsTrue yes → Follows old line new)
+follows_if old new line parts (Ok b) (bytes, has, is, e) h = λ yes. inr (said_by parts bytes, is, e, adds old new (said_by parts bytes) (h yes bytes))
+follows_if old new line parts (Err e) is h = tt
 
 -- a call that is not admitted bars its line
 barred : (t : Tally) (said : List Spoken) (line : List ℕ) (u : Spoken) (a : ℕ) (call : Call) → IsSpoken u → line ≡ line_text u → IsActor a
@@ -81,25 +69,25 @@ barred t said line u a call is e actor asks own counts (inl h) =
     too_many_taken (u, is, e, a, own ∙ h.0, λ dealt. h.1 (subst (HasDealt t.setup a) (sym (counts a actor)) dealt))
 barred t said line u a call is e actor asks own counts (inr h) = too_many_keys (u, is, e, call, asks, h.0, h.1)
 
-bars : (t : Tally) (said : List Spoken) (line : List ℕ) (u : Spoken) → IsSpoken u → line ≡ line_text u → Counts t said → BarsLine t (kept_line u)
+bars : (t : Tally) (said : List Spoken) (line : List ℕ) (u : Spoken) → IsSpoken u → line ≡ line_text u → Counts t said → BarsLine t u
     → IsUnbuiltLine (begun t.setup said t.names) line
-bars t said line (says_begin a (client call)) is e counts h = barred t said line (says_begin a (client call)) a call is e is.0 refl (own_take a (takes call)) counts (uncut_bars t a call h)
+bars t said line (says_begin a (client call)) is e counts h = barred t said line (says_begin a (client call)) a call is e is.0 refl (own_take a (takes call)) counts h
 bars t said line (says_step a n) is e counts h = absurd h
 bars t said line (says_finish a) is e counts h = absurd h
-bars t said line (says_call a (client call)) is e counts h = barred t said line (says_call a (client call)) a call is e is.0 refl (own_take a (takes call)) counts (uncut_bars t a call h)
+bars t said line (says_call a (client call)) is e counts h = barred t said line (says_call a (client call)) a call is e is.0 refl (own_take a (takes call)) counts h
 bars t said line (says_refuse a) is e counts h = absurd h
 
-pub follows_not_if : {E : Type 0} (t : Tally) (line : List ℕ) (kept : Line) (r : Result Bool E) → IsLineOf line kept
-    → IfOk r (λ yes. yes ≡ false → BarsLine t kept) → IfOk r (λ yes. yes ≡ false → FollowsNot t line)
-follows_not_if t line kept (Ok b) (u, is, e, same) h = λ no said counts. bars t said line u is e counts (subst (BarsLine t) same (h no))
-follows_not_if t line kept (Err e) is h = tt
+pub follows_not_if : {E : Type 0} (t : Tally) (line : List ℕ) (parts : LineText) (r : Result Bool E) → SpellsLine line parts
+    → IfOk r (λ yes. yes ≡ false → (bytes : List ℕ) → BarsLine t (said_by parts bytes)) → IfOk r (λ yes. yes ≡ false → FollowsNot t line)
+follows_not_if t line parts (Ok b) (bytes, has, is, e) h = λ no said counts. bars t said line (said_by parts bytes) is e counts (h no bytes)
+follows_not_if t line parts (Err e) is h = tt
 
 -- Of the text so many lines are read, which set up what the tally keeps, and the rest is left.
 pub record IsTallied (text : List ℕ) (s : Setup) (keys : List (List ℕ)) (counts : List ℕ) (rest : List ℕ) (lines : ℕ) : Type 0 where
   pub front : List (List ℕ)
   pub said : List Spoken
   pub parts : lines_of text ≡ front ++ lines_of rest
-  pub stands : IsBefore front (begun s said keys)
+  pub so_far : IsBefore front (begun s said keys)
   pub counted : (c : ℕ) → IsActor c → slice_index counts c ≡ taken c said
   pub number : lines ≡ length front
 
@@ -126,7 +114,7 @@ tallied_first text line rest after n s t (over, all, read, number) next opens se
       front = over ++ line ∷ [];
       said = [];
       parts = one_further text line rest after over read next;
-      stands = before_first over s line all opens.0 opens.1;
+      so_far = before_first over s line all opens.0 opens.1;
       counted = λ c is. none c;
       number = simp length-append (omega (arith, number));
     } in
@@ -148,7 +136,7 @@ tallied_next text line rest after old new lines h next (inl (over, same)) =
       front = h.front ++ line ∷ [];
       said = h.said;
       parts = one_further text line rest after h.front h.parts next;
-      stands = before_over h.front old.setup h.said old.names line over h.stands;
+      so_far = before_over h.front old.setup h.said old.names line over h.so_far;
       counted = h.counted;
       number = simp length-append (omega (arith, h.number));
     } in
@@ -158,7 +146,7 @@ tallied_next text line rest after old new lines h next (inr (u, is, e, a)) =
       front = h.front ++ line ∷ [];
       said = h.said ++ u ∷ [];
       parts = one_further text line rest after h.front h.parts next;
-      stands = before_said h.front old.setup h.said old.names new.names line u h.stands is e a.named (a.slots h.stands.1.slots)
+      so_far = before_said h.front old.setup h.said old.names new.names line u h.so_far is e a.named (a.slots h.so_far.1.slots)
           (λ c one. subst (HasDealt old.setup c) (h.counted c (taker_is_actor c u is one)) (a.stock c one));
       counted = λ c actor. omega (arith, a.counted c, h.counted c actor, taken_append c h.said (u ∷ []));
       number = simp length-append (omega (arith, h.number));
@@ -174,5 +162,5 @@ pub tallied_all : (text rest : List ℕ) (t : Tally) (lines : ℕ) (o : Outline)
     → (said : List Spoken) × IsLinesOf text o.setup said o.names
 tallied_all text rest t lines o h none outlined =
     let all : lines_of text ≡ h.front = h.parts ∙ ap (λ (ls : List (List ℕ)). h.front ++ ls) (no_text rest none) ∙ append-nil h.front in
-    let made : IsLinesOf text t.setup h.said t.names = subst (λ (ls : List (List ℕ)). IsBefore ls (begun t.setup h.said t.names)) (sym all) h.stands in
+    let made : IsLinesOf text t.setup h.said t.names = subst (λ (ls : List (List ℕ)). IsBefore ls (begun t.setup h.said t.names)) (sym all) h.so_far in
     subst (λ (p : Outline). (said : List Spoken) × IsLinesOf text p.setup said p.names) (sym outlined) (h.said, made)

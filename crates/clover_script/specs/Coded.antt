@@ -1,5 +1,5 @@
 -- coded texts: printable bytes stand for themselves, every other byte is a percent sign and two digits
-use Rattle.std.specs.Prelude.{ℕ, ◌+◌, ◌-◌, ◌/◌, ◌%◌, ◌<◌, ◌==◌, Bool, ◌&&◌, not, nat_le, nat_lt, if◌then◌else◌, List, [], ◌∷◌, flat_map}
+use Rattle.std.specs.Prelude.{ℕ, ◌+◌, ◌-◌, ◌/◌, ◌%◌, ◌==◌, Bool, ◌&&◌, not, nat_le, nat_lt, if◌then◌else◌, List, [], ◌∷◌, flat_map}
 
 -- a digit below 16, in lower case
 abbrev pub hex_digit : ℕ → ℕ
@@ -20,8 +20,3 @@ coded_byte b = if is_plain b then b ∷ [] else 37 ∷ hex_byte b
 -- the coded text of some bytes
 abbrev pub coded : List ℕ → List ℕ
 coded bytes = flat_map coded_byte bytes
-
--- every number is a byte
-abbrev pub AreBytes : List ℕ → Type 0
-AreBytes [] = Unit {0}
-AreBytes (b ∷ bs) = (b < 256) × AreBytes bs

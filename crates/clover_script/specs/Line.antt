@@ -1,7 +1,9 @@
 -- the lines of a script: the pool line, and the lines of clients
 use Rattle.std.specs.Prelude.{◌≡◌, ℕ, ◌*◌, ◌^◌, ◌<◌, ◌≤◌, ◌==◌, ◌⊎◌, if◌then◌else◌, List, [], ◌∷◌, ◌++◌, length, take, decimal, codes, IsSome}
 use Rattle.clover_words.specs.declared.setup.Setup.{Setup}
+use Rattle.clover_words.specs.Pack.{AreBytes}
 use Rattle.clover_words.specs.Range.{first_fault, first_setup_fault}
+use Rattle.clover_map.specs.Key.{IsKey}
 use Rattle.clover_map.specs.declared.bytes.Value.{Value}
 use Rattle.clover_map.specs.declared.call.Call.{Call}
 use Rattle.clover_map.specs.declared.call.Call.TheVariants.{Get, Put, Delete, Swap}
@@ -10,7 +12,6 @@ use Rattle.clover_script.specs.declared.line.Task.{Task}
 use Rattle.clover_script.specs.declared.line.Task.TheVariants.{Client}
 use Rattle.clover_script.specs.declared.line.Line.{Line}
 use Rattle.clover_script.specs.declared.line.Line.TheVariants as kept
-use Rattle.clover_script.specs.Coded.{AreBytes}
 use Rattle.clover_script.specs.Text.{call_text}
 
 -- the first element put in front of the first list
@@ -63,10 +64,6 @@ HasBadNumbers n =
 -- the text is a pool line that opens no script
 abbrev pub IsBadPool : List ℕ → Type 0
 IsBadPool line = (n : PoolLine) × AreNumbers n × (line ≡ pool_line n) × HasBadNumbers n
-
--- a key as a script may have it: 1 to 250 bytes
-abbrev pub IsKey : List ℕ → Type 0
-IsKey k = (1 ≤ length k) × (length k ≤ 250) × AreBytes k
 
 -- a value as a script may have it: flags 0, and up to 65,535 bytes
 abbrev pub IsWritten : Value → Type 0

@@ -6,7 +6,7 @@ use Rattle.clover_map.specs.declared.call.Call.{Call}
 use Rattle.clover_map.specs.declared.call.Call.TheVariants.{Get, Put, Delete, Swap}
 use Rattle.clover_map.specs.History.{key_of}
 use Rattle.clover_script.specs.Line.{lines_of, pool_line, numbers_of, IsPoolLine, IsBadPool, IsIgnored, Asked, client, Spoken, says_begin, says_step, says_finish, says_call, says_refuse, IsSpoken, line_text}
-use Rattle.clover_script.specs.Naming.{Names}
+use Rattle.clover_script.specs.Naming.{NamesKeys}
 
 -- the one call of a task
 abbrev pub asked_calls : Asked → List Call
@@ -47,7 +47,7 @@ taken c (s ∷ ss) = taken_by c s + taken c ss
 -- The setup has what these lines, which name these keys, ask of the preset pool. A client that the setup
 -- does not have has no buffer.
 pub record Supplies (s : Setup) (said : List Spoken) (keys : List (List ℕ)) : Type 0 where
-  pub named : Names [] (flat_map calls_in said) keys
+  pub named : NamesKeys [] (flat_map calls_in said) keys
   pub slots : length keys ≤ s.pool.slots
   pub stock : (c n : ℕ) → n < taken c said → HasDealt s c n
 
@@ -137,7 +137,7 @@ pub record IsFirstUnbuiltLine (text : List ℕ) (n : ℕ) : Type 0 where
   pub line : List ℕ
   pub more : List (List ℕ)
   pub parts : lines_of text ≡ lines ++ line ∷ more
-  pub stands : IsBefore lines before
+  pub so_far : IsBefore lines before
   pub bad : IsUnbuiltLine before line
   pub number : n ≡ length lines + 1
 

@@ -1,44 +1,75 @@
--- what the parts of a line spell, and how it is kept: a value, a call, and what an actor is asked for
-use Rattle.std.specs.Prelude.{◌≡◌, ℕ, ◌^◌, ◌<◌, List, ◌∷◌, ◌++◌, length, decimal}
+-- what a text spells, with a value that is not decoded: what its parts say where the value has certain bytes, and which parts a text has
+use Rattle.std.specs.Prelude.{◌≡◌, ℕ, List, ◌∷◌, ◌++◌, length, decimal}
 use Rattle.clover_map.specs.declared.bytes.Value.{Value}
 use Rattle.clover_map.specs.declared.call.Call.{Call}
-use Rattle.clover_script.specs.declared.line.Task.{Task}
-use Rattle.clover_script.specs.declared.line.Task.TheVariants.{Client}
-use Rattle.clover_map.specs.declared.call.Call.TheVariants.{Put, Swap}
+use Rattle.clover_map.specs.declared.call.Call.TheVariants.{Get, Put, Delete, Swap}
+use Rattle.clover_script.specs.declared.spelled.ValueText.{ValueText}
+use Rattle.clover_script.specs.declared.spelled.CallText.{CallText}
+use Rattle.clover_script.specs.declared.spelled.CallText.TheVariants as spelled
+use Rattle.clover_script.specs.declared.spelled.LineText.{LineText}
+use Rattle.clover_script.specs.declared.spelled.LineText.TheVariants.{Begin, Step, Finish, Call as Calls, Refuse}
 use Rattle.clover_script.specs.Coded.{coded}
-use Rattle.clover_script.specs.Text.{tag_text, value_text, call_text}
-use Rattle.clover_script.specs.Line.{IsKey, IsWritten, IsClientCall, cut_value, task_of, Asked, IsAsked, asked_text, kept_task, Spoken, says_begin, says_step, says_finish, says_call, says_refuse, IsSpoken, line_text}
+use Rattle.clover_script.specs.Text.{call_text}
+use Rattle.clover_script.specs.Line.{IsWritten, IsClientCall, Asked, client, IsAsked, asked_text, Spoken, says_begin, says_step, says_finish, says_call, says_refuse, IsSpoken, line_text}
 
--- the text spells a value, which is kept as v and has so many bytes
-abbrev pub SpellsValue : List ℕ → Value → ℕ → Type 0
-SpellsValue text v n = (whole : Value) × IsWritten whole × (text ≡ value_text whole) × (v ≡ cut_value whole) × (n ≡ length whole.bytes)
+-- the value of these bytes
+abbrev pub value_with : List ℕ → Value
+value_with bytes = record { flags = 0; bytes = bytes }
 
--- the text spells a put, behind its first word
-abbrev pub SpellsPut : List ℕ → Task → Type 0
-SpellsPut text task =
-    (k : List ℕ) × (v : Value) × (n : ℕ) × (value : List ℕ) × IsKey k × (text ≡ coded k ++ 32 ∷ value) × SpellsValue value v n × (task ≡ Client (Put k v) n)
+-- the text spells a value of these bytes, and their number stands beside it
+abbrev pub IsValueText : ValueText → List ℕ → Type 0
+IsValueText v bytes = IsWritten (value_with bytes) × (v.text.now ≡ coded bytes) × (v.written ≡ length bytes)
 
--- the text spells a swap, behind its first word
-abbrev pub SpellsSwap : List ℕ → Task → Type 0
-SpellsSwap text task =
-    (k : List ℕ) × (e : ℕ) × (v : Value) × (n : ℕ) × (value : List ℕ) × IsKey k × (e < 2 ^ 42) × (text ≡ coded k ++ 32 ∷ (tag_text e ++ 32 ∷ value))
-    × SpellsValue value v n × (task ≡ Client (Swap k e v) n)
+-- the call of these parts, where its value has these bytes
+abbrev pub call_said : CallText → List ℕ → Call
+call_said (spelled.Get k) bytes = Get k
+call_said (spelled.Put k v) bytes = Put k (value_with bytes)
+call_said (spelled.Delete k) bytes = Delete k
+call_said (spelled.Swap k e v) bytes = Swap k e (value_with bytes)
 
--- the text spells a call, which is kept as the task
-abbrev pub SpellsCall : List ℕ → Task → Type 0
-SpellsCall text task = (call : Call) × IsClientCall call × (text ≡ call_text call) × (task ≡ task_of call)
+-- the value of the call, if it has one, is spelled so
+abbrev pub HasBytes : CallText → List ℕ → Type 0
+HasBytes (spelled.Get k) bytes = Unit {0}
+HasBytes (spelled.Put k v) bytes = IsValueText v bytes
+HasBytes (spelled.Delete k) bytes = Unit {0}
+HasBytes (spelled.Swap k e v) bytes = IsValueText v bytes
+
+-- the line of these parts, where the value in it has these bytes
+abbrev pub said_by : LineText → List ℕ → Spoken
+said_by (Begin a call) bytes = says_begin a (client (call_said call bytes))
+said_by (Step a n) bytes = says_step a n
+said_by (Finish a) bytes = says_finish a
+said_by (Calls a call) bytes = says_call a (client (call_said call bytes))
+said_by (Refuse a) bytes = says_refuse a
+
+-- the value in the line, if there is one, is spelled so
+abbrev pub HasLineBytes : LineText → List ℕ → Type 0
+HasLineBytes (Begin a call) bytes = HasBytes call bytes
+HasLineBytes (Step a n) bytes = Unit {0}
+HasLineBytes (Finish a) bytes = Unit {0}
+HasLineBytes (Calls a call) bytes = HasBytes call bytes
+HasLineBytes (Refuse a) bytes = Unit {0}
+
+-- the text spells a call, and has these parts
+abbrev pub SpellsCall : List ℕ → CallText → Type 0
+SpellsCall text parts = (bytes : List ℕ) × HasBytes parts bytes × IsClientCall (call_said parts bytes) × (text ≡ call_text (call_said parts bytes))
 
 -- the text spells no call
 abbrev pub SpellsNoCall : List ℕ → Type 0
 SpellsNoCall text = (call : Call) → IsClientCall call → text ≡ call_text call → ⊥
 
--- the text spells an actor and what it is asked for, which is kept as the task
-abbrev pub SpellsAsked : List ℕ → ℕ → Task → Type 0
-SpellsAsked text a task = (asked : Asked) × IsAsked a asked × (text ≡ decimal a ++ 32 ∷ asked_text asked) × (task ≡ kept_task asked)
+-- the text spells an actor and a call, which has these parts
+abbrev pub SpellsAsked : List ℕ → ℕ → CallText → Type 0
+SpellsAsked text a parts =
+    (bytes : List ℕ) × HasBytes parts bytes × IsAsked a (client (call_said parts bytes)) × (text ≡ decimal a ++ 32 ∷ call_text (call_said parts bytes))
 
 -- the text spells no actor with something that it is asked for
 abbrev pub SpellsNothingAsked : List ℕ → Type 0
 SpellsNothingAsked text = (a : ℕ) (asked : Asked) → IsAsked a asked → text ≡ decimal a ++ 32 ∷ asked_text asked → ⊥
+
+-- the text is a line of a client, and has these parts
+abbrev pub SpellsLine : List ℕ → LineText → Type 0
+SpellsLine text parts = (bytes : List ℕ) × HasLineBytes parts bytes × IsSpoken (said_by parts bytes) × (text ≡ line_text (said_by parts bytes))
 
 -- a line that asks for no task
 abbrev pub IsTaskless : Spoken → Type 0

@@ -1,10 +1,10 @@
 -- how a text is cut: at a byte, and behind a number
 use Rattle.std.specs.Prelude.{◌≢◌, ℕ, ◌≤◌, List, [], ◌∷◌}
+use Rattle.std.specs.List.{AllByRecursion}
 
 -- the byte stands nowhere in the text
 abbrev pub Lacks : ℕ → List ℕ → Type 0
-Lacks b [] = Unit {0}
-Lacks b (x ∷ xs) = (x ≢ b) × Lacks b xs
+Lacks b text = AllByRecursion (λ x. x ≢ b) text
 
 -- the byte is a decimal digit
 abbrev pub IsDigit : ℕ → Type 0
@@ -12,8 +12,7 @@ IsDigit b = (48 ≤ b) × (b ≤ 57)
 
 -- every byte is a decimal digit
 abbrev pub AreDigits : List ℕ → Type 0
-AreDigits [] = Unit {0}
-AreDigits (b ∷ bs) = IsDigit b × AreDigits bs
+AreDigits text = AllByRecursion IsDigit text
 
 -- no digit stands at the front
 abbrev pub EndsNumber : List ℕ → Type 0

@@ -3,12 +3,11 @@ use Rattle.std.specs.Prelude.{◌≡◌, ℕ, ◌+◌, ◌≤◌, ◌⊎◌, Lis
 use Rattle.clover_words.specs.Preset.{HasDealt}
 use Rattle.clover_map.specs.declared.call.Call.{Call}
 use Rattle.clover_map.specs.History.{key_of}
-use Rattle.clover_script.specs.declared.line.Line.{Line}
-use Rattle.clover_script.specs.declared.line.Line.TheVariants.{Begin, Step, Finish, Call as Calls, Refuse}
+use Rattle.clover_script.specs.declared.spelled.LineText.{LineText}
+use Rattle.clover_script.specs.declared.spelled.LineText.TheVariants.{Begin, Step, Finish, Call as Calls, Refuse}
 use Rattle.clover_script.specs.declared.tally.Tally.{Tally}
-use Rattle.clover_script.specs.Line.{IsActor, IsIgnored, client, Spoken, IsSpoken, line_text}
-use Rattle.clover_script.specs.Form.{call_in}
-use Rattle.clover_script.specs.Naming.{Names, NamesKey}
+use Rattle.clover_script.specs.Line.{IsActor, IsIgnored, client, Spoken, says_begin, says_step, says_finish, says_call, says_refuse, IsSpoken, line_text}
+use Rattle.clover_script.specs.Naming.{NamesKeys, NamesKey}
 use Rattle.clover_script.specs.Lines.{calls_in, takes, asked_takes, taken_by, taken, begun, IsUnbuiltLine}
 
 -- The counts are those of lines that say this.
@@ -35,34 +34,34 @@ IsBeyondKeys t key = (Contains t.names key → ⊥) × (t.setup.pool.slots ≤ l
 abbrev pub BarsCall : Tally → ℕ → Call → Type 0
 BarsCall t a call = IsBeyondDealt t a call ⊎ IsBeyondKeys t (key_of call)
 
--- the actor of a line as it is kept
-abbrev pub actor_in : Line → ℕ
-actor_in (Begin a task) = a
+-- the actor of a line
+abbrev pub actor_in : LineText → ℕ
+actor_in (Begin a call) = a
 actor_in (Step a n) = a
 actor_in (Finish a) = a
-actor_in (Calls a task) = a
+actor_in (Calls a call) = a
 actor_in (Refuse a) = a
 
 -- The line is admitted behind the old tally, and makes it the new one.
-abbrev pub AdmitsLine : Tally → Line → Tally → Type 0
-AdmitsLine old (Begin a task) new = AdmitsCall old a (call_in task) new
-AdmitsLine old (Step a n) new = new ≡ old
-AdmitsLine old (Finish a) new = new ≡ old
-AdmitsLine old (Calls a task) new = AdmitsCall old a (call_in task) new
-AdmitsLine old (Refuse a) new = new ≡ old
+abbrev pub AdmitsLine : Tally → Spoken → Tally → Type 0
+AdmitsLine old (says_begin a (client call)) new = AdmitsCall old a call new
+AdmitsLine old (says_step a n) new = new ≡ old
+AdmitsLine old (says_finish a) new = new ≡ old
+AdmitsLine old (says_call a (client call)) new = AdmitsCall old a call new
+AdmitsLine old (says_refuse a) new = new ≡ old
 
 -- The line is not admitted.
-abbrev pub BarsLine : Tally → Line → Type 0
-BarsLine t (Begin a task) = BarsCall t a (call_in task)
-BarsLine t (Step a n) = ⊥
-BarsLine t (Finish a) = ⊥
-BarsLine t (Calls a task) = BarsCall t a (call_in task)
-BarsLine t (Refuse a) = ⊥
+abbrev pub BarsLine : Tally → Spoken → Type 0
+BarsLine t (says_begin a (client call)) = BarsCall t a call
+BarsLine t (says_step a n) = ⊥
+BarsLine t (says_finish a) = ⊥
+BarsLine t (says_call a (client call)) = BarsCall t a call
+BarsLine t (says_refuse a) = ⊥
 
 -- A line that says this makes the old tally the new one.
 pub record Adds (old : Tally) (u : Spoken) (new : Tally) : Type 0 where
   pub setup : new.setup ≡ old.setup
-  pub named : Names old.names (calls_in u) new.names
+  pub named : NamesKeys old.names (calls_in u) new.names
   pub slots : length old.names ≤ old.setup.pool.slots → length new.names ≤ old.setup.pool.slots
   pub stock : (c : ℕ) → taken_by c u ≡ 1 → HasDealt old.setup c (slice_index old.takes c)
   pub counted : (c : ℕ) → slice_index new.takes c ≡ slice_index old.takes c + taken_by c u

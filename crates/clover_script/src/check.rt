@@ -1,5 +1,6 @@
 // Checking a whole script in one pass, line by line: what it sets up, or the first line that is not built.
-// Lines that are passed over count, and say nothing. Nothing is kept of a line but what the tally counts.
+// Lines that are passed over count, and say nothing. Nothing is kept of a line but what the tally counts, and no memory
+// is taken but for the keys.
 ghost use Rattle.std.specs.Prelude.{◌≡◌, ◌+◌, ◌≤◌, ◌++◌, ◌∷◌, ℕ, List, length, All, IfOk, IfSome, IfNone, IsErrOf};
 ghost use Rattle.clover_words.specs.Preset.{buffers_total};
 ghost use Rattle.clover_script.specs.Line.{lines_of, numbers_of, pool_line, IsIgnored, Spoken};
@@ -8,7 +9,7 @@ ghost use Rattle.clover_script.specs.Lines.{IsLinesOf, IsRefusedLine, IsUnbuiltL
 use crate::keys::Names;
 use crate::line::LineFault;
 use crate::pool_line::{pool_line_of, setup_from};
-use crate::reader::{is_ignored, line_of};
+use crate::reader::{is_ignored, spelled_line};
 use crate::split::first_line;
 use crate::tally::Tally;
 use clover_list::OutOfMemory;
@@ -57,14 +58,14 @@ pub fn check_lines(alloc: Global, text: &[u8]) -> Result<Outline, ScriptFault>
         return Err(unbuilt(over + 1));
     }
     let (line, mut rest) = first_line(rest);
-    let Some(setup) = opening_of(alloc, line)? else {
+    let Some(setup) = opening_of(line) else {
         return Err(unbuilt(over + 1));
     };
     let mut tally = Tally::begin(alloc, setup);
     let mut lines = over + 1;
     while !rest.is_empty() {
         let (line, after) = first_line(rest);
-        if !tally.accept(alloc, line)? {
+        if !tally.accept(line)? {
             return Err(unbuilt(lines + 1));
         }
         lines += 1;
@@ -104,17 +105,17 @@ fn passed_over(text: &[u8]) -> (u64, &[u8])
 }
 
 /// The setup of the first line that is not passed over. None exactly where that line is not built.
-fn opening_of(alloc: Global, line: &[u8]) -> Result<Option<Setup>, OutOfMemory>
+fn opening_of(line: &[u8]) -> Option<Setup>
     requires { IsIgnored line.now → ⊥ }
-    ensures found { IfOk result (λ o. IfSome o (λ s. (line.now ≡ pool_line (numbers_of s)) × (s.pool.slots ≤ buffers_total s.pool))) }
-    ensures none { IfOk result (λ o. IfNone o (IsUnbuiltLine unopened line.now)) }
+    ensures found { IfSome result (λ s. (line.now ≡ pool_line (numbers_of s)) × (s.pool.slots ≤ buffers_total s.pool)) }
+    ensures none { IfNone result (IsUnbuiltLine unopened line.now) }
 {
     if let Some(numbers) = pool_line_of(line) {
-        return Ok(setup_from(numbers));
+        return setup_from(numbers);
     }
-    match line_of(alloc, line)? {
+    match spelled_line(line) {
         // A client's line with no pool line before it.
-        Some(_) => Ok(None),
-        None => Ok(None),
+        Some(_) => None,
+        None => None,
     }
 }

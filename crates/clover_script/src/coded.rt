@@ -1,9 +1,10 @@
 // Coded texts, read and written: printable bytes stand for themselves, every other byte is a percent
 // sign and two digits. Works on bytes alone.
-ghost use Rattle.std.specs.Prelude.{◌≡◌, ◌+◌, ◌*◌, ◌<◌, ℕ, List, ◌++◌, length, IfOk, IfSome, IfNone, OnOk, flat_map};
-ghost use Rattle.clover_script.specs.Coded.{AreBytes, coded, coded_byte, hex_byte, hex_digit, is_plain};
+ghost use Rattle.std.specs.Prelude.{◌≡◌, ◌+◌, ◌*◌, ◌<◌, ℕ, List, ◌++◌, length, IfSome, IfNone, OnOk, flat_map};
+ghost use Rattle.clover_words.specs.Pack.{AreBytes};
+ghost use Rattle.clover_script.specs.Coded.{coded, coded_byte, hex_byte, hex_digit, is_plain};
 
-use std::alloc::{AllocError, Global};
+use std::alloc::AllocError;
 
 /// Whether a byte stands for itself in a coded text.
 fn is_plain(byte: u8) -> bool
@@ -57,23 +58,33 @@ fn first_byte(text: &[u8]) -> Option<(u8, &[u8])>
     }
 }
 
-/// The bytes that a coded text stands for. None exactly where the text is no coded text; an error for
-/// want of memory alone.
-pub fn decode(alloc: Global, text: &[u8]) -> Result<Option<Vec<u8>>, AllocError>
-    ensures found { IfOk result (λ o. IfSome o (λ bytes. text.now ≡ coded bytes.items)) }
-    ensures bytes { IfOk result (λ o. IfSome o (λ bytes. AreBytes bytes.items)) }
-    ensures none { IfOk result (λ o. IfNone o ((bytes : List ℕ) → AreBytes bytes → text.now ≡ coded bytes → ⊥)) }
+/// How many bytes a coded text stands for. None exactly where the text is no coded text.
+pub fn spelled_length(text: &[u8]) -> Option<usize>
+    ensures found { IfSome result (λ n. (bytes : List ℕ) × AreBytes bytes × (text.now ≡ coded bytes) × (n ≡ length bytes)) }
+    ensures none { IfNone result ((bytes : List ℕ) → AreBytes bytes → text.now ≡ coded bytes → ⊥) }
 {
-    let mut bytes = Vec::new(alloc);
+    let mut length = 0;
     let mut rest = text;
     while !rest.is_empty() {
-        let Some((byte, after)) = first_byte(rest) else {
-            return Ok(None);
-        };
-        bytes.push(byte)?;
+        let (_, after) = first_byte(rest)?;
+        length += 1;
         rest = after;
     }
-    Ok(Some(bytes))
+    Some(length)
+}
+
+/// Writes the bytes that a coded text stands for into a room for as many.
+pub fn decode_into(text: &[u8], room: &mut [u8])
+    ensures { (bytes : List ℕ) → AreBytes bytes → text.now ≡ coded bytes → length bytes ≡ length room.old → room.new ≡ bytes }
+{
+    let mut rest = text;
+    for index in 0..room.len() {
+        let Some((byte, after)) = first_byte(rest) else {
+            return;
+        };
+        room[index] = byte;
+        rest = after;
+    }
 }
 
 /// Puts the coded text of some bytes at the end of a text. An error for want of memory alone; then a

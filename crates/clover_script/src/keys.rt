@@ -1,11 +1,10 @@
 // The keys that a script has named so far, in the order of their first naming. Each has the slot of its
 // place in that order.
 ghost use Rattle.std.specs.Prelude.{◌≡◌, ◌+◌, ◌<◌, ◌≤◌, ◌^◌, ℕ, List, [], ◌∷◌, ◌++◌, length, slice_get, Contains, Some, false, IsTrue, IfOk, IfSome, IfNone, OnOk, OnErr};
-ghost use Rattle.clover_map.specs.History.{key_of};
 ghost use Rattle.clover_script.specs.Naming.{NamesKey};
 
 use clover_list::OutOfMemory;
-use clover_map::{Call, Key};
+use clover_map::Key;
 use std::alloc::Global;
 use std::collections::BTreeMap;
 use std::marker::Model;
@@ -87,29 +86,19 @@ impl Names {
 
     /// Names a key, if it is not named already. False, and nothing changes, exactly where it is new and
     /// there are as many keys as there may be. An error for want of memory alone, and then nothing changes.
-    pub fn name(&mut self, key: &Key, most: u32) -> Result<bool, OutOfMemory>
-        ensures yes { IfOk result (λ yes. IsTrue yes → NamesKey self.old key.now self.new) }
+    pub fn name(&mut self, key: Key, most: u32) -> Result<bool, OutOfMemory>
+        ensures yes { IfOk result (λ yes. IsTrue yes → NamesKey self.old key self.new) }
         ensures fits { IfOk result (λ yes. length self.old ≤ most → length self.new ≤ most) }
-        ensures no { IfOk result (λ yes. yes ≡ false → (Contains self.old key.now → ⊥) × (most ≤ length self.old) × (self.new ≡ self.old)) }
+        ensures no { IfOk result (λ yes. yes ≡ false → (Contains self.old key → ⊥) × (most ≤ length self.old) × (self.new ≡ self.old)) }
         ensures err { OnErr result (self.new ≡ self.old) }
     {
-        if self.find(key).is_some() {
+        if self.find(&key).is_some() {
             return Ok(true);
         }
         if self.len() >= most as usize {
             return Ok(false);
         }
-        self.add(key.copy())?;
+        self.add(key)?;
         Ok(true)
-    }
-}
-
-/// The key that a call names.
-pub fn key_in(call: &Call) -> &Key
-    ensures { result.now ≡ key_of call.now }
-{
-    match call {
-        Call::Get { key } | Call::Put { key, .. } | Call::Delete { key } | Call::Swap { key, .. } =>
-            key,
     }
 }

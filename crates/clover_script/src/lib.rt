@@ -11,6 +11,7 @@ mod number;
 mod part;
 mod pool_line;
 mod reader;
+mod spelled;
 mod split;
 mod tally;
 mod task;

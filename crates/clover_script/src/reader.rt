@@ -1,10 +1,11 @@
-// What a line behind the pool line says. Takes memory for the bytes of a key and a value alone.
-ghost use Rattle.std.specs.Prelude.{◌≡◌, ◌↔◌, ℕ, List, ◌∷◌, ◌++◌, decimal, IsTrue, IfOk, IfSome, IfNone};
+// What a line behind the pool line says. Takes memory for the bytes of a value alone.
+ghost use Rattle.std.specs.Prelude.{◌≡◌, ◌↔◌, ℕ, ◌∷◌, ◌++◌, decimal, IsTrue, IfOk, IfSome, IfNone};
 ghost use Rattle.clover_script.specs.Line.{IsActor, AreTimes, IsLineOf, IsNoLine, IsIgnored};
-ghost use Rattle.clover_script.specs.Spelling.{IsNoTasklessLine};
+ghost use Rattle.clover_script.specs.Spelling.{SpellsLine, IsNoTasklessLine};
 
 use crate::line::Line;
 use crate::part::{actor_front, actor_of, times_of};
+use crate::spelled::LineText;
 use crate::split::after_word;
 use crate::task::asked_of;
 use clover_list::OutOfMemory;
@@ -19,45 +20,52 @@ pub fn line_of(alloc: Global, line: &[u8]) -> Result<Option<Line>, OutOfMemory>
     ensures found { IfOk result (λ o. IfSome o (IsLineOf line.now)) }
     ensures none { IfOk result (λ o. IfNone o (IsNoLine line.now)) }
 {
-    if let Some(words) = after_word(line, b"begin ") {
-        return match asked_of(alloc, words)? {
-            Some((actor, task)) => Ok(Some(Line::Begin { actor, task })),
-            None => Ok(None),
-        };
+    match spelled_line(line) {
+        Some(spelled) => Ok(Some(spelled.decode(alloc)?)),
+        None => Ok(None),
     }
-    if let Some(words) = after_word(line, b"call ") {
-        return match asked_of(alloc, words)? {
-            Some((actor, task)) => Ok(Some(Line::Call { actor, task })),
-            None => Ok(None),
-        };
+}
+
+/// The same with the value as the line spells it. It takes no memory.
+pub fn spelled_line(line: &[u8]) -> Option<LineText>
+    ensures found { IfSome result (SpellsLine line.now) }
+    ensures none { IfNone result (IsNoLine line.now) }
+{
+    if let Some(rest) = after_word(line, b"begin ") {
+        let (actor, call) = asked_of(rest)?;
+        return Some(LineText::Begin { actor, call });
     }
-    Ok(taskless_line_of(line))
+    if let Some(rest) = after_word(line, b"call ") {
+        let (actor, call) = asked_of(rest)?;
+        return Some(LineText::Call { actor, call });
+    }
+    taskless_line(line)
 }
 
 /// What a line without a task says.
-fn taskless_line_of(line: &[u8]) -> Option<Line>
-    ensures found { IfSome result (IsLineOf line.now) }
+fn taskless_line(line: &[u8]) -> Option<LineText>
+    ensures found { IfSome result (SpellsLine line.now) }
     ensures none { IfNone result (IsNoTasklessLine line.now) }
 {
-    if let Some(words) = after_word(line, b"step ") {
-        return step_of(words);
+    if let Some(rest) = after_word(line, b"step ") {
+        return step_of(rest);
     }
-    if let Some(words) = after_word(line, b"finish ") {
-        let actor = actor_of(words)?;
-        return Some(Line::Finish { actor });
+    if let Some(rest) = after_word(line, b"finish ") {
+        let actor = actor_of(rest)?;
+        return Some(LineText::Finish { actor });
     }
     let actor = actor_of(after_word(line, b"refuse ")?)?;
-    Some(Line::Refuse { actor })
+    Some(LineText::Refuse { actor })
 }
 
 /// The steps of the texts of an actor and of times, with one space between them.
-fn step_of(text: &[u8]) -> Option<Line>
-    ensures found { IfSome result (λ l. (a : ℕ) × (n : ℕ) × IsActor a × AreTimes n × (text.now ≡ decimal a ++ 32 ∷ decimal n) × (l ≡ Line.Step a n)) }
+fn step_of(text: &[u8]) -> Option<LineText>
+    ensures found { IfSome result (λ l. (a : ℕ) × (n : ℕ) × IsActor a × AreTimes n × (text.now ≡ decimal a ++ 32 ∷ decimal n) × (l ≡ LineText.Step a n)) }
     ensures none { IfNone result ((a : ℕ) (n : ℕ) → IsActor a → AreTimes n → text.now ≡ decimal a ++ 32 ∷ decimal n → ⊥) }
 {
     let (actor, rest) = actor_front(text)?;
     let times = times_of(rest)?;
-    Some(Line::Step { actor, times })
+    Some(LineText::Step { actor, times })
 }
 
 /// Whether a line is passed over: it is empty, or begins with a hash.

@@ -1,17 +1,14 @@
 // What the check of a script keeps of the lines so far, and whether one more may stand behind them.
 // Kept are the keys that they name, and how many buffers they take of each client's stock.
-ghost use Rattle.std.specs.Prelude.{◌≡◌, ◌+◌, ℕ, [], false, IsTrue, IfOk, slice_index, slice_set};
+ghost use Rattle.std.specs.Prelude.{◌≡◌, ◌+◌, ℕ, List, [], false, IsTrue, IfOk, slice_index, slice_set};
 ghost use Rattle.clover_words.specs.Preset.{HasDealt};
-ghost use Rattle.clover_map.specs.declared.call.Call.{Call};
-ghost use Rattle.clover_script.specs.Lines.{takes};
 
 use crate::check::Outline;
-use crate::keys::{Names, key_in};
-use crate::line::{Line, Task};
+use crate::keys::Names;
 use crate::pool_line::pool_line_of;
-use crate::reader::{is_ignored, line_of};
+use crate::reader::{is_ignored, spelled_line};
+use crate::spelled::{CallText, LineText};
 use clover_list::OutOfMemory;
-use clover_map::Call;
 use clover_words::{Setup, dealt};
 use std::alloc::Global;
 
@@ -27,7 +24,7 @@ pub struct Tally {
 
 impl Tally {
     ghost use Rattle.clover_script.specs.Line.{IsActor};
-    ghost use Rattle.clover_script.specs.Form.{call_in};
+    ghost use Rattle.clover_script.specs.Spelling.{call_said, said_by};
     ghost use Rattle.clover_script.specs.Tally.{AdmitsCall, BarsCall, actor_in, AdmitsLine, BarsLine, Follows, FollowsNot};
 
     /// No line so far.
@@ -53,7 +50,7 @@ impl Tally {
 
     /// Reads one more line, and whether it is built behind those so far. If not, the tally stands for
     /// nothing any more.
-    pub fn accept(&mut self, alloc: Global, line: &[u8]) -> Result<bool, OutOfMemory>
+    pub fn accept(&mut self, line: &[u8]) -> Result<bool, OutOfMemory>
         ensures yes { IfOk result (λ yes. IsTrue yes → Follows self.old line.now self.new) }
         ensures no { IfOk result (λ yes. yes ≡ false → FollowsNot self.old line.now) }
     {
@@ -64,37 +61,36 @@ impl Tally {
         if pool_line_of(line).is_some() {
             return Ok(false);
         }
-        match line_of(alloc, line)? {
-            Some(said) => self.admit(&said),
+        match spelled_line(line) {
+            Some(said) => self.admit(said),
             None => Ok(false),
         }
     }
 
     /// Whether a line of a client may stand behind those so far.
-    fn admit(&mut self, line: &Line) -> Result<bool, OutOfMemory>
-        requires { IsActor (actor_in line.now) }
-        ensures yes { IfOk result (λ yes. IsTrue yes → AdmitsLine self.old line.now self.new) }
-        ensures no { IfOk result (λ yes. yes ≡ false → BarsLine self.old line.now) }
+    fn admit(&mut self, line: LineText) -> Result<bool, OutOfMemory>
+        requires { IsActor (actor_in line) }
+        ensures yes { IfOk result (λ yes. IsTrue yes → (bytes : List ℕ) → AdmitsLine self.old (said_by line.entry bytes) self.new) }
+        ensures no { IfOk result (λ yes. yes ≡ false → (bytes : List ℕ) → BarsLine self.old (said_by line.entry bytes)) }
     {
         match line {
-            Line::Begin { actor, task } => self.admit_task(*actor, task),
-            Line::Call { actor, task } => self.admit_task(*actor, task),
-            Line::Step { .. } | Line::Finish { .. } | Line::Refuse { .. } => Ok(true),
+            LineText::Begin { actor, call } => self.admit_call(actor, call),
+            LineText::Call { actor, call } => self.admit_call(actor, call),
+            LineText::Step { .. } | LineText::Finish { .. } | LineText::Refuse { .. } => Ok(true),
         }
     }
 
-    /// Whether a client may be asked for a task behind the lines so far.
-    fn admit_task(&mut self, client: u32, task: &Task) -> Result<bool, OutOfMemory>
+    /// Whether a client may be asked for a call behind the lines so far.
+    fn admit_call(&mut self, client: u32, call: CallText) -> Result<bool, OutOfMemory>
         requires { IsActor client }
-        ensures yes { IfOk result (λ yes. IsTrue yes → AdmitsCall self.old client (call_in task.now) self.new) }
-        ensures no { IfOk result (λ yes. yes ≡ false → BarsCall self.old client (call_in task.now)) }
+        ensures yes { IfOk result (λ yes. IsTrue yes → (bytes : List ℕ) → AdmitsCall self.old client (call_said call.entry bytes) self.new) }
+        ensures no { IfOk result (λ yes. yes ≡ false → (bytes : List ℕ) → BarsCall self.old client (call_said call.entry bytes)) }
     {
-        let Task::Client { call, .. } = task;
-        let takes = takes_buffer(call);
+        let takes = call.takes_buffer();
         if takes && !self.has_stock(client) {
             return Ok(false);
         }
-        if !self.names.name(key_in(call), self.setup.pool.slots)? {
+        if !self.names.name(call.into_key(), self.setup.pool.slots)? {
             return Ok(false);
         }
         if takes {
@@ -119,16 +115,5 @@ impl Tally {
         ensures { self.new ≡ record self.old { takes = slice_set self.old.takes client (slice_index self.old.takes client + 1) } }
     {
         self.takes[client as usize] += 1;
-    }
-}
-
-/// Whether a call takes a buffer of its client's stock.
-fn takes_buffer(call: &Call) -> bool
-    ensures yes { IsTrue result → takes call.now ≡ 1 }
-    ensures no { result ≡ false → takes call.now ≡ 0 }
-{
-    match call {
-        Call::Get { .. } => false,
-        Call::Put { .. } | Call::Delete { .. } | Call::Swap { .. } => true,
     }
 }

@@ -1,182 +1,117 @@
-// The task that a text spells: a client's call. Takes memory for the bytes of a key and a value alone.
-ghost use Rattle.std.specs.Prelude.{◌≡◌, ◌^◌, ◌<◌, ◌≤◌, ◌++◌, ℕ, List, take, ◌∷◌, IfOk, IfSome, IfNone};
+// The call that a text spells, and the actor that is asked for it. Takes no memory: a value stays as it is spelled.
+ghost use Rattle.std.specs.Prelude.{◌≡◌, ◌^◌, ◌<◌, ◌++◌, ℕ, List, ◌∷◌, codes, IfSome, IfNone};
+ghost use Rattle.clover_map.specs.Key.{IsKey};
 ghost use Rattle.clover_map.specs.declared.bytes.Value.{Value};
-ghost use Rattle.clover_map.specs.declared.call.Call.{Call};
 ghost use Rattle.clover_script.specs.Coded.{coded};
 ghost use Rattle.clover_script.specs.Text.{tag_text, value_text};
-ghost use Rattle.clover_script.specs.Line.{IsKey, IsWritten};
-ghost use Rattle.clover_script.specs.Spelling.{SpellsValue, SpellsPut, SpellsSwap, SpellsCall, SpellsNoCall, SpellsAsked, SpellsNothingAsked};
+ghost use Rattle.clover_script.specs.Line.{IsWritten};
+ghost use Rattle.clover_script.specs.Spelling.{value_with, IsValueText, SpellsCall, SpellsNoCall, SpellsAsked, SpellsNothingAsked};
 
-use crate::coded::decode;
-use crate::line::Task;
+use crate::coded::{decode_into, spelled_length};
 use crate::part::{actor_front, tag_front};
+use crate::spelled::{CallText, ValueText};
 use crate::split::{after_word, split_at_byte};
-use clover_list::OutOfMemory;
-use clover_map::{Bytes, BytesFault, Call, Key, Value};
-use std::alloc::Global;
+use clover_map::Key;
 
-/// How many bytes a value may have as it is written, and how many of them a call keeps.
+/// How many bytes a key may have.
+const LONGEST_KEY: usize = 250;
+
+/// How many bytes a value may have as it is written.
 const LONGEST_WRITTEN: usize = 65_535;
 
-const LONGEST_KEPT: usize = 1_024;
-
-/// The actor and the task that a text spells, with one space between them.
-pub fn asked_of(alloc: Global, text: &[u8]) -> Result<Option<(u32, Task)>, OutOfMemory>
-    ensures found { IfOk result (λ o. IfSome o (λ p. SpellsAsked text.now p.0 p.1)) }
-    ensures none { IfOk result (λ o. IfNone o (SpellsNothingAsked text.now)) }
+/// The actor and the call that a text spells, with one space between them.
+pub fn asked_of(text: &[u8]) -> Option<(u32, CallText)>
+    ensures found { IfSome result (λ p. SpellsAsked text.now p.0 p.1) }
+    ensures none { IfNone result (SpellsNothingAsked text.now) }
 {
-    let Some((actor, words)) = actor_front(text) else {
-        return Ok(None);
-    };
-    match call_of(alloc, words)? {
-        Some(task) => Ok(Some((actor, task))),
-        None => Ok(None),
-    }
+    let (actor, rest) = actor_front(text)?;
+    let call = call_of(rest)?;
+    Some((actor, call))
 }
 
-/// The task of a call's text, which is the line without its first word and its actor.
-fn call_of(alloc: Global, text: &[u8]) -> Result<Option<Task>, OutOfMemory>
-    ensures found { IfOk result (λ o. IfSome o (SpellsCall text.now)) }
-    ensures none { IfOk result (λ o. IfNone o (SpellsNoCall text.now)) }
+/// The call of its text, which is the line without its first word and its actor.
+fn call_of(text: &[u8]) -> Option<CallText>
+    ensures found { IfSome result (SpellsCall text.now) }
+    ensures none { IfNone result (SpellsNoCall text.now) }
 {
-    if let Some(words) = after_word(text, b"get ") {
-        return get_of(alloc, words);
+    if let Some(rest) = after_word(text, b"get ") {
+        let key = key_of(rest)?;
+        return Some(CallText::Get { key });
     }
-    if let Some(words) = after_word(text, b"delete ") {
-        return delete_of(alloc, words);
+    if let Some(rest) = after_word(text, b"delete ") {
+        let key = key_of(rest)?;
+        return Some(CallText::Delete { key });
     }
-    if let Some(words) = after_word(text, b"put ") {
-        return put_of(alloc, words);
+    if let Some(rest) = after_word(text, b"put ") {
+        return put_of(rest);
     }
-    match after_word(text, b"swap ") {
-        Some(words) => swap_of(alloc, words),
-        None => Ok(None),
-    }
-}
-
-/// The get of a key's text.
-fn get_of(alloc: Global, text: &[u8]) -> Result<Option<Task>, OutOfMemory>
-    ensures found { IfOk result (λ o. IfSome o (λ task. (k : List ℕ) × IsKey k × (text.now ≡ coded k) × (task ≡ Task.Client (Call.Get k) 0))) }
-    ensures none { IfOk result (λ o. IfNone o ((k : List ℕ) → IsKey k → text.now ≡ coded k → ⊥)) }
-{
-    match key_of(alloc, text)? {
-        Some(key) => Ok(Some(Task::Client {
-            call: Call::Get { key },
-            written: 0,
-        })),
-        None => Ok(None),
-    }
-}
-
-/// The delete of a key's text.
-fn delete_of(alloc: Global, text: &[u8]) -> Result<Option<Task>, OutOfMemory>
-    ensures found { IfOk result (λ o. IfSome o (λ task. (k : List ℕ) × IsKey k × (text.now ≡ coded k) × (task ≡ Task.Client (Call.Delete k) 0))) }
-    ensures none { IfOk result (λ o. IfNone o ((k : List ℕ) → IsKey k → text.now ≡ coded k → ⊥)) }
-{
-    match key_of(alloc, text)? {
-        Some(key) => Ok(Some(Task::Client {
-            call: Call::Delete { key },
-            written: 0,
-        })),
-        None => Ok(None),
-    }
+    swap_of(after_word(text, b"swap ")?)
 }
 
 /// The put of the texts of a key and a value, with one space between them.
-fn put_of(alloc: Global, text: &[u8]) -> Result<Option<Task>, OutOfMemory>
-    ensures found { IfOk result (λ o. IfSome o (SpellsPut text.now)) }
-    ensures none { IfOk result (λ o. IfNone o ((k : List ℕ) (v : Value) → IsKey k → IsWritten v → text.now ≡ coded k ++ 32 ∷ value_text v → ⊥)) }
+fn put_of(text: &[u8]) -> Option<CallText>
+    ensures found { IfSome result (SpellsCall (codes "put " ++ text.now)) }
+    ensures none { IfNone result ((k : List ℕ) (v : Value) → IsKey k → IsWritten v → text.now ≡ coded k ++ 32 ∷ value_text v → ⊥) }
 {
-    let Some((key, words)) = key_front(alloc, text)? else {
-        return Ok(None);
-    };
-    match value_of(alloc, words)? {
-        Some((value, written)) => Ok(Some(Task::Client {
-            call: Call::Put { key, value },
-            written,
-        })),
-        None => Ok(None),
-    }
+    let (key, rest) = key_front(text)?;
+    let value = value_of(rest)?;
+    Some(CallText::Put { key, value })
 }
 
 /// The swap of the texts of a key, a tag and a value, with one space between each two.
-fn swap_of(alloc: Global, text: &[u8]) -> Result<Option<Task>, OutOfMemory>
-    ensures found { IfOk result (λ o. IfSome o (SpellsSwap text.now)) }
-    ensures none { IfOk result (λ o. IfNone o ((k : List ℕ) (e : ℕ) (v : Value) → IsKey k → e < 2 ^ 42 → IsWritten v → text.now ≡ coded k ++ 32 ∷ (tag_text e ++ 32 ∷ value_text v) → ⊥)) }
+fn swap_of(text: &[u8]) -> Option<CallText>
+    ensures found { IfSome result (SpellsCall (codes "swap " ++ text.now)) }
+    ensures none { IfNone result ((k : List ℕ) (e : ℕ) (v : Value) → IsKey k → e < 2 ^ 42 → IsWritten v → text.now ≡ coded k ++ 32 ∷ (tag_text e ++ 32 ∷ value_text v) → ⊥) }
 {
-    let Some((key, words)) = key_front(alloc, text)? else {
-        return Ok(None);
-    };
-    let Some((expected, words)) = tag_front(words) else {
-        return Ok(None);
-    };
-    match value_of(alloc, words)? {
-        Some((value, written)) => Ok(Some(Task::Client {
-            call: Call::Swap {
-                key,
-                expected,
-                value,
-            },
-            written,
-        })),
-        None => Ok(None),
-    }
+    let (key, rest) = key_front(text)?;
+    let (expected, rest) = tag_front(rest)?;
+    let value = value_of(rest)?;
+    Some(CallText::Swap {
+        key,
+        expected,
+        value,
+    })
 }
 
 /// The key that a text begins with, and the text behind the space after it.
-fn key_front<'a>(alloc: Global, text: &'a [u8]) -> Result<Option<(Key, &'a [u8])>, OutOfMemory>
-    ensures found { IfOk result (λ o. IfSome o (λ p. IsKey p.0 × (text.now ≡ coded p.0 ++ 32 ∷ p.1.now))) }
-    ensures none { IfOk result (λ o. IfNone o ((k : List ℕ) (rest : List ℕ) → IsKey k → text.now ≡ coded k ++ 32 ∷ rest → ⊥)) }
+fn key_front(text: &[u8]) -> Option<(Key, &[u8])>
+    ensures found { IfSome result (λ p. IsKey p.0 × (text.now ≡ coded p.0 ++ 32 ∷ p.1.now)) }
+    ensures none { IfNone result ((k : List ℕ) (rest : List ℕ) → IsKey k → text.now ≡ coded k ++ 32 ∷ rest → ⊥) }
 {
-    let Some((word, rest)) = split_at_byte(text, b' ') else {
-        return Ok(None);
-    };
-    match key_of(alloc, word)? {
-        Some(key) => Ok(Some((key, rest))),
-        None => Ok(None),
-    }
+    let (word, rest) = split_at_byte(text, b' ')?;
+    let key = key_of(word)?;
+    Some((key, rest))
 }
 
 /// The key of a coded text. None exactly where it is no key's.
-fn key_of(alloc: Global, text: &[u8]) -> Result<Option<Key>, OutOfMemory>
-    ensures found { IfOk result (λ o. IfSome o (λ key. IsKey key × (text.now ≡ coded key))) }
-    ensures none { IfOk result (λ o. IfNone o ((k : List ℕ) → IsKey k → text.now ≡ coded k → ⊥)) }
+fn key_of(text: &[u8]) -> Option<Key>
+    ensures found { IfSome result (λ key. IsKey key × (text.now ≡ coded key)) }
+    ensures none { IfNone result ((k : List ℕ) → IsKey k → text.now ≡ coded k → ⊥) }
 {
-    let Some(bytes) = decode(alloc, text)? else {
-        return Ok(None);
-    };
-    match Key::of(&bytes) {
-        Ok(key) => Ok(Some(key)),
-        Err(_) => Ok(None),
+    let length = spelled_length(text)?;
+    if length > LONGEST_KEY {
+        return None;
+    }
+    let mut room = [0; LONGEST_KEY];
+    decode_into(text, &mut room[..length]);
+    match Key::of(&room[..length]) {
+        Ok(key) => Some(key),
+        Err(_) => None,
     }
 }
 
-/// The value of a text, as a call keeps it, and its length in bytes as it is written.
-fn value_of(alloc: Global, text: &[u8]) -> Result<Option<(Value, u32)>, OutOfMemory>
-    ensures found { IfOk result (λ o. IfSome o (λ p. SpellsValue text.now p.0 p.1)) }
-    ensures none { IfOk result (λ o. IfNone o ((v : Value) → IsWritten v → text.now ≡ value_text v → ⊥)) }
+/// The value of a text, which is an equals sign and a coded text. None exactly where it is no value's.
+fn value_of(text: &[u8]) -> Option<ValueText>
+    ensures found { IfSome result (λ v. (bytes : List ℕ) × IsValueText v bytes × (text.now ≡ value_text (value_with bytes))) }
+    ensures none { IfNone result ((v : Value) → IsWritten v → text.now ≡ value_text v → ⊥) }
 {
-    let Some(text) = after_word(text, b"=") else {
-        return Ok(None);
-    };
-    let Some(bytes) = decode(alloc, text)? else {
-        return Ok(None);
-    };
-    let written = bytes.len();
-    if written > LONGEST_WRITTEN {
-        return Ok(None);
+    let text = after_word(text, b"=")?;
+    let length = spelled_length(text)?;
+    if length > LONGEST_WRITTEN {
+        return None;
     }
-    let bytes = kept(alloc, &bytes)?;
-    Ok(Some((Value { flags: 0, bytes }, written as u32)))
-}
-
-/// The bytes that a call keeps of a value.
-fn kept(alloc: Global, bytes: &[u8]) -> Result<Bytes, OutOfMemory>
-    ensures { IfOk result (λ kept. kept ≡ take 1024 bytes.now) }
-{
-    match Bytes::of(alloc, &bytes[..bytes.len().min(LONGEST_KEPT)]) {
-        Ok(bytes) => Ok(bytes),
-        Err(BytesFault::OutOfMemory) => Err(OutOfMemory),
-        Err(BytesFault::Length { .. }) => unreachable!(),
-    }
+    Some(ValueText {
+        text,
+        written: length as u32,
+    })
 }

@@ -1,14 +1,16 @@
 // A small preset pool, its words worked out by hand, and the accesses of a client to it. A small pool as its run
 // begins: the server begins a binding and hands a buffer over, and the client writes there.
 ghost use Rattle.std.specs.Prelude.{◌≡◌, ◌≤◌, ◌<◌, length, true, OnOk, IfOk};
+ghost use Rattle.clover_alloc.specs.Ledger.{IsLedger, new_ledger};
 ghost use Rattle.clover_plain.specs.Plain.{first_view, history, view_at};
 
 use crate::pool::PlainPool;
 use crate::{Access, Act, Actor};
+use clover_alloc::Books;
 use clover_list::OutOfMemory;
 use clover_map::Key;
 use clover_port::Port;
-use clover_words::{Buffer, Pool, Setup, Side, Tag, Word};
+use clover_words::{Buffer, Pool, Setup, Side, Word};
 use std::alloc::Global;
 use std::marker::Brand;
 use std::process::Abort;
@@ -123,19 +125,15 @@ fn begin_binding(pool: &mut PlainPool) -> Result<bool, OutOfMemory>
     Ok(port.store::<Brand>(word, Side::Current, TOMBSTONE).is_ok())
 }
 
-// The server hands buffer 0 to client 1, which writes a value word there.
-fn hand_and_write(pool: &mut PlainPool) -> Result<bool, OutOfMemory>
+// The server hands buffer 0 out of its books to client 1, which writes a meta word there.
+fn hand_and_write(pool: &mut PlainPool, books: &mut Books) -> Result<bool, OutOfMemory>
     requires ready { (pool.old.opened ≡ true) × (pool.old.entries ≡ history pool.old) }
     requires small { (pool.old.setup.clients ≡ 1) × (pool.old.setup.pool.nodes ≡ 1) × (pool.old.setup.pool.buffers ≡ 2) × (pool.old.setup.pool.slots ≡ 1) }
     requires views { (length pool.old.views ≡ 2) × (view_at pool.old 0 ≡ first_view pool.old.setup 0) × (view_at pool.old 1 ≡ first_view pool.old.setup 1) }
+    requires books { (books.old ≡ new_ledger pool.old.setup.pool) × IsLedger books.old }
 {
     pool.reserve()?;
-    let batch = [Tag {
-        node: 0,
-        index: 0,
-        generation: 0,
-    }];
-    pool.hand_over(1, &batch, &[]);
+    pool.hand_over(1, &books.take(1), &[]);
     let mut port = pool.port(Actor::Client(1), false);
     let word = Word::Meta(Buffer { node: 0, index: 0 });
     Ok(port.store::<Brand>(word, Side::Current, 7).is_ok())
@@ -156,7 +154,8 @@ fn a_binding_is_begun(rt: HostRuntime) -> Result<(), Fail> {
 #[test]
 fn a_buffer_is_handed_over(rt: HostRuntime) -> Result<(), Fail> {
     let mut pool = begun_pool(rt.alloc())?;
-    assert!(rt; hand_and_write(&mut pool)?);
+    let mut books = Books::make(rt.alloc(), pool.setup.pool)?;
+    assert!(rt; hand_and_write(&mut pool, &mut books)?);
     assert_eq!(rt; pool.words[1], 7);
     assert_eq!(rt; pool.made(), 1);
     Ok(())

@@ -6,4 +6,4 @@ use Rattle.clover_main.proofs.replaying.attempt.Goals as goal
 pub returns-in-Ok-clause-memory : goal.returns-in-Ok-clause-memory
 returns-in-Ok-clause-memory g c is =
     let P : List ℕ → Type 0 = λ text. Reads (g.S.Source.left c.args.source.now) (g.S.Source.left c.script_of.new.source) text in
-    lacks_memory c.in-Err-Memory.field-0 c.args.trace c.deref.result.now _ _ _ _ _ _ _ _ c.in-Err-Memory.field-0-is (subst P (sym c.deref.ensures.value) c.in-Ok.ensures.read) c.run_script.ensures.later c.in-Err-Memory.ensures.err c.refuse.ensures.line
+    lacks_memory c.in-Err-Memory.field-0 c.args.trace c.deref.result.now _ _ _ _ _ _ _ _ c.in-Err-Memory.field-0-is (subst P (sym c.deref.ensures.value) c.in-Ok.ensures.read) c.run_script.ensures.cause.later c.in-Err-Memory.ensures.err c.refuse.ensures.line

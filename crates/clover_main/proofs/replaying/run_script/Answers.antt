@@ -3,7 +3,7 @@ use Rattle.std.proofs.lemmas.Result.{err_from_is_err_and, IfErr-weaker, on_ok_we
 use Rattle.clover_script.specs.Line.{kept_line}
 use Rattle.clover_script.specs.declared.line.Line.{Line}
 use Rattle.clover_sched.specs.Lines.{Covers}
-use Rattle.clover_main.specs.Beginnings.{Opens}
+use Rattle.clover_main.specs.Beginnings.{CoversFront}
 use Rattle.clover_main.specs.Running.{Ran, Fails}
 use Rattle.clover_main.proofs.Endings.{script_begins, script_ready, performs, stops_closing, stops_running}
 use Rattle.clover_main.proofs.Listening.{lines_heard}
@@ -24,7 +24,7 @@ returns-in_err-run_lines-clause-err g c =
     let said = c.requires.0 in
     let lines : List Line = map kept_line said in
     let from = c.in_ok-machine.ensures.at in
-    let P : List ℕ → Type 0 = λ w. Fails from.0 c.args.trace [] c.in_err-run_lines.field-0.0 (g.K.Sink.taken c.args.sink.now) (g.K.Sink.taken c.run_lines.new.sink) w (Opens lines) in
+    let P : List ℕ → Type 0 = λ w. Fails from.0 c.args.trace [] c.in_err-run_lines.field-0.0 (g.K.Sink.taken c.args.sink.now) (g.K.Sink.taken c.run_lines.new.sink) w (CoversFront lines) in
     let p = err_from_is_err_and c.from_residual-in_err-run_lines.result c.from_residual-in_err-run_lines.ensures.1 in
     rw (p.1, p.2) (stops_running c.args.text.now from.0 lines c.args.trace (script_begins c.args.text.now c.args.outline.setup said c.args.outline.names from.0 c.requires.1 from.1) c.in_err-run_lines.field-0.0 _ _
     (subst P c.new-out.ensures (c.in_err-run_lines.ensures.err from.0 lines from.2 (lines_heard c.args.text.now c.args.outline.setup said c.args.outline.names c.requires.1))))

@@ -1,16 +1,16 @@
-use Rattle.std.proofs.Common.{◌≡◌, ◌≤◌, ◌<◌, ◌∙◌, ℕ, Option, Err, ap, arith, subst, sym}
+use Rattle.std.proofs.Common.{◌≡◌, ◌≤◌, ◌<◌, ◌∙◌, ℕ, Option, Err, ap, subst, sym}
 use Rattle.std.proofs.lemmas.Result.{err_from_is_err_and}
 use Rattle.std.specs.Prelude.{IfSome}
 use Rattle.clover_sched.specs.Running.{IsLeft, actor_in}
 use Rattle.clover_sched.specs.declared.runner.Work.{Work}
-use Rattle.clover_main.specs.Causes.{Rose}
+use Rattle.clover_main.specs.Causes.{HasStopCause}
 use Rattle.clover_main.specs.declared.output.Stop.TheVariants.{Write}
 use Rattle.clover_main.specs.Running.{Runs, most_steps}
 use Rattle.clover_main.proofs.Loops.{left_next, left_stop}
 use Rattle.clover_main.proofs.running.run_line.Goals as goal
 
 pub loop-left-init : goal.loop-left-init
-loop-left-init g c = record { runs = c.in_ok-left.ensures.ok; actor = c.in_ok-left.ensures.actor; quiet = c.in_ok-left.ensures.quiet }
+loop-left-init g c = record { runs = c.in_ok-left.ensures.ok; actor = c.in_ok-left.ensures.actor; quiet = c.in_ok-left.ensures.cause.kept }
 
 pub go_on-requires-clause-actor : goal.go_on-requires-clause-actor
 go_on-requires-clause-actor g c = subst (λ (x : Option Work). IfSome x (λ work. 1 ≤ actor_in work)) c.in-Some.is c.loop-left.invariant.actor
@@ -25,15 +25,15 @@ returns-in_err-left-2-clause-err g c =
     let p = err_from_is_err_and c.from_residual-in_err-left-2.result c.from_residual-in_err-left-2.ensures.1 in
     rw (p.1, p.2) (left_stop c.args.trace _ c.args.machine.now l.machine _ _ _ _ _ c.args.line c.in-Some.work (subst P c.in-Some.is l.invariant.runs) c.in_err-left-2.ensures.err)
 
-pub returns-in_err-left-2-clause-write : goal.returns-in_err-left-2-clause-write
-returns-in_err-left-2-clause-write g c =
+pub returns-in_err-left-2-clause-cause : goal.returns-in_err-left-2-clause-cause
+returns-in_err-left-2-clause-cause g c =
     let p = err_from_is_err_and c.from_residual-in_err-left-2.result c.from_residual-in_err-left-2.ensures.1 in
-    rw (p.1, p.2) (λ e.
-    let same : c.in_err-left-2.field-0.0 ≡ Write = cc in
-    subst (λ (n : ℕ). Rose n (g.K.Sink.faults c.go_on.new.sink)) c.loop-left.invariant.quiet (c.in_err-left-2.ensures.write (ap Err same)))
-
-pub returns-in_err-left-2-clause-later : goal.returns-in_err-left-2-clause-later
-returns-in_err-left-2-clause-later g c = omega (arith, c.loop-left.invariant.quiet, c.in_err-left-2.ensures.later)
+    let why = c.in_err-left-2.ensures.cause in
+    subst (λ (n : ℕ). HasStopCause n (g.K.Sink.faults c.go_on.new.sink) c.from_residual-in_err-left-2.result) c.loop-left.invariant.quiet (rw (p.1, p.2) record {
+      later = why.later;
+      failed = λ e. let same : c.in_err-left-2.field-0.0 ≡ Write = cc in why.failed (ap Err same);
+      kept = tt;
+    })
 
 pub loop-left-smaller : goal.loop-left-smaller
 loop-left-smaller g c = subst (λ (x : Option Work). most_steps c.go_on.new.machine c.in_ok-left-2.left < most_steps c.loop-left.machine x) (sym c.in-Some.is) c.in_ok-left-2.ensures.less
@@ -45,7 +45,7 @@ loop-left-preserved g c =
     record {
       runs = left_next c.args.trace c.args.machine.now l.machine c.go_on.new.machine _ _ _ _ _ _ c.args.line c.in-Some.work c.in_ok-left-2.left (subst P c.in-Some.is l.invariant.runs) c.in_ok-left-2.ensures.ok;
       actor = c.in_ok-left-2.ensures.actor;
-      quiet = c.in_ok-left-2.ensures.quiet ∙ l.invariant.quiet;
+      quiet = c.in_ok-left-2.ensures.cause.kept ∙ l.invariant.quiet;
     }
 
 pub returns-clause-ok : goal.returns-clause-ok
@@ -53,9 +53,3 @@ returns-clause-ok g c =
     let l = c.loop-left in
     let P : Option Work → Type 0 = λ x. Runs c.args.trace c.args.machine.now l.machine (g.K.Sink.taken c.args.sink.now) (g.K.Sink.taken l.sink) c.args.out.now.waiting.items l.out.waiting.items (IsLeft c.args.line x) in
     subst P c.in_default.is l.invariant.runs
-
-pub returns-clause-quiet : goal.returns-clause-quiet
-returns-clause-quiet g c = c.loop-left.invariant.quiet
-
-pub returns-clause-later : goal.returns-clause-later
-returns-clause-later g c = omega (arith, c.loop-left.invariant.quiet)

@@ -1,6 +1,7 @@
-use Rattle.std.proofs.Common.{◌≡◌, replicate}
-use Rattle.clover_sched.specs.Client.{idle_client}
+use Rattle.std.proofs.Common.{◌≡◌, length}
+use Rattle.std.specs.Prelude.{All}
+use Rattle.clover_sched.specs.Client.{IsIdle}
 use Rattle.clover_sched.proofs.machine.idle_clients.Given as goal
 
 abbrev pub invariant-loop : goal.invariant-loop
-invariant-loop l = l.clients.items ≡ replicate l.counter idle_client
+invariant-loop l = (length l.clients.items ≡ l.counter) × All (IsIdle l.pool) l.clients.items

@@ -1,18 +1,13 @@
-use Rattle.std.proofs.Common.{◌≡◌, ◌≤◌, arith, rules, length}
-use Rattle.clover_words.specs.declared.setup.Setup.{Setup}
-use Rattle.clover_words.specs.Preset.{buffers_total}
-use Rattle.clover_script.specs.Line.{pool_line, numbers_of}
-use Rattle.clover_script.proofs.SpellingLemmas.{some_is}
+use Rattle.std.proofs.Common.{◌≡◌, arith, rules, length}
 use Rattle.clover_script.proofs.TallyLemmas.{tallied_first, tallied_next, tallied_all}
 use Rattle.clover_script.proofs.check.check_lines.Goals as goal
 
 pub loop-rest-init : goal.loop-rest-init
 loop-rest-init c =
     let line = c.first_line.result.0.now in
-    let told = some_is (λ (s : Setup). (line ≡ pool_line (numbers_of s)) × (s.pool.slots ≤ buffers_total s.pool)) c.in_ok-setup.field-0 c.in-Some.setup c.in-Some.is c.in_ok-setup.ensures.found in
     record {
       tallied = tallied_first c.args.text.now line c.passed_over-over.result.1.now c.first_line.result.1.now c.passed_over-over.result.0 c.in-Some.setup c.begin-tally.result
-          c.passed_over-over.ensures.over c.first_line.ensures.lines told c.begin-tally.ensures.setup c.begin-tally.ensures.names c.begin-tally.ensures.takes;
+          c.passed_over-over.ensures.over c.first_line.ensures.lines c.in-Some.ensures.found c.begin-tally.ensures.setup c.begin-tally.ensures.names c.begin-tally.ensures.takes;
       size = omega (arith, c.first_line.ensures.shorter, c.passed_over-over.ensures.size);
     }
 

@@ -1,13 +1,18 @@
-use Rattle.std.proofs.Common.{◌≡◌, ◌∙◌, sym, ap, arith, rules, length}
+use Rattle.std.proofs.Common.{◌∙◌, sym, ap, arith, length}
 use Rattle.std.proofs.lemmas.Bool.{false≢true}
-use Rattle.clover_script.specs.Coded.{coded, AreBytes}
+use Rattle.std.proofs.lemmas.Grind.{common_steps}
 use Rattle.clover_script.proofs.CodedLemmas.{one_text}
 use Rattle.clover_script.proofs.task.key_of.Goals as goal
 
-pub returns-clause-none : goal.returns-clause-none
-returns-clause-none c key is e =
-    let spelled : c.args.text.now ≡ coded c.in-Some.bytes.items = search rules in
-    let are : AreBytes c.in-Some.bytes.items = search rules in
-    let same = one_text key c.in-Some.bytes.items is.2 are (sym e ∙ spelled) in
-    let n = ap length (same ∙ sym c.deref.ensures.value) in
-    absurd (false≢true (c.in-Err.ensures.when.1 (omega (arith, n, is.0), omega (arith, n, is.1))))
+pub returns-then-length-gt-LONGEST_KEY-clause-none : goal.returns-then-length-gt-LONGEST_KEY-clause-none
+returns-then-length-gt-LONGEST_KEY-clause-none c k is e =
+    let spelled = c.in_ok-length.ensures.found in
+    let same = one_text spelled.0 k spelled.1 is.2 (sym spelled.2 ∙ e) in
+    omega (arith, ap length same, is.1, spelled.3)
+
+pub returns-in-Err-clause-none : goal.returns-in-Err-clause-none
+returns-in-Err-clause-none c k is e =
+    let spelled = c.in_ok-length.ensures.found in
+    let same = one_text spelled.0 k spelled.1 is.2 (sym spelled.2 ∙ e) in
+    let size = ap length same in
+    absurd (false≢true (c.in-Err.ensures.when.1 (grind (arith, common_steps), grind (arith, common_steps))))

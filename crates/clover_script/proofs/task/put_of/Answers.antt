@@ -1,25 +1,11 @@
-use Rattle.std.proofs.Common.{◌≡◌, ◌∙◌, ◌∷◌, ◌++◌, List, ℕ, Bor, sym, refl}
-use Rattle.clover_map.specs.declared.bytes.Value.{Value}
-use Rattle.clover_script.specs.Coded.{coded}
+use Rattle.std.proofs.Common.{◌∙◌, sym}
 use Rattle.clover_script.specs.Text.{value_text}
-use Rattle.clover_script.specs.Line.{IsKey}
-use Rattle.clover_script.specs.Spelling.{SpellsValue}
-use Rattle.clover_script.proofs.SpellingLemmas.{key_split, some_is, none_is}
+use Rattle.clover_script.proofs.LineLemmas.{if_none}
+use Rattle.clover_script.proofs.SpellingLemmas.{key_split}
 use Rattle.clover_script.proofs.task.put_of.Goals as goal
 
-pub returns-in_default-clause-none : goal.returns-in_default-clause-none
-returns-in_default-clause-none c k v is fits e = none_is c.in_ok-key.field-0 c.in_default.is c.in_ok-key.ensures.none k (value_text v) is e
-
-pub returns-in-Some-2-clause-found : goal.returns-in-Some-2-clause-found
-returns-in-Some-2-clause-found c =
-    let text = c.args.text.now in
-    let key = some_is (λ (p : List ℕ × Bor (List ℕ)). IsKey p.0 × (text ≡ coded p.0 ++ 32 ∷ p.1.now)) c.in_ok-key.field-0 (c.in-Some.key, c.in-Some.words) c.in-Some.is c.in_ok-key.ensures.found in
-    let value = some_is (λ (p : Value × ℕ). SpellsValue c.in-Some.words.now p.0 p.1) c.in_ok-value.field-0 (c.in-Some-2.value, c.in-Some-2.written) c.in-Some-2.is c.in_ok-value.ensures.found in
-    (c.in-Some.key, c.in-Some-2.value, c.in-Some-2.written, c.in-Some.words.now, key.0, key.1, value, refl)
-
-pub returns-in-None-clause-none : goal.returns-in-None-clause-none
-returns-in-None-clause-none c k v is fits e =
-    let text = c.args.text.now in
-    let key = some_is (λ (p : List ℕ × Bor (List ℕ)). IsKey p.0 × (text ≡ coded p.0 ++ 32 ∷ p.1.now)) c.in_ok-key.field-0 (c.in-Some.key, c.in-Some.words) c.in-Some.is c.in_ok-key.ensures.found in
-    let same = key_split c.in-Some.key k c.in-Some.words.now (value_text v) key.0 is (sym key.1 ∙ e) in
-    none_is c.in_ok-value.field-0 c.in-None.is c.in_ok-value.ensures.none v fits same.1
+pub returns-in_err-value-clause-none : goal.returns-in_err-value-clause-none
+returns-in_err-value-clause-none c = if_none c.from_residual-in_err-value.result (λ k v is fits e.
+    let found = c.in_ok-key.ensures.found in
+    let same = key_split c.in_ok-key.key k c.in_ok-key.rest.now (value_text v) found.0 is (sym found.1 ∙ e) in
+    c.in_err-value.ensures.none v fits same.1)

@@ -1,34 +1,33 @@
-use Rattle.std.proofs.Common.{◌≡◌, ℕ, true, false, sym, ◌∙◌, subst}
+use Rattle.std.proofs.Common.{◌≡◌, ℕ, ◌⊎◌, true, sym, subst}
 use Rattle.clover_words.specs.declared.pool.Pool.{Pool}
-use Rattle.clover_node.specs.Going.{GoesOn, IsDue, Went}
-use Rattle.clover_node.specs.Node.{NodeState, NodeHolds, next_step, is_first}
-use Rattle.clover_node.specs.Turning.{OnMade, ends}
-use Rattle.clover_node.specs.declared.under.Underway.{Underway}
-use Rattle.clover_node.specs.declared.under.Underway.TheVariants.{Nothing}
-use Rattle.clover_node.proofs.Holds.{IsStill, by_turn, still_made, still_same, holds_on, left_over, left_going}
+use Rattle.clover_port.specs.Told.{Made}
+use Rattle.clover_node.specs.Going.{NodeGoesOn, NodeIsDue, NodeWent}
+use Rattle.clover_node.specs.Node.{NodeState, NodeHolds, count_of, node_first, node_step}
+use Rattle.clover_node.specs.Turning.{OnMade}
+use Rattle.clover_node.specs.declared.counting.Counting.TheVariants.{Names, Absence}
+use Rattle.clover_node.proofs.Counted.{asked_counting, count_made, made_so, refused_so}
+use Rattle.clover_node.proofs.Loading.{count_says}
 use Rattle.clover_node.proofs.node.Node.step.Goals as goal
 
-pub returns-then-is_over-clause-holds : goal.returns-then-is_over-clause-holds
-returns-then-is_over-clause-holds g c =
-    let p = c.args.port.now in let a = c.access-turn in let q = a.new.port in let n = c.args.self.now in let n1 = a.new.self in let into = c.args.into.now in let P = g.P.Port in let r = a.result in
-    let over : ends r ≡ true = sym c.is_over.ensures ∙ c.if-is_over.true in
-    let still : IsStill (P.view p) (P.view q) = by_turn r a.ensures.made a.ensures.refused (λ m. still_made (P.pool p) (next_step n.under (P.view p) into) _ (P.view p) (P.told p) m.0 (P.view q) (P.told q) (g.met.P.Port.made_tells p q _ _ m.0 m.1)) (λ f. still_same (P.view p) (P.view q) (g.met.P.Port.failed_leaves p q f.0).4) in
-    let went = subst (λ (u : Underway). Went n.pool n.under u n.cursors n1.cursors a.new.into (P.view p) (P.told p) (P.view q) (P.told q) r) (left_over r n1.under over) a.ensures.went in
-    let h = holds_on n (P.view p) into c.requires.holds (P.view q) still Nothing n1.cursors a.new.into (P.told p) (P.told q) r went in
-    let pool = subst (λ (z : Pool). NodeHolds (record { pool = z; cursors = n1.cursors; under = Nothing }) (P.view q) a.new.into) (sym a.ensures.pool) h in
-    subst (λ (z : NodeState). NodeHolds (record { pool = z.pool; cursors = z.cursors; under = Nothing }) (P.view q) a.new.into) (sym c.self.view_is) pool
+pub returns-in-Names-clause-made : goal.returns-in-Names-clause-made
+returns-in-Names-clause-made g c =
+    let p = c.args.port.now in let q = c.count.new.port in let P = g.P.Port in let v = P.view p in let w = P.view q in let into = c.args.into.now in let n = c.args.self.now in let t = c.count.result in
+    let asks = asked_counting n.counting n v g.call (subst (λ (s : NodeState). (s.counting ≡ Names) ⊎ (s.counting ≡ Absence)) c.self.view_is c.in-Names.is) c.requires.1.1.1.asked in
+    subst (λ (m : NodeState). OnMade t ((x : ℕ) × P.made p (node_step n g.call v into) (node_first n) x q × NodeGoesOn n v into (node_step n g.call v into) x t m w into × NodeIsDue n into (node_step n g.call v into) x m into t)) (sym c.count.ensures.value)
+    (made_so t (λ m. count_made n g.call v into w (λ a b x. P.made p a b x q) t asks m) c.count.ensures.made)
 
-pub returns-else-is_over-clause-made : goal.returns-else-is_over-clause-made
-returns-else-is_over-clause-made g c =
-    let p = c.args.port.now in let a = c.access-turn in let n = c.args.self.now in let into = c.args.into.now in let P = g.P.Port in let r = a.result in
-    let over : ends r ≡ false = sym c.is_over.ensures ∙ c.if-is_over.false in
-    subst (λ (u : Underway). OnMade r ((x : ℕ) × P.made p (next_step n.under (P.view p) into) (is_first n.under) x a.new.port × GoesOn n.under into x r u a.new.into × IsDue n.under into (next_step n.under (P.view p) into) x u a.new.into r)) (left_going r a.new.self.under over) a.ensures.made
+pub returns-in-Names-clause-went : goal.returns-in-Names-clause-went
+returns-in-Names-clause-went g c =
+    let p = c.args.port.now in let q = c.count.new.port in let P = g.P.Port in let v = P.view p in let w = P.view q in let into = c.args.into.now in let n = c.args.self.now in let t = c.count.result in
+    let asks = asked_counting n.counting n v g.call (subst (λ (s : NodeState). (s.counting ≡ Names) ⊎ (s.counting ≡ Absence)) c.self.view_is c.in-Names.is) c.requires.1.1.1.asked in
+    let made = made_so t (λ m. (m.0, subst (λ (y : Pool). Made y (count_of n.counting g.call) true v (P.told p) m.0 w (P.told q)) c.requires.1.1.0 (g.met.P.Port.made_tells p q _ _ m.0 m.1), m.2)) c.count.ensures.made in
+    let refused = refused_so t (λ f. ((g.met.P.Port.failed_leaves p q f.0).4, f.1)) c.count.ensures.refused in
+    subst (λ (m : NodeState). NodeWent n g.call into v (P.told p) m w (P.told q) t) (sym c.count.ensures.value) (count_says n g.call into v c.requires.1.1.1 asks (P.told p) w (P.told q) t made refused).0
 
-pub returns-else-is_over-clause-holds : goal.returns-else-is_over-clause-holds
-returns-else-is_over-clause-holds g c =
-    let p = c.args.port.now in let a = c.access-turn in let q = a.new.port in let n = c.args.self.now in let n1 = a.new.self in let into = c.args.into.now in let P = g.P.Port in let r = a.result in
-    let over : ends r ≡ false = sym c.is_over.ensures ∙ c.if-is_over.false in
-    let still : IsStill (P.view p) (P.view q) = by_turn r a.ensures.made a.ensures.refused (λ m. still_made (P.pool p) (next_step n.under (P.view p) into) _ (P.view p) (P.told p) m.0 (P.view q) (P.told q) (g.met.P.Port.made_tells p q _ _ m.0 m.1)) (λ f. still_same (P.view p) (P.view q) (g.met.P.Port.failed_leaves p q f.0).4) in
-    let went = subst (λ (u : Underway). Went n.pool n.under u n.cursors n1.cursors a.new.into (P.view p) (P.told p) (P.view q) (P.told q) r) (left_going r n1.under over) a.ensures.went in
-    let h = holds_on n (P.view p) into c.requires.holds (P.view q) still n1.under n1.cursors a.new.into (P.told p) (P.told q) r went in
-    subst (λ (z : Pool). NodeHolds (record { pool = z; cursors = n1.cursors; under = n1.under }) (P.view q) a.new.into) (sym a.ensures.pool) h
+pub returns-in-Names-clause-holds : goal.returns-in-Names-clause-holds
+returns-in-Names-clause-holds g c =
+    let p = c.args.port.now in let q = c.count.new.port in let P = g.P.Port in let v = P.view p in let w = P.view q in let into = c.args.into.now in let n = c.args.self.now in let t = c.count.result in
+    let asks = asked_counting n.counting n v g.call (subst (λ (s : NodeState). (s.counting ≡ Names) ⊎ (s.counting ≡ Absence)) c.self.view_is c.in-Names.is) c.requires.1.1.1.asked in
+    let made = made_so t (λ m. (m.0, subst (λ (y : Pool). Made y (count_of n.counting g.call) true v (P.told p) m.0 w (P.told q)) c.requires.1.1.0 (g.met.P.Port.made_tells p q _ _ m.0 m.1), m.2)) c.count.ensures.made in
+    let refused = refused_so t (λ f. ((g.met.P.Port.failed_leaves p q f.0).4, f.1)) c.count.ensures.refused in
+    subst (λ (m : NodeState). NodeHolds m g.call w into) (sym c.count.ensures.value) (count_says n g.call into v c.requires.1.1.1 asks (P.told p) w (P.told q) t made refused).1

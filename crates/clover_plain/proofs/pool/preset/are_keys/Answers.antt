@@ -2,7 +2,7 @@ use Rattle.std.proofs.Common.{subst, arith}
 use native.Mathlib.Decide.{ℕ_discrete}
 use mathlib.Core.Logic.{dite}
 use Rattle.std.proofs.Common.{ap, ◌∙◌, sym}
-use Rattle.clover_rule.specs.Content.{IsKey}
+use Rattle.clover_map.specs.Key.{IsKey}
 use Rattle.clover_rule.specs.Lists.{nth}
 use Rattle.clover_rule.proofs.Tools.{nth_within}
 use Rattle.clover_plain.proofs.Keys.{key_there}

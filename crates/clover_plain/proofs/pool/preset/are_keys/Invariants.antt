@@ -1,6 +1,6 @@
 use Rattle.std.proofs.Common.{◌≡◌, ◌<◌, ℕ, List}
 use Rattle.std.specs.Prelude.{Some}
-use Rattle.clover_rule.specs.Content.{IsKey}
+use Rattle.clover_map.specs.Key.{IsKey}
 use Rattle.clover_rule.specs.Lists.{nth}
 use Rattle.clover_plain.proofs.pool.preset.are_keys.Given as goal
 

@@ -6,9 +6,10 @@ use Rattle.clover_rule.specs.Lists.{nth}
 use Rattle.clover_sched.specs.Kept.{meaning}
 use Rattle.clover_sched.specs.Machine.{Parts, IsAt, Happens, MayCome}
 use Rattle.clover_sched.specs.declared.client.ClientState.{ClientState}
-use Rattle.clover_sched.specs.declared.client.Underway.TheVariants.{Nothing}
+use Rattle.clover_call.specs.declared.under.Underway.TheVariants.{Nothing}
 use Rattle.clover_sched.specs.declared.event.Event.TheVariants.{Begin}
-use Rattle.clover_sched.proofs.Happening.{missing_happens, busy_happens, begin_on, behind, may_one, may_stock, may_cursor, not_busy}
+use Rattle.clover_sched.proofs.Happening.{missing_happens, busy_happens, begin_on, behind, may_one, may_stock, may_cursors, may_pool}
+use Rattle.clover_sched.proofs.Turns.{not_busy}
 use Rattle.clover_sched.proofs.Onward.{with_client}
 use Rattle.clover_sched.proofs.Places.{nth_here}
 use Rattle.clover_sched.proofs.machine.Machine.begin.Goals as goal
@@ -33,16 +34,23 @@ begin-requires-clause-stock c =
     let here : nth m.clients (a - 1) ≡ Some x = nth_here m.clients (a - 1) x (omega (arith, c.self.inside.clients.ok.0)) c.index_mut.ensures.value in
     let was : nth m.clients (a - 1) ≡ Some c.index.result.now = nth_here m.clients (a - 1) c.index.result.now (omega (arith, c.self.inside.clients.ok.0)) c.index.ensures in
     let same : c.index.result.now ≡ x = cc (here, was) in
-    let idle : x.under ≡ Nothing = subst (λ (z : ClientState). z.under ≡ Nothing) same (not_busy c.index.result.now.under (λ busy. let t = c.is_busy.ensures.1 busy in cc (t, c.if-is_busy.false))) in
+    let idle : x.node.under ≡ Nothing = subst (λ (z : ClientState). z.node.under ≡ Nothing) same (not_busy c.index.result.now.node.under (λ busy. let t = c.is_busy.ensures.1 busy in cc (t, c.if-is_busy.false))) in
     let may : MayCome m (Begin a c.args.task) = subst (λ (p : Parts). MayCome p (Begin a c.args.task)) (sym c.self.view_is) c.requires.may in
     may_stock m a c.args.task x may here idle
 
-pub begin-requires-clause-cursor : goal.begin-requires-clause-cursor
-begin-requires-clause-cursor c =
+pub begin-requires-clause-cursors : goal.begin-requires-clause-cursors
+begin-requires-clause-cursors c =
     let m : Parts = meaning c.self.inside in
     let x = c.index_mut.result.now in
     let here : nth m.clients (c.args.actor - 1) ≡ Some x = nth_here m.clients (c.args.actor - 1) x (omega (arith, c.self.inside.clients.ok.0)) c.index_mut.ensures.value in
-    may_cursor m c.args.actor c.in-Some.slot x here c.self.invariant
+    may_cursors m c.args.actor x here c.self.invariant
+
+pub begin-requires-clause-pool : goal.begin-requires-clause-pool
+begin-requires-clause-pool c =
+    let m : Parts = meaning c.self.inside in
+    let x = c.index_mut.result.now in
+    let here : nth m.clients (c.args.actor - 1) ≡ Some x = nth_here m.clients (c.args.actor - 1) x (omega (arith, c.self.inside.clients.ok.0)) c.index_mut.ensures.value in
+    may_pool m c.args.actor x here c.self.invariant
 
 pub invariant_of-self : goal.invariant_of-self
 invariant_of-self c =
@@ -52,7 +60,7 @@ invariant_of-self c =
     let here : nth m.clients (a - 1) ≡ Some x = nth_here m.clients (a - 1) x (omega (arith, c.self.inside.clients.ok.0)) c.index_mut.ensures.value in
     let was : nth m.clients (a - 1) ≡ Some c.index.result.now = nth_here m.clients (a - 1) c.index.result.now (omega (arith, c.self.inside.clients.ok.0)) c.index.ensures in
     let same : c.index.result.now ≡ x = cc (here, was) in
-    let idle : x.under ≡ Nothing = subst (λ (z : ClientState). z.under ≡ Nothing) same (not_busy c.index.result.now.under (λ busy. let t = c.is_busy.ensures.1 busy in cc (t, c.if-is_busy.false))) in
+    let idle : x.node.under ≡ Nothing = subst (λ (z : ClientState). z.node.under ≡ Nothing) same (not_busy c.index.result.now.node.under (λ busy. let t = c.is_busy.ensures.1 busy in cc (t, c.if-is_busy.false))) in
     let may : MayCome m (Begin a c.args.task) = subst (λ (p : Parts). MayCome p (Begin a c.args.task)) (sym c.self.view_is) c.requires.may in
     let named : slice_get m.names c.in-Some.slot ≡ Some (key_of (call_in c.args.task)) = c.in-Some.ensures.some ∙ ap Some c.key_in.ensures in
     let happens : Happens m (with_client m (a - 1) c.begin.new.self) (Begin a c.args.task) c.begin.result = begin_on m a c.in-Some.slot x c.begin.new.self c.args.task c.begin.result (may_one m a c.args.task may) here idle named c.begin.ensures.begun c.stands.ensures.running in
@@ -66,7 +74,7 @@ returns-clause-happened c o rs at =
     let here : nth m.clients (a - 1) ≡ Some x = nth_here m.clients (a - 1) x (omega (arith, c.self.inside.clients.ok.0)) c.index_mut.ensures.value in
     let was : nth m.clients (a - 1) ≡ Some c.index.result.now = nth_here m.clients (a - 1) c.index.result.now (omega (arith, c.self.inside.clients.ok.0)) c.index.ensures in
     let same : c.index.result.now ≡ x = cc (here, was) in
-    let idle : x.under ≡ Nothing = subst (λ (z : ClientState). z.under ≡ Nothing) same (not_busy c.index.result.now.under (λ busy. let t = c.is_busy.ensures.1 busy in cc (t, c.if-is_busy.false))) in
+    let idle : x.node.under ≡ Nothing = subst (λ (z : ClientState). z.node.under ≡ Nothing) same (not_busy c.index.result.now.node.under (λ busy. let t = c.is_busy.ensures.1 busy in cc (t, c.if-is_busy.false))) in
     let may : MayCome m (Begin a c.args.task) = subst (λ (p : Parts). MayCome p (Begin a c.args.task)) (sym c.self.view_is) c.requires.may in
     let named : slice_get m.names c.in-Some.slot ≡ Some (key_of (call_in c.args.task)) = c.in-Some.ensures.some ∙ ap Some c.key_in.ensures in
     let happens : Happens m (with_client m (a - 1) c.begin.new.self) (Begin a c.args.task) c.begin.result = begin_on m a c.in-Some.slot x c.begin.new.self c.args.task c.begin.result (may_one m a c.args.task may) here idle named c.begin.ensures.begun c.stands.ensures.running in

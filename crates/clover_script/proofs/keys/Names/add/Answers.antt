@@ -1,6 +1,6 @@
-use Rattle.std.proofs.Common.{ap, sym, subst, ◌≡◌, ◌∙◌, List, ℕ, ◌∷◌, [], ◌++◌, Some, cond, length, rules}
+use Rattle.std.proofs.Common.{ap, sym, subst, ◌≡◌, ◌∙◌, List, ℕ, ◌∷◌, [], ◌++◌, Some, length, rules}
 use Rattle.std.specs.Ordering.{nat_cmp}
-use Rattle.std.specs.Prelude.{Contains}
+use Rattle.std.specs.Prelude.{if◌then◌else◌, Contains}
 use Rattle.std.specs.Cmp.Lexicographic.{slice_cmp}
 use Rattle.std.specs.BTreeMap.{is_at}
 use Rattle.clover_script.specs.Slots.{HasSlots, slot_in}
@@ -16,4 +16,4 @@ invariant_of-self-in-Ok c =
     let next : c.len-slot.result ≡ length keys = search rules in
     subst (λ (l : List (List ℕ)). HasSlots l c.insert.new.self.entries) (sym pushed)
     (slots_push keys entries c.insert.new.self.entries c.args.key c.self.invariant fresh
-    (λ q. c.in-Ok.ensures.updates.0 q ∙ ap (λ (n : ℕ). cond (is_at (slice_cmp nat_cmp c.args.key) q) (Some n) (slot_in entries q)) next))
+    (λ q. c.in-Ok.ensures.updates.0 q ∙ ap (λ (n : ℕ). if is_at (slice_cmp nat_cmp c.args.key) q then Some n else slot_in entries q) next))

@@ -1,0 +1,13 @@
+pub mod Walks
+pub mod Calling
+pub mod GetGoes
+pub mod PutGoes
+pub mod GetCalls
+pub mod PutCalls
+pub mod Knowing
+pub mod GetStep
+pub mod PutStep
+pub mod Begins
+pub mod Holds
+pub mod Staying
+pub mod Owned

@@ -1,0 +1,6 @@
+pub mod Calling
+pub mod Mirroring
+pub mod Caller
+pub mod Turning
+pub mod Going
+pub mod Beginning

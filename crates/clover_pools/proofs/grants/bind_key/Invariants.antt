@@ -1,0 +1,6 @@
+use Rattle.std.proofs.Common.{◌≡◌}
+use Rattle.clover_pools.proofs.Granting.{IsBinding}
+use Rattle.clover_pools.proofs.grants.bind_key.Given as goal
+
+abbrev pub invariant-loop : goal.invariant-loop
+invariant-loop l = record { binding : IsBinding l.pool l.task l.directory; setup : l.pool.setup ≡ l.initial.pool.setup }

@@ -1,5 +1,0 @@
-use Rattle.clover_pools.proofs.RecyclingBegin.{bind_begins}
-use Rattle.clover_pools.proofs.recycling.bind.Goals as goal
-
-pub loop-init : goal.loop-init
-loop-init c = bind_begins c.args.pool.now c.make-task.result c.args.directory.now c.args.key c.tag.result c.requires.dealt c.requires.directory c.make-task.ensures.made c.requires.key c.tag.ensures

@@ -1,0 +1,216 @@
+// Lines of clients, and the numbers in them.
+
+use crate::number::number_of;
+use crate::{Line, Task, first_line, line_of, push_call, push_number};
+use clover_map::Call;
+use std::alloc::Global;
+use std::test::Fail;
+
+#[test]
+fn reads_numbers(rt: HostRuntime) {
+    let cases: [(&[u8], Option<u64>); 10] = [
+        (b"0", Some(0)),
+        (b"17", Some(17)),
+        (b"18446744073709551615", Some(18_446_744_073_709_551_615)),
+        (b"18446744073709551616", None),
+        (b"", None),
+        (b"00", None),
+        (b"017", None),
+        (b"+1", None),
+        (b"-1", None),
+        (b"1x", None),
+    ];
+    for (text, want) in cases {
+        assert_eq!(rt; number_of(text), want);
+    }
+}
+
+fn with_letters(alloc: Global, front: &[u8], letters: u32) -> Result<Vec<u8>, Fail> {
+    let mut line = front.to_vec(alloc)?;
+    for _ in 0..letters {
+        line.push(b'k')?;
+    }
+    Ok(line)
+}
+
+#[test]
+fn cuts_the_first_line(rt: HostRuntime) {
+    let cases: [(&[u8], &[u8], &[u8]); 4] = [
+        (b"call 1 get a\nx", b"call 1 get a", b"x"),
+        (b"x", b"x", b""),
+        (b"x\n", b"x", b""),
+        (b"\n\nx", b"", b"\nx"),
+    ];
+    for (text, line, rest) in cases {
+        assert!(rt; !text.is_empty());
+        let (first, after) = first_line(text);
+        assert_eq!(rt; first, line);
+        assert_eq!(rt; after, rest);
+    }
+}
+
+/// Puts the parts of a line as it was read, each behind a name.
+fn show(out: &mut Vec<u8>, line: &Line) -> Result<(), Fail> {
+    match line {
+        Line::Begin { actor, task } => show_task(out, b"begin", *actor, task)?,
+        Line::Step { actor, times } => {
+            show_number(out, b"step ", u64::from(*actor))?;
+            show_number(out, b" times ", *times)?;
+        }
+        Line::Finish { actor } => show_number(out, b"finish ", u64::from(*actor))?,
+        Line::Call { actor, task } => show_task(out, b"call", *actor, task)?,
+        Line::Refuse { actor } => show_number(out, b"refuse ", u64::from(*actor))?,
+    }
+    Ok(())
+}
+
+fn show_task(out: &mut Vec<u8>, name: &[u8], actor: u32, task: &Task) -> Result<(), Fail> {
+    let Task::Client { call, written } = task;
+    out.extend_from_slice(name)?;
+    show_number(out, b" ", u64::from(actor))?;
+    out.push(b' ')?;
+    push_call(out, call)?;
+    show_number(out, b" written ", u64::from(*written))?;
+    Ok(())
+}
+
+fn show_number(out: &mut Vec<u8>, name: &[u8], number: u64) -> Result<(), Fail> {
+    out.extend_from_slice(name)?;
+    push_number(out, number)?;
+    Ok(())
+}
+
+#[test]
+fn reads_each_line_of_a_client(rt: HostRuntime) -> Result<(), Fail> {
+    let alloc = rt.alloc();
+    let cases: [(&[u8], &[u8]); 16] = [
+        (b"begin 1 get a", b"begin 1 get a written 0"),
+        (b"begin 16 put %00 =", b"begin 16 put %00 = written 0"),
+        (b"begin 2 put a =x%20y", b"begin 2 put a =x%20y written 3"),
+        (b"call 3 delete key", b"call 3 delete key written 0"),
+        (
+            b"call 9 swap a 63.65535.1048575 ==",
+            b"call 9 swap a 63.65535.1048575 == written 1",
+        ),
+        (b"call 9 swap a 0.0.0 =", b"call 9 swap a 0.0.0 = written 0"),
+        (
+            b"begin 1 swap put 1.2.3 =0.0.0",
+            b"begin 1 swap put 1.2.3 =0.0.0 written 5",
+        ),
+        (b"call 1 get begin", b"call 1 get begin written 0"),
+        (b"call 1 put get =get", b"call 1 put get =get written 3"),
+        (b"step 1 1", b"step 1 times 1"),
+        (b"step 16 1000000", b"step 16 times 1000000"),
+        (b"step 10 10", b"step 10 times 10"),
+        (b"finish 1", b"finish 1"),
+        (b"finish 16", b"finish 16"),
+        (b"refuse 1", b"refuse 1"),
+        (b"refuse 16", b"refuse 16"),
+    ];
+    for (text, want) in cases {
+        let Some(line) = line_of(alloc, text)? else {
+            return Err("a line".into());
+        };
+        let mut out = Vec::new(alloc);
+        show(&mut out, &line)?;
+        assert_eq!(rt; out.as_slice(), want);
+    }
+    Ok(())
+}
+
+#[test]
+fn reads_no_line_where_there_is_none(rt: HostRuntime) -> Result<(), Fail> {
+    let alloc = rt.alloc();
+    let cases: [&[u8]; 56] = [
+        b"",
+        b"#",
+        b"# finish 1",
+        b"pool nodes=1 buffers=4 slots=2 words=2 wear=3 clients=1 batch=2",
+        b"step 1 0",
+        b"step 1 1000001",
+        b"step 1 01",
+        b"step 1 ",
+        b"step 1",
+        b"step 0 1",
+        b"step 17 1",
+        b"step 1 1 ",
+        b"step  1 1",
+        b"step 1  1",
+        b"step 1 18446744073709551617",
+        b" step 1 1",
+        b"Step 1 1",
+        b"finish",
+        b"finish ",
+        b"finish 0",
+        b"finish 17",
+        b"finish 01",
+        b"finish 1 ",
+        b"finish 1 1",
+        b"finish 4294967297",
+        b"refuse 0",
+        b"refuse 17",
+        b"refuse 1 ",
+        b"refuse a",
+        b"begin 0 get a",
+        b"begin 17 get a",
+        b"begin 1",
+        b"begin 1 ",
+        b"begin 1 get",
+        b"begin 1 get ",
+        b"begin 1 get a ",
+        b"begin 1 get  a",
+        b"begin 1  get a",
+        b"begin  1 get a",
+        b"begin 1 get a =x",
+        b"begin 1 get %41",
+        b"begin 1 get %2F",
+        b"begin 1 delete a b",
+        b"begin 1 put a",
+        b"begin 1 put a x",
+        b"begin 1 put a  =x",
+        b"begin 1 put  =x",
+        b"call 1 swap a 64.0.0 =x",
+        b"call 1 swap a 0.65536.0 =x",
+        b"call 1 swap a 0.0.1048576 =x",
+        b"call 1 swap a 0.0 =x",
+        b"call 1 swap a 0.0.0.0 =x",
+        b"call 1 swap a 00.0.0 =x",
+        b"call 1 swap a =x",
+        b"call 0 recycle 1",
+        b"call 0 sweep",
+    ];
+    for text in cases {
+        assert!(rt; line_of(alloc, text)?.is_none());
+    }
+    Ok(())
+}
+
+#[test]
+fn reads_long_keys_and_values(rt: HostRuntime) -> Result<(), Fail> {
+    let alloc = rt.alloc();
+    let cases: [(&[u8], u32, bool); 6] = [
+        (b"begin 2 delete ", 250, true),
+        (b"begin 2 delete ", 251, false),
+        (b"begin 2 put a =", 65_535, true),
+        (b"begin 2 put a =", 65_536, false),
+        (b"call 2 swap a 0.0.0 =", 65_535, true),
+        (b"call 2 swap a 0.0.0 =", 65_536, false),
+    ];
+    for (front, letters, want) in cases {
+        let text = with_letters(alloc, front, letters)?;
+        assert_eq!(rt; line_of(alloc, &text)?.is_some(), want);
+    }
+    for (letters, kept) in [(1_024, 1_024), (1_025, 1_024), (65_535, 1_024)] {
+        let text = with_letters(alloc, b"begin 2 swap a 0.0.0 =", letters)?;
+        let Some(Line::Begin { actor: _, task }) = line_of(alloc, &text)? else {
+            return Err("a begin".into());
+        };
+        let Task::Client { call, written } = task;
+        assert_eq!(rt; written, letters);
+        let Call::Swap { value, .. } = call else {
+            return Err("a swap".into());
+        };
+        assert_eq!(rt; value.bytes.items().len(), kept);
+    }
+    Ok(())
+}
