@@ -1,22 +1,22 @@
 -- A call that runs alone: from its last start on nobody else has an event between its steps, it wants nothing of the server, and none of its accesses is refused.
 use Prim.Native.Nat.{suc}
-use Rattle.std.specs.Prelude.{◌≡◌, ℕ, ◌+◌, ◌*◌, ◌<◌, ◌≤◌, ◌==◌, List, [], ◌∷◌, ◌++◌, length, false, if◌then◌else◌, Option, Some, None}
+use Rattle.std.specs.Prelude.{◌≡◌, ℕ, ◌<◌, ◌≤◌, List, [], ◌∷◌, ◌++◌, length, false, Option, Some, None}
 use Rattle.clover_map.specs.History.{key_of}
 use Rattle.clover_map.specs.declared.bytes.Value.{Value}
 use Rattle.clover_map.specs.declared.call.Call.{Call}
-use Rattle.clover_map.specs.declared.call.Call.TheVariants.{Get, Put, Delete, Swap}
 use Rattle.clover_words.specs.declared.pool.Pool.{Pool}
 use Rattle.clover_script.specs.declared.line.Task.TheVariants.{Client as ClientTask}
 use Rattle.clover_rule.specs.Lists.{Each, nth, Within}
 use Rattle.clover_rule.specs.Words.{mem_of}
 use Rattle.clover_rule.specs.declared.access.Access.{Access}
 use Rattle.clover_rule.specs.declared.access.Actor.TheVariants.{Client}
-use Rattle.clover_walk.specs.Alone.{Way, way_from, LeadsOver, HasVersion, version_words}
-use Rattle.clover_run.specs.declared.event.Event.{Event}
-use Rattle.clover_run.specs.declared.event.Event.TheVariants.{Begin, Step}
+use Rattle.clover_walk.specs.Alone.{Way, way_from, LeadsOver, HasVersion}
+use Rattle.clover_sched.specs.declared.event.Event.{Event}
+use Rattle.clover_sched.specs.declared.event.Event.TheVariants.{Begin, Step}
 use Rattle.clover_run.specs.declared.event.Note.{Note}
 use Rattle.clover_run.specs.declared.event.Note.TheVariants.{Quiet, Answered, Granted}
-use Rattle.clover_run.specs.Ends.{MayBegin}
+use Rattle.clover_sched.specs.Alone.{HasChain, cost}
+use Rattle.clover_sched.specs.Ends.{MayBegin}
 use Rattle.clover_run.specs.Folds.{words_after, served_after}
 use Rattle.clover_run.specs.Record.{Record}
 use Rattle.clover_run.specs.Run.{Opening, Standing, standing, known_slot, want_in}
@@ -62,37 +62,9 @@ pub record Finds (p : Pool) (st : Standing) (slot : ℕ) (call : Call) : Type 0 
   pub version : Option Value
   pub has : HasVersion p st.words tail version
 
--- the slot's chain leads in these words from its root over some tags to a tail, which has a version
-pub record HasChain (p : Pool) (ws : List ℕ) (slot : ℕ) : Type 0 where
-  pub tags : List ℕ
-  pub tail : ℕ
-  pub leads : LeadsOver p ws ((mem_of p ws).root slot) tags tail
-  pub version : Option Value
-  pub has : HasVersion p ws tail version
-
 -- between any two records, before the first and behind the last, each slot that is bound there has such a chain
 abbrev pub AllFound : Opening → List Record → Type 0
 AllFound o rs = (before after : List Record) (slot : ℕ) (key : List ℕ) → rs ≡ before ++ after → Within (slot, key) (served_after o.served before).server.directory.list → HasChain o.setup.pool (words_after o.setup.pool o.words before) slot
-
--- the stores and flushes of the words of a call's own version
-abbrev pub own_accesses : Call → ℕ
-own_accesses (Get k) = 0
-own_accesses (Put k x) = 2 * version_words (Some x)
-own_accesses (Delete k) = 2 * version_words None
-own_accesses (Swap k t x) = 2 * version_words (Some x)
-
--- the accesses at the tail: a get loads the words of its version and then its link again; the others look at its meta word, but for a put, and then exchange its link, raise that and store the shortcut, or load it again where there is nothing to commit
-abbrev pub tail_accesses : Call → ℕ → Option Value → ℕ
-tail_accesses (Get k) u o = version_words o + 1
-tail_accesses (Put k x) u o = 3
-tail_accesses (Delete k) u (Some y) = 4
-tail_accesses (Delete k) u None = 2
-tail_accesses (Swap k t x) u (Some y) = if t == u then 4 else 2
-tail_accesses (Swap k t x) u None = 2
-
--- how many accesses a call costs that runs alone, with so many loads on the way to a live tag and so many links from there to the tail: two for each link, and one that shows the tail
-abbrev pub cost : Call → ℕ → ℕ → ℕ → Option Value → ℕ
-cost call loads links tail version = own_accesses call + loads + 2 * links + 1 + tail_accesses call tail version
 
 abbrev pub cost_of : (p : Pool) (st : Standing) (slot : ℕ) (call : Call) → Finds p st slot call → ℕ
 cost_of p st slot call f = cost call f.way.loads (length f.tags) f.tail f.version

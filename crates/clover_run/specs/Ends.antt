@@ -1,5 +1,5 @@
 -- At which tag each answered call of a client ended, in the order of the answers: what its cursors are.
-use Rattle.std.specs.Prelude.{◌≡◌, ◌≢◌, ◌⊎◌, ℕ, ◌==◌, List, [], ◌∷◌, if◌then◌else◌, Option, Some, None}
+use Rattle.std.specs.Prelude.{ℕ, ◌==◌, List, [], ◌∷◌, if◌then◌else◌, Option, Some}
 use Rattle.clover_words.specs.declared.word.Word.TheVariants.{Next as NextOf}
 use Rattle.clover_words.specs.Tag.{tag_number}
 use Rattle.clover_map.specs.History.{key_of}
@@ -46,18 +46,3 @@ ended_from c d h (r ∷ rs) = ended_from c (does_of c d r) (ended_by c d.task r.
 -- the keys of the client's answered calls with the tags at which they ended, the latest first
 abbrev pub ended : ℕ → List Record → List (List ℕ × ℕ)
 ended c rs = ended_from c nothing [] rs
-
--- the latest call on this key ended at this tag
-abbrev pub IsLatest : List ℕ → ℕ → List (List ℕ × ℕ) → Type 0
-IsLatest k t [] = ⊥
-IsLatest k t (q ∷ h) = (q ≡ (k, t)) ⊎ ((q.0 ≢ k) × IsLatest k t h)
-
--- the latest call of all was on another key, or there was none
-abbrev pub IsElsewhere : List ℕ → List (List ℕ × ℕ) → Type 0
-IsElsewhere k [] = Unit {0}
-IsElsewhere k (q ∷ h) = q.0 ≢ k
-
--- where a call on the key may begin: at the tag at which the latest one on it ended; where that was not the latest of all, for the list of cursors may have lost it, also without a cursor
-abbrev pub MayBegin : List (List ℕ × ℕ) → List ℕ → Option ℕ → Type 0
-MayBegin h k (Some t) = IsLatest k t h
-MayBegin h k None = IsElsewhere k h

@@ -1,5 +1,4 @@
 -- What some records lead to, each thing as a fold of its own: the accesses, the entries, the words, the server's side, and what each actor has under way.
-use Prim.Native.Nat.{suc}
 use Rattle.std.specs.Prelude.{ℕ, ◌+◌, ◌==◌, List, [], ◌∷◌, ◌++◌, map, take, Bool, true, false, if◌then◌else◌, Option, Some, None}
 use Rattle.std.specs.Option.{option_to_list}
 use Rattle.clover_alloc.specs.Batch.{tags_of}
@@ -9,22 +8,18 @@ use Rattle.clover_map.specs.declared.call.Entry.{Entry}
 use Rattle.clover_map.specs.declared.call.Reply.{Reply}
 use Rattle.clover_map.specs.History.{is_commit}
 use Rattle.clover_script.specs.declared.line.Task.{Task}
-use Rattle.clover_rule.specs.Accesses.{words_after_act}
 use Rattle.clover_rule.specs.Learned.{rest_of}
 use Rattle.clover_rule.specs.declared.access.Access.{Access}
 use Rattle.clover_rule.specs.declared.access.Act.{Act}
 use Rattle.clover_rule.specs.declared.access.Actor.{Actor}
 use Rattle.clover_rule.specs.declared.access.Actor.TheVariants.{Client}
-use Rattle.clover_run.specs.declared.event.Event.{Event}
-use Rattle.clover_run.specs.declared.event.Event.TheVariants.{Begin, Step, Refuse}
+use Rattle.clover_sched.specs.declared.event.Event.{Event}
+use Rattle.clover_sched.specs.declared.event.Event.TheVariants.{Begin, Step, Refuse}
 use Rattle.clover_run.specs.declared.event.Note.{Note}
 use Rattle.clover_run.specs.declared.event.Note.TheVariants.{Quiet, Waits, Granted}
+use Rattle.clover_sched.specs.Folds.{along, words_by, made_by, actor_of}
 use Rattle.clover_run.specs.Record.{Record}
 use Rattle.clover_run.specs.Served.{Served}
-
-abbrev pub along : {A X : Type 0} → (A → X → A) → A → List X → A
-along f a [] = a
-along f a (x ∷ xs) = along f (f a x) xs
 
 -- the accesses and the entries of some records, in order
 abbrev pub accesses_in : List Record → List Access
@@ -36,18 +31,10 @@ entries_in [] = []
 entries_in (r ∷ rs) = option_to_list r.entry ++ entries_in rs
 
 -- the words after some records
-abbrev pub words_by : Pool → List ℕ → Option Access → List ℕ
-words_by p ws None = ws
-words_by p ws (Some x) = if x.refused then ws else words_after_act p ws x.act
-
 abbrev pub words_after : Pool → List ℕ → List Record → List ℕ
 words_after p ws rs = along (λ (w : List ℕ) (r : Record). words_by p w r.access) ws rs
 
 -- how many accesses were made, behind so many; a refused one was not
-abbrev pub made_by : ℕ → Option Access → ℕ
-made_by n None = n
-made_by n (Some x) = if x.refused then n else suc n
-
 abbrev pub made_after : ℕ → List Record → ℕ
 made_after n rs = along (λ (m : ℕ) (r : Record). made_by m r.access) n rs
 
@@ -66,11 +53,6 @@ pub record Doing : Type 0 where
 
 abbrev pub nothing : Doing
 nothing = record { task = None; decided = None; since = []; refusing = false; known = 0; stock = [] }
-
-abbrev pub actor_of : Event → ℕ
-actor_of (Begin a t) = a
-actor_of (Step a) = a
-actor_of (Refuse a) = a
 
 -- a note of a step with which the task ends
 abbrev pub ends : Note → Bool

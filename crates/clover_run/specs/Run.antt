@@ -1,13 +1,11 @@
 -- What a run is: a list of records of which each follows those before it.
 use Prim.Native.Nat.{suc}
-use Rattle.std.specs.Prelude.{◌≡◌, ℕ, ◌*◌, ◌<◌, ◌==◌, ltb, List, [], ◌∷◌, ◌++◌, length, true, false, if◌then◌else◌, Option, Some, None, IfSome, IsSome}
+use Rattle.std.specs.Prelude.{◌≡◌, ℕ, ◌<◌, ◌==◌, ltb, List, [], ◌∷◌, ◌++◌, length, true, false, if◌then◌else◌, Option, Some, None, IfSome, IsSome}
 use Rattle.clover_words.specs.declared.pool.Pool.{Pool}
 use Rattle.clover_words.specs.declared.setup.Setup.{Setup}
-use Rattle.clover_words.specs.declared.word.Word.TheVariants.{Next as NextOf, Short, Count}
+use Rattle.clover_words.specs.declared.word.Word.TheVariants.{Short, Count}
 use Rattle.clover_words.specs.declared.word.Side.TheVariants.{Current}
 use Rattle.clover_words.specs.Next.{root_code}
-use Rattle.clover_words.specs.Tag.{home}
-use Rattle.clover_words.specs.Version.{linked, buffer_at}
 use Rattle.clover_map.specs.History.{own, key_of, is_commit}
 use Rattle.clover_map.specs.Tagged.{Tagged}
 use Rattle.clover_map.specs.declared.call.Call.{Call}
@@ -17,22 +15,23 @@ use Rattle.clover_map.specs.declared.call.Reply.{Reply}
 use Rattle.clover_map.specs.declared.call.Reply.TheVariants.{Stored, Deleted, Absent, Found}
 use Rattle.clover_script.specs.declared.line.Task.{Task}
 use Rattle.clover_script.specs.declared.line.Task.TheVariants.{Client as ClientTask}
-use Rattle.clover_rule.specs.Accesses.{CameBack, Decides, wrote_link}
+use Rattle.clover_rule.specs.Accesses.{CameBack, Decides}
 use Rattle.clover_rule.specs.Content.{content}
 use Rattle.clover_rule.specs.Lists.{Within}
 use Rattle.clover_rule.specs.declared.access.Access.{Access}
 use Rattle.clover_rule.specs.declared.access.Act.{Act}
-use Rattle.clover_rule.specs.declared.access.Act.TheVariants.{Load, Store, Exchange, Raise}
+use Rattle.clover_rule.specs.declared.access.Act.TheVariants.{Load, Store}
 use Rattle.clover_rule.specs.declared.access.Actor.TheVariants.{Client}
 use Rattle.clover_walk.specs.Walking.{Ended, budget, most_accesses}
 use Rattle.clover_call.specs.Calling.{Calling, begun_call, due, LeadsTo}
-use Rattle.clover_run.specs.declared.event.CallRefusal.{CallRefusal}
-use Rattle.clover_run.specs.declared.event.CallRefusal.TheVariants.{Unreached, Linked, Behind, TooLong}
-use Rattle.clover_run.specs.declared.event.Event.{Event}
-use Rattle.clover_run.specs.declared.event.Event.TheVariants.{Begin, Step, Refuse}
+use Rattle.clover_sched.specs.declared.event.CallRefusal.TheVariants.{Behind, TooLong}
+use Rattle.clover_sched.specs.declared.event.Event.{Event}
+use Rattle.clover_sched.specs.declared.event.Event.TheVariants.{Begin, Step, Refuse}
 use Rattle.clover_run.specs.declared.event.Note.{Note}
 use Rattle.clover_run.specs.declared.event.Note.TheVariants.{Quiet, Answered, Refused, Busy, Missing}
-use Rattle.clover_run.specs.Ends.{ended, MayBegin}
+use Rattle.clover_sched.specs.Ends.{MayBegin}
+use Rattle.clover_sched.specs.Run.{room, IsBlank, Flushes, Shortens, Wrote, lost}
+use Rattle.clover_run.specs.Ends.{ended}
 use Rattle.clover_run.specs.Folds.{Doing, entries_in, words_after, served_after, doing, names_of}
 use Rattle.clover_run.specs.Record.{Record}
 use Rattle.clover_run.specs.Served.{Served}
@@ -77,10 +76,6 @@ known_slot st call = slot_for (key_of call) st.names
 abbrev pub want_in : Standing → Call → Want
 want_in st call = wants call (known_slot st call) st.does.stock st.does.since
 
--- how many bytes of a value a buffer has room for
-abbrev pub room : Setup → ℕ
-room s = 8 * s.pool.words
-
 -- what an actor's begin comes to
 abbrev pub begin_note : Setup → Doing → ℕ → Task → Note
 begin_note s d a (ClientTask c written) = if ltb s.clients a then Missing a else free d.task
@@ -95,13 +90,6 @@ pub record Still (v : Served) (r : Record) (note : Note) : Type 0 where
   pub entry : r.entry ≡ None
   pub note_is : r.note ≡ note
   pub served : r.served ≡ v
-
--- nothing came back
-abbrev pub IsBlank : Act → Type 0
-IsBlank (Load w got) = got ≡ 0
-IsBlank (Store w side value) = Unit {0}
-IsBlank (Exchange w expected new old) = old ≡ 0
-IsBlank (Raise w value old) = old ≡ 0
 
 -- an access in an event of an actor, its own or the server's: it is refused exactly where that was asked for; one that was made came back with what the words give
 pub record IsAccess (p : Pool) (st : Standing) (x : Access) : Type 0 where
@@ -121,19 +109,6 @@ pub record IsEntry (p : Pool) (st : Standing) (r : Record) (e : Entry) : Type 0 
   pub number : e.number ≡ suc st.entries
   pub decided : Decides p st.words st.names (st.does.since ++ access.act ∷ []) e.call e.reply
 
--- the last of these acts is the raise of the flushed copy of the link to t, behind the exchange by which the call wrote that link
-pub record Flushes (t : ℕ) (acts : List Act) : Type 0 where
-  pub from : ℕ
-  pub old : ℕ
-  pub before : List Act
-  pub all : acts ≡ before ++ Raise (NextOf (buffer_at (home from))) (linked from t) old ∷ []
-  pub wrote : Within (wrote_link from t) before
-
--- the act stores a slot's shortcut
-abbrev pub Shortens : Act → Type 0
-Shortens (Store (Short s) side x) = Unit {0}
-Shortens act = ⊥
-
 -- the call under way stores the tag that it committed in the shortcut of its key's slot, right behind the raise of its link
 pub record EndsCommit (st : Standing) (act : Act) (t : ℕ) : Type 0 where
   pub call : Call
@@ -143,12 +118,6 @@ pub record EndsCommit (st : Standing) (act : Act) (t : ℕ) : Type 0 where
   pub named : Within (slot, key_of call) st.names
   pub stores : act ≡ Store (Short slot) Current (root_code (Some t))
   pub flushed : Flushes t st.does.since
-
--- what a call whose access was refused is answered: it had changed nothing, or its link stands
-abbrev pub lost : Option Reply → CallRefusal
-lost (Some (Stored t)) = Linked t
-lost (Some (Deleted t)) = Linked t
-lost o = Unreached
 
 -- a commit's answer comes at the store of its shortcut; any other answer at the access that decides it
 abbrev pub IsAnswer : Standing → Option Entry → Act → Reply → Type 0
@@ -163,11 +132,6 @@ IsCause p st e act Quiet = IfSome e (λ (x : Entry). is_commit x.reply ≡ true)
 IsCause p st e act (Answered c r) = (c ≡ st.actor) × IsAnswer st e act r
 IsCause p st e act (Refused c (Behind n)) = (c ≡ st.actor) × (n ≡ budget p) × (e ≡ None) × (st.does.decided ≡ None) × (Shortens act → ⊥)
 IsCause p st e act note = ⊥
-
--- an exchange that wrote
-abbrev pub Wrote : Act → Type 0
-Wrote (Exchange w expected new old) = old ≡ expected
-Wrote act = ⊥
 
 -- a commit takes the first buffer of the stock
 abbrev pub TakesFirst : Standing → Entry → Type 0

@@ -1,32 +1,8 @@
-// What happens in a run, and what it comes to. These types are data alone.
+// What an event of a run comes to, where a metadata server hands out the space. The type is data alone.
 use clover_alloc::Batch;
 use clover_map::Reply;
-use clover_script::Task;
+use clover_sched::CallRefusal;
 use clover_words::Tag;
-
-/// One event of a run. Actors are the clients, counted from 1.
-#[derive(Drop)]
-pub enum Event {
-    /// The actor begins a task.
-    Begin { actor: u32, task: Task },
-    /// The actor's task makes its next access.
-    Step { actor: u32 },
-    /// The actor's next access is to be refused.
-    Refuse { actor: u32 },
-}
-
-/// Why a client's call ended without an answer.
-#[derive(Drop)]
-pub enum CallRefusal {
-    /// An access was refused before the call had changed anything that others see.
-    Unreached,
-    /// An access was refused after the call had linked its version, which has this tag's number.
-    Linked { tag: u64 },
-    /// The call was shown so many links and passed tags that it gives up.
-    Behind { turns: u64 },
-    /// The value has more bytes than a buffer has room for.
-    TooLong { length: u64, room: u64 },
-}
 
 /// What an event came to.
 #[derive(Drop)]
@@ -36,9 +12,15 @@ pub enum Note {
     /// The actor needs the server, which another one holds.
     Waits,
     /// A client's call was answered.
-    Answered { client: u32, reply: Reply },
+    Answered {
+        client: u32,
+        reply: Reply,
+    },
     /// A client's call ended without an answer.
-    Refused { client: u32, refusal: CallRefusal },
+    Refused {
+        client: u32,
+        refusal: CallRefusal,
+    },
     /// A client's call ended since no buffer is free: so many are bound, worn, and handed out.
     Full {
         client: u32,
@@ -47,7 +29,9 @@ pub enum Note {
         out: u32,
     },
     /// A client's call ended since its key is not bound, and every slot is.
-    NoSlot { client: u32 },
+    NoSlot {
+        client: u32,
+    },
     /// The server handed a client a batch of buffers, and so many bindings that it did not know; its call starts anew.
     Granted {
         client: u32,
@@ -55,17 +39,25 @@ pub enum Note {
         names: u32,
     },
     /// The recycler has taken the slot's root version off, which had this tag, and given its buffer back.
-    Recycled { old: Tag },
+    Recycled {
+        old: Tag,
+    },
     /// No version stands behind the slot's root version: there is nothing to recycle.
     Unlinked,
     /// The slot that the recycler was asked for is not bound.
     Unbound,
     /// The recycler's sweep has read the root version of each bound slot unlinked; so many recyclings ended in its events.
-    Swept { count: u64 },
+    Swept {
+        count: u64,
+    },
     /// An access for the recycler was refused.
     Unreached,
     /// The actor has a task already.
-    Busy { actor: u32 },
+    Busy {
+        actor: u32,
+    },
     /// There is no such actor.
-    Missing { actor: u32 },
+    Missing {
+        actor: u32,
+    },
 }

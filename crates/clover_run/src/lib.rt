@@ -1,7 +1,7 @@
-//! What a run is: events of actors, what each came to, and which record may follow some others. Data and definitions
-//! alone; the machine that makes runs stands above.
+//! What a run with a metadata server is: how a record of it follows those before it. Definitions and the note of an
+//! event alone, beside those of `clover_sched`, whose machine is to follow them.
 #![tactic(auto)]
 
 mod event;
 
-pub use event::{CallRefusal, Event, Note};
+pub use event::Note;
