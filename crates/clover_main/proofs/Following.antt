@@ -16,7 +16,6 @@ use Rattle.clover_sched.specs.declared.event.Event.{Event}
 use Rattle.clover_sched.specs.declared.event.Event.TheVariants.{Begin, Step, Refuse}
 use Rattle.clover_sched.proofs.Pasts.{entries_more, words_more}
 use Rattle.clover_main.specs.Performing.{IsLawful}
-use Rattle.clover_main.proofs.Committing.{legal_committed}
 
 -- an access that was made came back with what the words give
 fits_access : (o : Opening) (before : List Record) (r : Record) (e : Event) → Fits o before r e → (x : Access) → r.access ≡ Some x → x.refused ≡ false → CameBack o.setup.pool (words_after o.setup.pool o.words before) x.act
@@ -76,7 +75,6 @@ lawful_at o m rs at = record {
   replays = run_replays o rs at.run;
   legal = at.legal;
   numbered = run_numbered o rs at.run;
-  whole = legal_committed (entries_in rs) at.legal;
   found = at.found;
   alone = at.alone.all;
 }

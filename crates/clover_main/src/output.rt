@@ -1,7 +1,7 @@
 // What waits to be put into the sink. It is put in large pieces, and what one event prints stays together.
 ghost use Rattle.std.specs.Prelude.{◌≡◌, ◌≤◌, ◌++◌, ◌∷◌, List, [], length, true, OnOk, OnErr, IfErr, slice_get};
 ghost use Rattle.std.specs.Io.KnownBytes.{Appends};
-ghost use Rattle.clover_sched.specs.Folds.{accesses_in, entries_in, made_in};
+ghost use Rattle.clover_sched.specs.Folds.{accesses_in, entries_in, made_after};
 ghost use Rattle.clover_sched.specs.Machine.{IsAt};
 ghost use Rattle.clover_sched.specs.Record.{Record};
 ghost use Rattle.clover_sched.specs.Run.{Opening};
@@ -118,8 +118,8 @@ impl Output {
 
     /// Puts all that waits, and behind it the history and the number of accesses.
     pub fn close<K: Sink>(mut self, machine: &Machine, sink: &mut K) -> Result<(), Stop>
-        ensures ok { OnOk result ((o : Opening) (rs : List Record) → IsAt o machine.now rs → Appends (K.taken sink.old) (K.taken sink.new) (self.waiting.items ++ ending (entries_in rs) (made_in rs))) }
-        ensures err { IfErr result (λ stop. (o : Opening) (rs : List Record) → IsAt o machine.now rs → PutsEnding stop (K.taken sink.old) (K.taken sink.new) self.waiting.items (ending (entries_in rs) (made_in rs))) }
+        ensures ok { OnOk result ((o : Opening) (rs : List Record) → IsAt o machine.now rs → Appends (K.taken sink.old) (K.taken sink.new) (self.waiting.items ++ ending (entries_in rs) (made_after o.made rs))) }
+        ensures err { IfErr result (λ stop. (o : Opening) (rs : List Record) → IsAt o machine.now rs → PutsEnding stop (K.taken sink.old) (K.taken sink.new) self.waiting.items (ending (entries_in rs) (made_after o.made rs))) }
         ensures cause { HasStopCause (K.faults sink.old) (K.faults sink.new) result }
     {
         self.piece.clear();

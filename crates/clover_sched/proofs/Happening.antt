@@ -1,7 +1,6 @@
 -- What an event of an actor comes to, by what the machine's client of that number does.
 use Rattle.std.proofs.Common.{◌≡◌, ◌≢◌, ℕ, ◌-◌, ◌≤◌, ◌<◌, suc, length, set, get_or, List, [], ◌∷◌, ◌++◌, Bool, true, refl, sym, ap, ◌∙◌, subst, arith}
 use Rattle.std.specs.Prelude.{Option, Some, None, Result, Ok, Err, IfOk, OnErr, slice_get, if◌then◌else◌}
-use Rattle.std.specs.FinMap as finite
 use Rattle.std.proofs.lemmas.Result.{IfOk-weaker}
 use Rattle.std.proofs.lemmas.Option.{same_Some}
 use Rattle.clover_map.specs.Legal.{Legal}
@@ -104,8 +103,8 @@ module _ (m : Parts) (a : ℕ) (one : 1 ≤ a) where
   step_happens x y q note here went running o rs at =
       let w = went o (a - 1) same_actor (at.each (a - 1) x here).stands in
       let runs : Running q = running (w.moved.opened ∙ at.pool.opened) in
-      let legal : Legal finite.empty [] (history q) = subst (λ (f : Tagged). Legal f [] (history q)) (w.moved.first ∙ at.pool.first) (subst (λ (u : List ℕ). Legal q.first u (history q)) (w.moved.used ∙ at.pool.used) runs.rule.history_and_map.legal) in
-      (_, ap Step same_actor, refl, stepped_client o m rs at (a - 1) x y q note here w runs (subst (λ (h : List Entry). Legal finite.empty [] h) (sym w.moved.entered) legal), went_told o m (a - 1) x y q note w)
+      let legal : Legal o.first o.used (history q) = subst (λ (f : Tagged). Legal f o.used (history q)) (w.moved.first ∙ at.pool.first) (subst (λ (u : List ℕ). Legal q.first u (history q)) (w.moved.used ∙ at.pool.used) runs.rule.history_and_map.legal) in
+      (_, ap Step same_actor, refl, stepped_client o m rs at (a - 1) x y q note here w runs (subst (λ (h : List Entry). Legal o.first o.used h) (sym w.moved.entered) legal), went_told o m (a - 1) x y q note w)
 
 pub kept_at : (o : Opening) (m n : Parts) (rs : List Record) → IsSame m n → IsAt o m rs → IsAt o n rs
 kept_at o m n rs same at =

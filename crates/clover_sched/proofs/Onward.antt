@@ -1,7 +1,6 @@
 -- The machine stands behind one record more: in general, and for each kind of event.
 use Rattle.std.proofs.Common.{◌≡◌, ◌≢◌, ℕ, ◌+◌, ◌≤◌, ◌<◌, suc, length, set, List, [], ◌∷◌, ◌++◌, Bool, true, false, refl, sym, ap, ◌∙◌, subst, arith, append-nil, ltb, ne_eqb, ⊎_elim}
 use Rattle.std.specs.Prelude.{Option, Some, None, ◌==◌, if◌then◌else◌, IfSome}
-use Rattle.std.specs.FinMap as finite
 use Rattle.std.proofs.lemmas.Bool.{lt-ltb, le-ltb}
 use Rattle.std.proofs.lemmas.Option.{IfSome_then, same_Some}
 use Rattle.std.proofs.lemmas.List.{length-set}
@@ -28,7 +27,7 @@ use Rattle.clover_script.specs.declared.line.Task.TheVariants.{Client as ClientT
 use Rattle.clover_sched.specs.Alone.{OpensCall, IsOwnStep, Finds, RunsAlone, cost_of, EndsIn, NotesWith, AloneSoFar, AllFound, HasChain}
 use Rattle.clover_sched.specs.Client.{Stands, Matches, Moved, Went, Starts, Begins, spent, since_of, step_record}
 use Rattle.clover_sched.specs.Ends.{ended, MayBegin}
-use Rattle.clover_sched.specs.Folds.{listed, accesses_in, entries_in, words_by, words_after, made_by, made_in, Doing, actor_of, rested, takes_by, replied, begun, stepped, ends, does, doing}
+use Rattle.clover_sched.specs.Folds.{listed, accesses_in, entries_in, words_by, words_after, made_by, made_after, Doing, actor_of, rested, takes_by, replied, begun, stepped, ends, does, doing}
 use Rattle.clover_sched.specs.Machine.{Parts, Remembers, GoesSoFar, IsAt, IsPoolAt, IsClientAt, asked}
 use Rattle.clover_sched.specs.Record.{Record}
 use Rattle.clover_sched.specs.Run.{Opening, Follows, IsStep, IsEntry, AllDue, IsDue, lost, begin_note}
@@ -52,7 +51,7 @@ use Rattle.clover_sched.proofs.Remembering.{IsOn, AnswersOnly, ended_still, ende
 pub pushed : (o : Opening) (m n : Parts) (rs : List Record) (r : Record) → IsAt o m rs → Follows o rs r → n.setup ≡ m.setup → n.names ≡ m.names → IsPoolAt o n.pool (rs ++ r ∷ []) → length n.clients ≡ length m.clients
     → ((i : ℕ) (x : ClientState) → nth n.clients i ≡ Some x → IsClientAt o n.pool i x (rs ++ r ∷ []))
     → ((d : Doing) → o.setup.clients < actor_of r.event → d.task ≡ None → (does d r r.event).task ≡ None)
-    → Legal finite.empty [] (entries_in (rs ++ r ∷ [])) → AllFound o (rs ++ r ∷ []) → AloneSoFar o n.pool.words n.clients (rs ++ r ∷ []) → IsAt o n (rs ++ r ∷ [])
+    → Legal o.first o.used (entries_in (rs ++ r ∷ [])) → AllFound o (rs ++ r ∷ []) → AloneSoFar o n.pool.words n.clients (rs ++ r ∷ []) → IsAt o n (rs ++ r ∷ [])
 pushed o m n rs r at follows setup names pool clients each far legal found alone = record {
   run = goes_more o [] rs r at.run follows;
   setup = setup ∙ at.setup;
@@ -92,7 +91,7 @@ still_pool o p rs r at a e = record {
   entries = at.entries ∙ sym (still_entries rs r e);
   entered = at.entered;
   accesses = at.accesses ∙ ap (λ (l : List Access). if p.traced then l else []) (sym (still_accesses rs r a));
-  made = at.made ∙ sym (made_more rs r ∙ ap (made_by (made_in rs)) a);
+  made = at.made ∙ sym (made_more o.made rs r ∙ ap (made_by (made_after o.made rs)) a);
   seats = at.seats;
 }
 
@@ -144,8 +143,8 @@ module _ (o : Opening) (m : Parts) (rs : List Record) (at : IsAt o m rs) where
   names_are : AreBindings o.names
   names_are = subst AreBindings (sym at.names) (bindings_are m.names at.apart)
 
-  still_legal : (r : Record) → r.entry ≡ None → Legal finite.empty [] (entries_in (rs ++ r ∷ []))
-  still_legal r e = subst (λ (l : List Entry). Legal finite.empty [] l) (sym (still_entries rs r e)) at.legal
+  still_legal : (r : Record) → r.entry ≡ None → Legal o.first o.used (entries_in (rs ++ r ∷ []))
+  still_legal r e = subst (λ (l : List Entry). Legal o.first o.used l) (sym (still_entries rs r e)) at.legal
 
   -- a record without an access is no step of a call that runs alone
   no_step : (e : Event) (note : Note) (c : ℕ) → IsOwnStep c (still e note) → ⊥
@@ -366,7 +365,7 @@ moved_pool o i x e note p q rs at moved =
       entries = moved.entries ∙ ap (λ (l : List Entry). l ++ listed e) at.entries ∙ sym (entries_more rs r);
       entered = moved.entered;
       accesses = moved.accesses ∙ grown p.traced at.accesses ∙ ap (λ (b : Bool). if b then accesses_in rs ++ x ∷ [] else []) (sym moved.traced) ∙ ap (λ (l : List Access). if q.traced then l else []) (sym (accesses_more rs r));
-      made = moved.made ∙ ap (λ (n : ℕ). made_by n (Some x)) at.made ∙ sym (made_more rs r);
+      made = moved.made ∙ ap (λ (n : ℕ). made_by n (Some x)) at.made ∙ sym (made_more o.made rs r);
       seats = moved.seats ∙ at.seats;
     }
   where
@@ -430,7 +429,7 @@ module _ (o : Opening) (m : Parts) (rs : List Record) (at : IsAt o m rs) (i : �
   goes_on_so still = goes_by (ends note) refl still
 
 -- a client makes the next access of its call
-pub stepped_client : (o : Opening) (m : Parts) (rs : List Record) → IsAt o m rs → (i : ℕ) (x y : ClientState) (q : Plain) (note : Note) → nth m.clients i ≡ Some x → (w : Went o i x y m.pool q note) → Running q → Legal finite.empty [] q.entries
+pub stepped_client : (o : Opening) (m : Parts) (rs : List Record) → IsAt o m rs → (i : ℕ) (x y : ClientState) (q : Plain) (note : Note) → nth m.clients i ≡ Some x → (w : Went o i x y m.pool q note) → Running q → Legal o.first o.used q.entries
     → IsAt o (with_pool m i y q) (rs ++ step_record i w.access w.entry note ∷ [])
 stepped_client o m rs at i x y q note here w running legal =
     let r : Record = step_record i w.access w.entry note in
@@ -465,7 +464,7 @@ stepped_client o m rs at i x y q note here w running legal =
     (λ j z apart there. let was = at.each j z there in other_client o m.pool q j z rs r was (λ (s : suc i ≡ suc j). apart (omega arith)) (stands_on o i j z w.access w.entry m.pool q apart client w.moved was.stands) (w.moved.others j apart)
     (ended_more (suc j) rs r ∙ ended_other (suc j) (suc i) (doing (suc j) rs).task note w.access (ended (suc j) rs) answers (λ (s : suc i ≡ suc j). apart (omega arith)))))
     (λ d above h. absurd (let l = was.stands.seat in omega arith))
-    (subst (λ (l : List Entry). Legal finite.empty [] l) pool.entries legal)
+    (subst (λ (l : List Entry). Legal o.first o.used l) pool.entries legal)
     (all_found_more o rs r at.found (λ call slot named. chain_here o (rs ++ r ∷ []) q i y w.stands running pool.words call slot named None tt)) alone
   where
     no_begin : (c : ℕ) (call : Call) → OpensCall c call (step_record i w.access w.entry note) → ⊥

@@ -9,7 +9,7 @@ use Rattle.clover_script.specs.Lines.{takes}
 use Rattle.clover_script.specs.declared.line.Task.{Task}
 use Rattle.clover_script.specs.declared.line.Task.TheVariants.{Client as ClientTask}
 use Rattle.clover_sched.specs.Ends.{ended_by, ended_from, ended}
-use Rattle.clover_sched.specs.Folds.{Doing, nothing, along, listed, accesses_in, entries_in, words_by, words_after, made_by, made_in, actor_of, does, does_of, doing}
+use Rattle.clover_sched.specs.Folds.{Doing, nothing, along, listed, accesses_in, entries_in, words_by, words_after, made_by, made_after, actor_of, does, does_of, doing}
 use Rattle.clover_sched.specs.Machine.{asks, asked}
 use Rattle.clover_sched.specs.Record.{Record}
 use Rattle.clover_sched.specs.Run.{Opening, Follows, Goes}
@@ -28,8 +28,8 @@ entries_more (x ∷ xs) r = ap (λ (l : List Entry). listed x.entry ++ l) (entri
 pub words_more : (p : Pool) (ws : List ℕ) (rs : List Record) (r : Record) → words_after p ws (rs ++ r ∷ []) ≡ words_by p (words_after p ws rs) r.access
 words_more p ws rs r = along_append (λ (w : List ℕ) (x : Record). words_by p w x.access) ws rs (r ∷ [])
 
-pub made_more : (rs : List Record) (r : Record) → made_in (rs ++ r ∷ []) ≡ made_by (made_in rs) r.access
-made_more rs r = along_append (λ (n : ℕ) (x : Record). made_by n x.access) 0 rs (r ∷ [])
+pub made_more : (n : ℕ) (rs : List Record) (r : Record) → made_after n (rs ++ r ∷ []) ≡ made_by (made_after n rs) r.access
+made_more n rs r = along_append (λ (m : ℕ) (x : Record). made_by m x.access) n rs (r ∷ [])
 
 pub goes_more : (o : Opening) (before rs : List Record) (r : Record) → Goes o before rs → Follows o (before ++ rs) r → Goes o before (rs ++ r ∷ [])
 goes_more o before [] r g f = (subst (λ (l : List Record). Follows o l r) (append-nil before) f, tt)

@@ -41,13 +41,13 @@ words_by p ws (Some x) = if x.refused then ws else words_after_act p ws x.act
 abbrev pub words_after : Pool → List ℕ → List Record → List ℕ
 words_after p ws rs = along (λ (w : List ℕ) (r : Record). words_by p w r.access) ws rs
 
--- how many accesses were made; a refused one was not
+-- how many accesses were made behind so many before them; a refused one was not
 abbrev pub made_by : ℕ → Option Access → ℕ
 made_by n None = n
 made_by n (Some x) = if x.refused then n else suc n
 
-abbrev pub made_in : List Record → ℕ
-made_in rs = along (λ (n : ℕ) (r : Record). made_by n r.access) 0 rs
+abbrev pub made_after : ℕ → List Record → ℕ
+made_after n rs = along (λ (m : ℕ) (r : Record). made_by m r.access) n rs
 
 -- What an actor has under way: its task, its reply from the deciding access on, the acts that were made since its begin, whether its next access is refused, and how many buffers of its stock its calls before have committed.
 pub record Doing : Type 0 where

@@ -32,7 +32,7 @@ use Rattle.clover_call.specs.Calling.{Calling, own_words}
 use Rattle.clover_call.specs.Mirroring.{Mirrors}
 use Rattle.clover_sched.specs.Client.{Stands, Matches, IsLast, IsTask, spent, since_of}
 use Rattle.clover_sched.specs.Ends.{ended, IsLatest}
-use Rattle.clover_sched.specs.Folds.{Doing, entries_in, accesses_in, words_after, made_in, doing, along}
+use Rattle.clover_sched.specs.Folds.{Doing, entries_in, accesses_in, words_after, made_after, doing, along}
 use Rattle.clover_sched.specs.Record.{Record}
 use Rattle.clover_sched.specs.Run.{Opening, IsRun, IsCalling, own_of, most_made}
 
@@ -57,15 +57,15 @@ asked a rs = along (λ (n : ℕ) (r : Record). asks a n r.event) 0 rs
 pub record IsPoolAt (o : Opening) (p : Plain) (rs : List Record) : Type 0 where
   pub setup : p.setup ≡ o.setup
   pub start : p.start ≡ o.words
-  pub first : p.first ≡ finite.empty
-  pub used : p.used ≡ []
+  pub first : p.first ≡ o.first
+  pub used : p.used ≡ o.used
   pub opened : p.opened ≡ true
   pub whole : p.whole ≡ true
   pub words : p.words ≡ words_after o.setup.pool o.words rs
   pub entries : p.entries ≡ entries_in rs
   pub entered : p.entries ≡ history p
   pub accesses : p.accesses ≡ (if p.traced then accesses_in rs else [])
-  pub made : p.made ≡ made_in rs
+  pub made : p.made ≡ made_after o.made rs
   pub seats : length p.views ≡ o.setup.clients
 
 -- A client's cursors are tags at which its answered calls ended, of keys that have slots: the one set last that of the latest call of all, and each of the list that of the latest one on its key.
@@ -100,19 +100,22 @@ pub record IsAt (o : Opening) (m : Parts) (rs : List Record) : Type 0 where
   pub each : (i : ℕ) (x : ClientState) → nth m.clients i ≡ Some x → IsClientAt o m.pool i x rs
   -- a client that there is not has no task
   pub far : (a : ℕ) → o.setup.clients < a → (doing a rs).task ≡ None
-  pub legal : Legal finite.empty [] (entries_in rs)
+  pub legal : Legal o.first o.used (entries_in rs)
   pub found : AllFound o rs
   pub alone : AloneSoFar o m.pool.words m.clients rs
 
 abbrev pub IsBehind : Parts → Type 0
 IsBehind m = (o : Opening) × (rs : List Record) × IsAt o m rs
 
--- where the run of a setup and of these keys begins: the words of the preset pool, no more and no less
+-- where the first run of a setup and of these keys begins: the words of the preset pool, no more and no less, and nothing before them
 pub record IsOpening (s : Setup) (keys : List (List ℕ)) (o : Opening) : Type 0 where
   pub setup : o.setup ≡ s
   pub names : o.names ≡ bindings_from 0 keys
   pub sized : length o.words ≡ pool_words s.pool
   pub words : IsPreset s keys o.words
+  pub first : o.first ≡ finite.empty
+  pub used : o.used ≡ []
+  pub made : o.made ≡ 0
 
 -- what a client has that asks for a call: a slot with its key, and for a call that writes a buffer
 pub record HasFor (m : Parts) (a : ℕ) (call : Call) : Type 0 where

@@ -10,6 +10,7 @@ use Rattle.clover_words.specs.Preset.{dealt_number}
 use Rattle.clover_words.specs.Tag.{home}
 use Rattle.clover_words.specs.Version.{linked, buffer_at}
 use Rattle.clover_map.specs.History.{own, key_of}
+use Rattle.clover_map.specs.Tagged.{Tagged}
 use Rattle.clover_map.specs.declared.call.Call.{Call}
 use Rattle.clover_map.specs.declared.call.Entry.{Entry}
 use Rattle.clover_map.specs.declared.call.Reply.{Reply}
@@ -35,11 +36,14 @@ use Rattle.clover_sched.specs.Ends.{ended, MayBegin}
 use Rattle.clover_sched.specs.Folds.{Doing, entries_in, words_after, doing}
 use Rattle.clover_sched.specs.Record.{Record}
 
--- where a run begins: the setup, the words of its pool, and the bindings, each a slot and its key
+-- where a run begins: the setup, the words of its pool, the bindings, each a slot and its key, and what was before it: its map, the used tags, and how many accesses were made
 pub record Opening : Type 0 where
   pub setup : Setup
   pub words : List ℕ
   pub names : List (ℕ × List ℕ)
+  pub first : Tagged
+  pub used : List ℕ
+  pub made : ℕ
 
 -- how many bytes of a value a buffer has room for
 abbrev pub room : Setup → ℕ
