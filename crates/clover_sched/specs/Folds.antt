@@ -29,6 +29,10 @@ abbrev pub accesses_in : List Record → List Access
 accesses_in [] = []
 accesses_in (r ∷ rs) = listed r.access ++ accesses_in rs
 
+-- the accesses that are listed: with a trace all, and without one none
+abbrev pub traced_in : Bool → List Record → List Access
+traced_in traced rs = if traced then accesses_in rs else []
+
 abbrev pub entries_in : List Record → List Entry
 entries_in [] = []
 entries_in (r ∷ rs) = listed r.entry ++ entries_in rs

@@ -32,7 +32,7 @@ use Rattle.clover_call.specs.Calling.{Calling, own_words}
 use Rattle.clover_call.specs.Mirroring.{Mirrors}
 use Rattle.clover_sched.specs.Client.{Stands, Matches, IsLast, IsTask, spent, since_of}
 use Rattle.clover_sched.specs.Ends.{ended, IsLatest}
-use Rattle.clover_sched.specs.Folds.{Doing, entries_in, accesses_in, words_after, made_after, doing, along}
+use Rattle.clover_sched.specs.Folds.{Doing, entries_in, traced_in, words_after, made_after, doing, along}
 use Rattle.clover_sched.specs.Record.{Record}
 use Rattle.clover_sched.specs.Run.{Opening, IsRun, IsCalling, own_of, most_made}
 
@@ -64,7 +64,7 @@ pub record IsPoolAt (o : Opening) (p : Plain) (rs : List Record) : Type 0 where
   pub words : p.words ≡ words_after o.setup.pool o.words rs
   pub entries : p.entries ≡ entries_in rs
   pub entered : p.entries ≡ history p
-  pub accesses : p.accesses ≡ (if p.traced then accesses_in rs else [])
+  pub accesses : p.accesses ≡ traced_in p.traced rs
   pub made : p.made ≡ made_after o.made rs
   pub seats : length p.views ≡ o.setup.clients
 
