@@ -1,11 +1,11 @@
 -- pieces of output, one behind the other
-use Rattle.std.proofs.Common.{◌≡◌, ℕ, Bool, true, false, List, [], ◌∷◌, ◌++◌, length, flat_map, Option, Some, None, refl, ap, subst, sym, ◌∙◌, append-nil, append_assoc}
+use Rattle.std.proofs.Common.{◌≡◌, ℕ, Bool, true, false, List, [], ◌∷◌, ◌++◌, length, flat_map, Option, Some, None, refl, ap, subst, sym, ◌∙◌, append-nil, append_assoc, option_to_list}
 use Rattle.std.proofs.KnownBytes.{Appends-nil, Appends-trans}
 use Rattle.std.specs.Io.KnownBytes.{Appends}
 use Rattle.std.specs.Prelude.{All, slice_get}
 use Rattle.std.proofs.lemmas.List.Elements.{All-head, All-tail}
 use Rattle.clover_rule.specs.declared.access.Access.{Access}
-use Rattle.clover_sched.specs.Folds.{listed, accesses_in, traced_in}
+use Rattle.clover_sched.specs.Folds.{accesses_in, traced_in}
 use Rattle.clover_sched.specs.Machine.{Parts, IsAt}
 use Rattle.clover_sched.specs.Record.{Record}
 use Rattle.clover_sched.specs.Run.{Opening, Still}
@@ -26,17 +26,17 @@ all_said t (r ∷ rs) qs = ap (λ l. said t r ++ l) (all_said t rs qs) ∙ sym (
 
 pub accesses_append : (rs qs : List Record) → accesses_in (rs ++ qs) ≡ accesses_in rs ++ accesses_in qs
 accesses_append [] qs = refl
-accesses_append (r ∷ rs) qs = ap (λ l. listed r.access ++ l) (accesses_append rs qs) ∙ sym (append_assoc (listed r.access) (accesses_in rs) (accesses_in qs))
+accesses_append (r ∷ rs) qs = ap (λ l. option_to_list r.access ++ l) (accesses_append rs qs) ∙ sym (append_assoc (option_to_list r.access) (accesses_in rs) (accesses_in qs))
 
 -- the element behind a list
-get_behind : {A : Type 0} (xs : List A) (o : Option A) → slice_get (xs ++ listed o) (length xs) ≡ o
+get_behind : {A : Type 0} (xs : List A) (o : Option A) → slice_get (xs ++ option_to_list o) (length xs) ≡ o
 get_behind [] None = refl
 get_behind [] (Some x) = refl
 get_behind (x ∷ xs) o = get_behind xs o
 
 -- the access that was listed last is that of the last record
 listed_last : (rs : List Record) (r : Record) → slice_get (accesses_in (rs ++ r ∷ [])) (length (accesses_in rs)) ≡ r.access
-listed_last rs r = ap (λ l. slice_get l (length (accesses_in rs))) (accesses_append rs (r ∷ []) ∙ ap (λ l. accesses_in rs ++ l) (append-nil (listed r.access))) ∙ get_behind (accesses_in rs) r.access
+listed_last rs r = ap (λ l. slice_get l (length (accesses_in rs))) (accesses_append rs (r ∷ []) ∙ ap (λ l. accesses_in rs ++ l) (append-nil (option_to_list r.access))) ∙ get_behind (accesses_in rs) r.access
 
 -- the line of the access that is listed behind those before is the one that is printed; without a trace there is none
 listed_line : (t : Bool) (rs : List Record) (r : Record) → traced true (slice_get (traced_in t (rs ++ r ∷ [])) (length (traced_in t rs))) ≡ traced t r.access

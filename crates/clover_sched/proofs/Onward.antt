@@ -1,5 +1,5 @@
 -- The machine stands behind one record more: in general, and for each kind of event.
-use Rattle.std.proofs.Common.{◌≡◌, ◌≢◌, ℕ, ◌+◌, ◌≤◌, ◌<◌, suc, length, set, List, [], ◌∷◌, ◌++◌, Bool, true, false, refl, sym, ap, ◌∙◌, subst, arith, append-nil, ltb, ne_eqb, ⊎_elim}
+use Rattle.std.proofs.Common.{◌≡◌, ◌≢◌, ℕ, ◌+◌, ◌≤◌, ◌<◌, suc, length, set, List, [], ◌∷◌, ◌++◌, Bool, true, false, refl, sym, ap, ◌∙◌, subst, arith, append-nil, ltb, ne_eqb, ⊎_elim, option_to_list}
 use Rattle.std.specs.Prelude.{Option, Some, None, ◌==◌, if◌then◌else◌, IfSome}
 use Rattle.std.proofs.lemmas.Bool.{lt-ltb, le-ltb}
 use Rattle.std.proofs.lemmas.Option.{IfSome_then, same_Some}
@@ -27,7 +27,7 @@ use Rattle.clover_script.specs.declared.line.Task.TheVariants.{Client as ClientT
 use Rattle.clover_sched.specs.Alone.{OpensCall, IsOwnStep, Finds, RunsAlone, cost_of, EndsIn, NotesWith, AloneSoFar, AllFound, HasChain}
 use Rattle.clover_sched.specs.Client.{Stands, Matches, Moved, Went, Starts, Begins, spent, since_of, step_record}
 use Rattle.clover_sched.specs.Ends.{ended, MayBegin}
-use Rattle.clover_sched.specs.Folds.{listed, accesses_in, entries_in, words_by, words_after, made_by, made_after, Doing, actor_of, rested, takes_by, replied, begun, stepped, ends, does, doing}
+use Rattle.clover_sched.specs.Folds.{accesses_in, entries_in, words_by, words_after, made_by, made_after, Doing, actor_of, rested, takes_by, replied, begun, stepped, ends, does, doing}
 use Rattle.clover_sched.specs.Machine.{Parts, Remembers, GoesSoFar, IsAt, IsPoolAt, IsClientAt, asked}
 use Rattle.clover_sched.specs.Record.{Record}
 use Rattle.clover_sched.specs.Run.{Opening, Follows, IsStep, IsEntry, AllDue, IsDue, lost, begin_note}
@@ -74,10 +74,10 @@ abbrev pub still : Event → Note → Record
 still e note = record { event = e; access = None; note = note; entry = None }
 
 still_entries : (rs : List Record) (r : Record) → r.entry ≡ None → entries_in (rs ++ r ∷ []) ≡ entries_in rs
-still_entries rs r e = entries_more rs r ∙ ap (λ (z : Option Entry). entries_in rs ++ listed z) e ∙ append-nil (entries_in rs)
+still_entries rs r e = entries_more rs r ∙ ap (λ (z : Option Entry). entries_in rs ++ option_to_list z) e ∙ append-nil (entries_in rs)
 
 still_accesses : (rs : List Record) (r : Record) → r.access ≡ None → accesses_in (rs ++ r ∷ []) ≡ accesses_in rs
-still_accesses rs r e = accesses_more rs r ∙ ap (λ (z : Option Access). accesses_in rs ++ listed z) e ∙ append-nil (accesses_in rs)
+still_accesses rs r e = accesses_more rs r ∙ ap (λ (z : Option Access). accesses_in rs ++ option_to_list z) e ∙ append-nil (accesses_in rs)
 
 still_pool : (o : Opening) (p : Plain) (rs : List Record) (r : Record) → IsPoolAt o p rs → r.access ≡ None → r.entry ≡ None → IsPoolAt o p (rs ++ r ∷ [])
 still_pool o p rs r at a e = record {
@@ -341,7 +341,7 @@ module _ (o : Opening) (m : Parts) (rs : List Record) (at : IsAt o m rs) where
       (alone_still (Refuse a) Quiet m.clients (silent_opening (Refuse a) Quiet m.clients (λ c call s. let q : Refuse a ≡ Begin c (ClientTask call s.written) = s.event in absurd cc)))
 
 -- the entries of a client are the same where the entry is another client's
-own_kept : (h : List Entry) (e : Option Entry) (c n : ℕ) → IfSome e (λ (x : Entry). x.client ≡ n) → n ≢ c → own (h ++ listed e) c ≡ own h c
+own_kept : (h : List Entry) (e : Option Entry) (c n : ℕ) → IfSome e (λ (x : Entry). x.client ≡ n) → n ≢ c → own (h ++ option_to_list e) c ≡ own h c
 own_kept h None c n is apart = ap (λ (l : List Entry). own l c) (append-nil h)
 own_kept h (Some e) c n is apart = filter-append (λ (x : Entry). x.client == c) h (e ∷ []) ∙ ap (λ (l : List Entry). own h c ++ l) (ap (λ (b : Bool). if b then e ∷ [] else []) (ne_eqb e.client c (λ s. apart (sym is ∙ s)))) ∙ append-nil (own h c)
 
@@ -362,7 +362,7 @@ moved_pool o i x e note p q rs at moved =
       opened = moved.opened ∙ at.opened;
       whole = moved.whole ∙ at.whole;
       words = moved.words ∙ ap (λ (s : Setup). words_by s.pool p.words (Some x)) at.setup ∙ ap (λ (w : List ℕ). words_by o.setup.pool w (Some x)) at.words ∙ sym (words_more o.setup.pool o.words rs r);
-      entries = moved.entries ∙ ap (λ (l : List Entry). l ++ listed e) at.entries ∙ sym (entries_more rs r);
+      entries = moved.entries ∙ ap (λ (l : List Entry). l ++ option_to_list e) at.entries ∙ sym (entries_more rs r);
       entered = moved.entered;
       accesses = moved.accesses ∙ grown p.traced at.accesses ∙ ap (λ (b : Bool). if b then accesses_in rs ++ x ∷ [] else []) (sym moved.traced) ∙ ap (λ (l : List Access). if q.traced then l else []) (sym (accesses_more rs r));
       made = moved.made ∙ ap (λ (n : ℕ). made_by n (Some x)) at.made ∙ sym (made_more o.made rs r);

@@ -1,6 +1,6 @@
 -- What contracts see of a machine, and that it stands where some records lead.
 use Prim.Native.Nat.{suc}
-use Rattle.std.specs.Prelude.{◌≡◌, ◌≢◌, ℕ, ◌+◌, ◌-◌, ◌<◌, ◌≤◌, ◌==◌, List, [], ◌∷◌, ◌++◌, length, Contains, true, false, if◌then◌else◌, All, Option, Some, None, MatchOption}
+use Rattle.std.specs.Prelude.{◌≡◌, ◌≢◌, ℕ, ◌+◌, ◌-◌, ◌<◌, ◌≤◌, ◌==◌, List, [], ◌∷◌, ◌++◌, length, Contains, true, false, if◌then◌else◌, All, Option, Some, None, MatchOption, fold}
 use Rattle.std.specs.FinMap as finite
 use Rattle.clover_words.specs.declared.pool.Pool.{Pool}
 use Rattle.clover_words.specs.declared.setup.Setup.{Setup}
@@ -32,7 +32,7 @@ use Rattle.clover_call.specs.Calling.{Calling, own_words}
 use Rattle.clover_call.specs.Mirroring.{Mirrors}
 use Rattle.clover_sched.specs.Client.{Stands, Matches, IsLast, IsTask, spent, since_of}
 use Rattle.clover_sched.specs.Ends.{ended, IsLatest}
-use Rattle.clover_sched.specs.Folds.{Doing, entries_in, traced_in, words_after, made_after, doing, along}
+use Rattle.clover_sched.specs.Folds.{Doing, entries_in, traced_in, words_after, made_after, doing}
 use Rattle.clover_sched.specs.Record.{Record}
 use Rattle.clover_sched.specs.Run.{Opening, IsRun, IsCalling, own_of, most_made}
 
@@ -51,7 +51,7 @@ asks a n (Step b) = n
 asks a n (Refuse b) = n
 
 abbrev pub asked : ℕ → List Record → ℕ
-asked a rs = along (λ (n : ℕ) (r : Record). asks a n r.event) 0 rs
+asked a rs = fold (λ (n : ℕ) (r : Record). asks a n r.event) 0 rs
 
 -- The pool is as these records left it.
 pub record IsPoolAt (o : Opening) (p : Plain) (rs : List Record) : Type 0 where
