@@ -29,9 +29,9 @@ use Rattle.clover_sched.specs.Alone.{AloneSoFar}
 use Rattle.clover_sched.specs.Client.{Stands, Matches, Went, Begins, IsLast, spent, spent_by, since_of, step_record}
 use Rattle.clover_sched.specs.Ends.{ended}
 use Rattle.clover_sched.specs.Folds.{accesses_in, doing}
-use Rattle.clover_sched.specs.Machine.{Parts, IsAt, IsBehind, IsSame, IsBusy, HasCall, MayCome, Happens, IsTold, left, left_of, left_by}
+use Rattle.clover_sched.specs.Machine.{Parts, IsAt, IsBehind, IsSame, IsBusy, HasCall, MayCome, Happens, IsTold, left, left_of, left_by, most_made}
 use Rattle.clover_sched.specs.Record.{Record}
-use Rattle.clover_sched.specs.Run.{Opening, most_made}
+use Rattle.clover_sched.specs.Run.{Opening}
 use Rattle.clover_sched.specs.declared.client.ClientState.{ClientState}
 use Rattle.clover_call.specs.declared.under.Underway.{Underway}
 use Rattle.clover_call.specs.declared.under.Underway.TheVariants.{Nothing}

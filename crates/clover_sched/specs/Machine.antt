@@ -16,7 +16,7 @@ use Rattle.clover_rule.specs.Lists.{nth, Within}
 use Rattle.clover_rule.specs.Preset.{bindings_from}
 use Rattle.clover_rule.specs.declared.access.Access.{Access}
 use Rattle.clover_rule.specs.declared.view.View.{View}
-use Rattle.clover_walk.specs.Walking.{key_at}
+use Rattle.clover_walk.specs.Walking.{budget, key_at, most_accesses}
 use Rattle.clover_cache.specs.Node.{Known}
 use Rattle.clover_plain.specs.Plain.{Plain, Kept, history, view_at}
 use Rattle.clover_plain.specs.Preset.{IsPreset, AreDistinct}
@@ -34,7 +34,7 @@ use Rattle.clover_sched.specs.Client.{Stands, Matches, IsLast, IsTask, spent, si
 use Rattle.clover_sched.specs.Ends.{ended, IsLatest}
 use Rattle.clover_sched.specs.Folds.{Doing, entries_in, traced_in, words_after, made_after, doing}
 use Rattle.clover_sched.specs.Record.{Record}
-use Rattle.clover_sched.specs.Run.{Opening, IsRun, IsCalling, own_of, most_made}
+use Rattle.clover_sched.specs.Run.{Opening, IsRun, IsCalling, own_of}
 
 pub record Parts : Type 0 where
   pub setup : Setup
@@ -142,6 +142,10 @@ pub record IsSame (m n : Parts) : Type 0 where
   pub names : n.names ≡ m.names
   pub pool : Kept m.pool n.pool
   pub clients : n.clients ≡ m.clients
+
+-- the most accesses of one call, which ends once its turns reach the budget
+abbrev pub most_made : Pool → ℕ
+most_made p = most_accesses p (budget p)
 
 -- how many accesses a call may still make
 abbrev pub left_by : Pool → Underway → View → ℕ

@@ -135,10 +135,6 @@ IsCause o a d e act (Answered c r) = (c ≡ a) × IsAnswer o d e act r
 IsCause o a d e act (Refused c (Behind n)) = (c ≡ a) × (n ≡ budget o.setup.pool) × (e ≡ None) × (d.decided ≡ None) × (Shortens act → ⊥)
 IsCause o a d e act note = ⊥
 
--- the most accesses of one call, which ends once its turns reach the budget
-abbrev pub most_made : Pool → ℕ
-most_made p = most_accesses p (budget p)
-
 -- A step: an actor without a task does nothing; one with a task makes one access, and no exchange writes but a commit's.
 pub record IsStep (o : Opening) (a : ℕ) (d : Doing) (ws : List ℕ) (n : ℕ) (r : Record) : Type 0 where
   pub idle : d.task ≡ None → Still r Quiet
