@@ -45,7 +45,8 @@ use Rattle.clover_sched.proofs.Turns.{not_busy}
 use Rattle.clover_sched.proofs.Busies.{busy_within, busy_here}
 use Rattle.clover_sched.proofs.Budget.{since_few}
 use Rattle.clover_sched.proofs.Lefts.{left_less}
-use Rattle.clover_sched.proofs.Onward.{with_client, with_pool, refusing, begun_missing, begun_busy, begun_client, idled_far, idled_client, refused_client, refused_far, stepped_client}
+use Rattle.clover_sched.proofs.NoAccess.{refusing, begun_missing, begun_busy, begun_client, idled_far, idled_client, refused_client, refused_far}
+use Rattle.clover_sched.proofs.Onward.{with_client, with_pool, stepped_client}
 use Rattle.clover_sched.proofs.Bound.{bound_within, bound_key}
 use Rattle.clover_sched.proofs.Places.{nth_here, nth_get, set_same}
 
