@@ -6,7 +6,7 @@ use Rattle.std.proofs.lemmas.Bool.Decides.{nat_tests}
 use Rattle.clover_script.specs.declared.line.Line.{Line}
 use Rattle.clover_script.proofs.SpokenLemmas.{one_line}
 use Rattle.clover_sched.specs.Folds.{traced_in}
-use Rattle.clover_sched.specs.Lines.{Stands, Covers}
+use Rattle.clover_sched.specs.Lines.{CoversLine, Covers}
 use Rattle.clover_sched.specs.Machine.{Parts, IsAt}
 use Rattle.clover_sched.specs.Record.{Record}
 use Rattle.clover_sched.specs.Run.{Opening}
@@ -57,14 +57,14 @@ left_stop stop m n a b c w v l k x y o rs at =
     let next = subst (λ t. Fails o t (rs ++ first.more) stop b c v (IsPartOrAll (steps_line k) (rs ++ first.more))) x.goes_on.traced (y o (rs ++ first.more) first.at) in
     fails_then o m.pool.traced rs stop n a b c w v (IsLeft l (Some k) rs) (IsPartOrAll (steps_line k) (rs ++ first.more)) (IsPartOrAll l rs) first next (part_then l k rs first.more next.more first.kind next.kind)
 
-pub covers_push : (ls : List Line) (l : Line) (before xs ys : List Record) → Covers ls before xs → Stands l (before ++ xs) ys → Covers (ls ++ l ∷ []) before (xs ++ ys)
-covers_push [] l before xs ys h k = (ys, [], ap (λ z. z ++ ys) h ∙ sym (append-nil ys), subst (λ z. Stands l z ys) (ap (λ z. before ++ z) h ∙ append-nil before) k, refl)
+pub covers_push : (ls : List Line) (l : Line) (before xs ys : List Record) → Covers ls before xs → CoversLine l (before ++ xs) ys → Covers (ls ++ l ∷ []) before (xs ++ ys)
+covers_push [] l before xs ys h k = (ys, [], ap (λ z. z ++ ys) h ∙ sym (append-nil ys), subst (λ z. CoversLine l z ys) (ap (λ z. before ++ z) h ∙ append-nil before) k, refl)
 covers_push (m ∷ ls) l before xs ys h k = (
   h.0,
   h.1 ++ ys,
   ap (λ z. z ++ ys) h.2 ∙ append_assoc h.0 h.1 ys,
   h.3,
-  covers_push ls l (before ++ h.0) h.1 ys h.4 (subst (λ z. Stands l z ys) (ap (λ z. before ++ z) h.2 ∙ sym (append_assoc before h.0 h.1)) k),
+  covers_push ls l (before ++ h.0) h.1 ys h.4 (subst (λ z. CoversLine l z ys) (ap (λ z. before ++ z) h.2 ∙ sym (append_assoc before h.0 h.1)) k),
 )
 
 not_both : (text : List ℕ) (l : Line) → IsNoLine text → IsLineOf text l → ⊥
@@ -81,7 +81,7 @@ heard_none text texts todo (inl (no1, heard)) none = heard
 heard_none text texts todo (inr (first, rest, is, e, heard)) none = absurd (not_both text first none is)
 
 -- what a text says was run where its line was
-pub said_runs : (m n : Parts) (a b : Option (List ℕ)) (w v : List ℕ) (text : List ℕ) (l : Line) → IsLineOf text l → Runs m n a b w v (Stands l) → Runs m n a b w v (IsSaidBy text)
+pub said_runs : (m n : Parts) (a b : Option (List ℕ)) (w v : List ℕ) (text : List ℕ) (l : Line) → IsLineOf text l → Runs m n a b w v (CoversLine l) → Runs m n a b w v (IsSaidBy text)
 said_runs m n a b w v text l is x = record {
   goes_on = x.goes_on;
   ran = λ o rs at. let y = x.ran o rs at in record { more = y.more; kind = inr (l, is, y.kind); at = y.at; says = y.says };

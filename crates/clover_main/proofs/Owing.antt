@@ -15,7 +15,7 @@ use Rattle.clover_script.specs.declared.line.Task.{Task}
 use Rattle.clover_script.specs.declared.line.Task.TheVariants.{Client}
 use Rattle.clover_rule.specs.Lists.{Each, nth}
 use Rattle.clover_sched.specs.Client.{spent}
-use Rattle.clover_sched.specs.Lines.{Works, Calls, IsTurnedAway, Stands, Covers}
+use Rattle.clover_sched.specs.Lines.{Works, Calls, IsTurnedAway, CoversLine, Covers}
 use Rattle.clover_sched.specs.Machine.{Parts, asks, asked, MayCome, IsAt}
 use Rattle.clover_sched.specs.Record.{Record}
 use Rattle.clover_sched.specs.Run.{Opening}
@@ -85,7 +85,7 @@ turned (Refused c y) = inr (λ away. away)
 turned (Busy a) = inl tt
 turned (Missing a) = inl tt
 
-asked_stands : (c : ℕ) (l : Line) (before rs : List Record) → Stands l before rs → asked c rs ≤ owed_by c l
+asked_stands : (c : ℕ) (l : Line) (before rs : List Record) → CoversLine l before rs → asked c rs ≤ owed_by c l
 asked_stands c (line.Begin a t) before rs (r, all, is) = omega (arith, ap (asked c) all, asked_first c r [], asked_one c a t r is)
 asked_stands c (line.Step a n) before rs (all, many) = omega (arith, asked_steps c a rs all)
 asked_stands c (line.Finish a) before rs x = omega (arith, asked_works c a before rs x.works)

@@ -4,7 +4,7 @@ use Rattle.std.specs.Prelude.{◌≡◌, ◌⊎◌, ℕ, Bool, List, [], ◌++�
 use Rattle.std.specs.Io.KnownBytes.{Appends}
 use Rattle.clover_script.specs.Line.{IsLineOf, IsNoLine}
 use Rattle.clover_script.specs.declared.line.Line.{Line}
-use Rattle.clover_sched.specs.Lines.{Stands, Covers}
+use Rattle.clover_sched.specs.Lines.{CoversLine, Covers}
 use Rattle.clover_sched.specs.Machine.{Parts, IsAt}
 use Rattle.clover_sched.specs.Record.{Record}
 use Rattle.clover_sched.specs.Run.{Opening}
@@ -75,7 +75,7 @@ most_steps m (Some w) = suc (steps_left m w)
 
 -- a text that is no line of a client stands for no records, and one that is for those of its line
 abbrev pub IsSaidBy : List ℕ → List Record → List Record → Type 0
-IsSaidBy text before more = (IsNoLine text × (more ≡ [])) ⊎ ((line : Line) × IsLineOf text line × Stands line before more)
+IsSaidBy text before more = (IsNoLine text × (more ≡ [])) ⊎ ((line : Line) × IsLineOf text line × CoversLine line before more)
 
 -- no records, or a part or all of those of the text's line
 abbrev pub IsPartOfSaid : List ℕ → List Record → List Record → Type 0

@@ -4,7 +4,7 @@ ghost use Rattle.std.specs.Prelude.{◌≡◌, ◌≤◌, ◌<◌, ◌++◌, Lis
 ghost use Rattle.clover_script.specs.Line.{lines_of, IsLineOf};
 ghost use Rattle.clover_script.specs.declared.line.Line.{Line as LineData};
 ghost use Rattle.clover_sched.specs.Folds.{traced_in};
-ghost use Rattle.clover_sched.specs.Lines.{Stands, Covers};
+ghost use Rattle.clover_sched.specs.Lines.{CoversLine, Covers};
 ghost use Rattle.clover_sched.specs.Machine.{IsAt};
 ghost use Rattle.clover_sched.specs.Record.{Record};
 ghost use Rattle.clover_sched.specs.Run.{Opening};
@@ -99,7 +99,7 @@ fn run_line<K: Sink>(
     sink: &mut K,
 ) -> Result<(), Stop>
     requires may { MayRun machine.old line }
-    ensures ok { OnOk result (Runs machine.old machine.new (K.taken sink.old) (K.taken sink.new) out.old.waiting.items out.new.waiting.items (Stands line)) }
+    ensures ok { OnOk result (Runs machine.old machine.new (K.taken sink.old) (K.taken sink.new) out.old.waiting.items out.new.waiting.items (CoversLine line)) }
     ensures err { IfErr result (λ stop. Stops machine.old stop (K.taken sink.old) (K.taken sink.new) out.old.waiting.items (IsPartOrAll line)) }
     ensures cause { HasStopCause (K.faults sink.old) (K.faults sink.new) result }
 {
