@@ -1,10 +1,10 @@
 // The machine: a pool and its clients, one event at a time.
-ghost use Rattle.std.specs.Prelude.{◌≡◌, ◌<◌, ◌≤◌, ◌++◌, ◌∷◌, [], ◌↔◌, ℕ, List, length, All, true, IsTrue, IfOk, OnErr};
+ghost use Rattle.std.specs.Prelude.{◌≡◌, ◌<◌, ◌≤◌, [], ◌↔◌, ℕ, List, length, All, IsTrue, IfOk, OnErr};
 ghost use Rattle.clover_words.specs.Preset.{buffers_total};
 ghost use Rattle.clover_map.specs.History.{key_of};
 ghost use Rattle.clover_script.specs.Form.{call_in};
 ghost use Rattle.clover_sched.specs.Client.{IsIdle};
-ghost use Rattle.clover_sched.specs.Folds.{entries_in, accesses_in, made_in};
+ghost use Rattle.clover_sched.specs.Folds.{entries_in, traced_in, made_after};
 ghost use Rattle.clover_sched.specs.Machine.{IsAt, IsOpening, Happens, IsSame, MayCome, IsBusy, left};
 ghost use Rattle.clover_sched.specs.Record.{Record};
 ghost use Rattle.clover_sched.specs.Run.{Opening};
@@ -187,14 +187,14 @@ impl Machine {
 
     /// The accesses so far, in order, refused ones among them; none without a trace.
     pub fn accesses(&self) -> &[Access]
-        ensures { (o : Opening) (rs : List Record) → IsAt o self.now rs → self.now.pool.traced ≡ true → result.now ≡ accesses_in rs }
+        ensures { (o : Opening) (rs : List Record) → IsAt o self.now rs → result.now ≡ traced_in self.now.pool.traced rs }
     {
         self.pool.accesses()
     }
 
-    /// How many accesses were made and not refused.
+    /// How many accesses were made and not refused, in this run and before it.
     pub fn made(&self) -> u64
-        ensures { (o : Opening) (rs : List Record) → IsAt o self.now rs → result ≡ made_in rs }
+        ensures { (o : Opening) (rs : List Record) → IsAt o self.now rs → result ≡ made_after o.made rs }
     {
         self.pool.made()
     }
