@@ -1,5 +1,5 @@
 -- What some records lead to, each thing as a fold of its own: the accesses, the entries, the words, the server's side, and what each actor has under way.
-use Rattle.std.specs.Prelude.{ℕ, ◌+◌, ◌==◌, List, [], ◌∷◌, ◌++◌, map, take, Bool, true, false, if◌then◌else◌, Option, Some, None}
+use Rattle.std.specs.Prelude.{ℕ, ◌+◌, ◌==◌, List, [], ◌∷◌, ◌++◌, map, take, fold, Bool, true, false, if◌then◌else◌, Option, Some, None}
 use Rattle.std.specs.Option.{option_to_list}
 use Rattle.clover_alloc.specs.Batch.{tags_of}
 use Rattle.clover_words.specs.declared.pool.Pool.{Pool}
@@ -17,7 +17,7 @@ use Rattle.clover_sched.specs.declared.event.Event.{Event}
 use Rattle.clover_sched.specs.declared.event.Event.TheVariants.{Begin, Step, Refuse}
 use Rattle.clover_run.specs.declared.event.Note.{Note}
 use Rattle.clover_run.specs.declared.event.Note.TheVariants.{Quiet, Waits, Granted}
-use Rattle.clover_sched.specs.Folds.{along, words_by, made_by, actor_of}
+use Rattle.clover_sched.specs.Folds.{words_by, made_by, actor_of}
 use Rattle.clover_run.specs.Record.{Record}
 use Rattle.clover_run.specs.Served.{Served}
 
@@ -32,15 +32,15 @@ entries_in (r ∷ rs) = option_to_list r.entry ++ entries_in rs
 
 -- the words after some records
 abbrev pub words_after : Pool → List ℕ → List Record → List ℕ
-words_after p ws rs = along (λ (w : List ℕ) (r : Record). words_by p w r.access) ws rs
+words_after p ws rs = fold (λ (w : List ℕ) (r : Record). words_by p w r.access) ws rs
 
 -- how many accesses were made, behind so many; a refused one was not
 abbrev pub made_after : ℕ → List Record → ℕ
-made_after n rs = along (λ (m : ℕ) (r : Record). made_by m r.access) n rs
+made_after n rs = fold (λ (m : ℕ) (r : Record). made_by m r.access) n rs
 
 -- the server's side behind some records
 abbrev pub served_after : Served → List Record → Served
-served_after v rs = along (λ (w : Served) (r : Record). r.served) v rs
+served_after v rs = fold (λ (w : Served) (r : Record). r.served) v rs
 
 -- What an actor has under way and has: its task; of a call the reply from the deciding access on and the call's acts since its last start; whether its next access is refused; how many bindings it knows, which are the first ones of the directory; and the tags of its stock.
 pub record Doing : Type 0 where
@@ -104,7 +104,7 @@ abbrev pub does_of : ℕ → Doing → Record → Doing
 does_of a d r = if actor_of r.event == a then does d r r.event else d
 
 abbrev pub doing : ℕ → List Record → Doing
-doing a rs = along (does_of a) nothing rs
+doing a rs = fold (does_of a) nothing rs
 
 -- the bindings that an actor knows
 abbrev pub names_of : Served → Doing → List (ℕ × List ℕ)
