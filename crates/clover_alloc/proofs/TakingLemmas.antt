@@ -18,7 +18,10 @@ use Rattle.clover_alloc.proofs.NodeLemmas.{found}
 use Rattle.clover_alloc.proofs.LedgerLemmas.{book-with_line_same, book-with_line_other, count_of-with_line}
 use Rattle.clover_alloc.proofs.CallLemmas.{line_within, line_serves, moved_whole, moved_keeps}
 
-module _ (books : Ledger) (at : ℕ) (full : IsFirstMaxByKey (count_in Free) books.nodes (length books.nodes) at) (row : List Line) (read : row ≡ get_or books.nodes at row) where
+module _ (books view : Ledger) (same : books ≡ view) (at : ℕ) (first : IsFirstMaxByKey (count_in Free) view.nodes (length view.nodes) at) (row : List Line) (read : row ≡ get_or books.nodes at row) where
+  full : IsFirstMaxByKey (count_in Free) books.nodes (length books.nodes) at
+  full = subst (λ (v : Ledger). IsFirstMaxByKey (count_in Free) v.nodes (length v.nodes) at) (sym same) first
+
   row_is : row ≡ get_or books.nodes at []
   row_is = get_or_read books.nodes at row full.0 read []
 
@@ -31,8 +34,8 @@ module _ (books : Ledger) (at : ℕ) (full : IsFirstMaxByKey (count_in Free) boo
 
   -- and what the books say of it
   pub free_is : (index : ℕ) (l : Line) (again : List Line) → (line_at row index).place ≡ Free → again ≡ row → l ≡ line_at again index → book books (record { node = at; index = index }) ≡ line l.generation Free
-  free_is index l again free same l_is =
-      let here : l ≡ line_at row index = l_is ∙ ap (λ r. line_at r index) same in
+  free_is index l again free kept l_is =
+      let here : l ≡ line_at row index = l_is ∙ ap (λ r. line_at r index) kept in
       let place : l.place ≡ Free = ap (λ (m : Line). m.place) here ∙ free in
       ap (λ r. line_at r index) (sym row_is) ∙ sym here ∙ ap (line l.generation) place
 

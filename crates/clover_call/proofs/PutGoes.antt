@@ -9,6 +9,7 @@ use Rattle.clover_put.specs.Holding.{PutHolds, Looks}
 use Rattle.clover_put.specs.Putting.{Putting, Stage, Storing, Flushing, Seeking, AtMeta, AtLink, Deciding, AtBad, AtRaise, AtShort, Over, put_on, staged, walked, unless_left, reached, at_tail}
 use Rattle.clover_put.specs.declared.job.Job.{Job}
 use Rattle.clover_put.specs.declared.job.Job.TheVariants.{Put, Delete, Swap}
+use Rattle.clover_put.proofs.Sides.{early}
 use Rattle.clover_call.proofs.Walks.{on_walk}
 
 -- what stays of a call over an access
@@ -70,21 +71,9 @@ on_before Over c x b = tt
 pub before_misses : (c : Putting) (x : ℕ) → IsBefore (put_on c x).stage → Misses c.stage x
 before_misses c x b = on_before c.stage c x b
 
-on_onward : (s : Stage) (c n : Putting) → IsBefore s → Onward s c n → IsBefore n.stage
-on_onward (Storing j) c n b e = e
-on_onward (Flushing j) c n b e = e
-on_onward Seeking c n b e = e
-on_onward (AtMeta u) c n b e = e
-on_onward (AtLink u) c n b e = e
-on_onward (Deciding u y) c n b e = e
-on_onward (AtBad u) c n b e = e
-on_onward (AtRaise u) c n b e = absurd b
-on_onward AtShort c n b e = absurd b
-on_onward Over c n b e = absurd b
-
 -- a call that has committed nothing has not where it goes on
 pub onward_before : (c n : Putting) → IsBefore c.stage → Onward c.stage c n → IsBefore n.stage
-onward_before c n b e = on_onward c.stage c n b e
+onward_before c n b e = (early c.stage b).from c n e
 
 abbrev IsTailOf : Stand → Type 0
 IsTailOf (OnTail t) = Unit {0}

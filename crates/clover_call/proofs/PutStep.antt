@@ -34,6 +34,7 @@ use Rattle.clover_call.specs.declared.answer.CallerTurn.{CallerTurn}
 use Rattle.clover_call.specs.declared.answer.CallerTurn.TheVariants.{More, Decided, Done, Refused}
 use Rattle.clover_call.specs.declared.under.Underway.{Underway}
 use Rattle.clover_call.specs.declared.under.Underway.TheVariants.{Nothing, Write}
+use Rattle.clover_put.proofs.Sides.{early, behind_at}
 use Rattle.clover_call.proofs.PutCalls.{put_due, put_after, put_commits, put_over, put_short, before_short, last_load}
 use Rattle.clover_call.proofs.PutGoes.{SameCall, same_call, Misses, before_misses, onward_before, behind_misses, linked_hit, last_hit}
 
@@ -65,29 +66,11 @@ side_of Over c v f = absurd f
 
 -- and not both
 pub both : (s : Stage) → IsBefore s → IsBehind s → ⊥
-both (Storing j) b h = h
-both (Flushing j) b h = h
-both Seeking b h = h
-both (AtMeta u) b h = h
-both (AtLink u) b h = h
-both (Deciding u y) b h = h
-both (AtBad u) b h = h
-both (AtRaise u) b h = b
-both AtShort b h = b
-both Over b h = b
+both s b h = (early s b).not_behind h
 
 -- one that goes on behind its exchange has raised its link
 pub raised_at : (s : Stage) (c n : Putting) → IsBehind s → Onward s c n → (u : ℕ) × (s ≡ AtRaise u) × (n ≡ staged c AtShort)
-raised_at (Storing j) c n b e = absurd b
-raised_at (Flushing j) c n b e = absurd b
-raised_at Seeking c n b e = absurd b
-raised_at (AtMeta u) c n b e = absurd b
-raised_at (AtLink u) c n b e = absurd b
-raised_at (Deciding u y) c n b e = absurd b
-raised_at (AtBad u) c n b e = absurd b
-raised_at (AtRaise u) c n b e = (u, refl, e)
-raised_at AtShort c n b e = absurd e
-raised_at Over c n b e = absurd b
+raised_at s c n b e = behind_at s b (λ u q. (u, q, subst (λ (t : Stage). Onward t c n) q e)) (λ q. absurd (subst (λ (t : Stage). Onward t c n) q e))
 
 -- the answer to a job that committed its tag is the reply of its call
 pub committed_reply : (j : Job) (t : TagParts) (own : ℕ) (key : List ℕ) (x : Value) (room : ValueBuf) → tag_number t ≡ own → reply_in (committed_as j t) room ≡ reply_of own (call_of j key x)

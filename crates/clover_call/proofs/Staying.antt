@@ -32,6 +32,7 @@ use Rattle.clover_call.specs.declared.answer.CallerTurn.{CallerTurn}
 use Rattle.clover_call.specs.declared.answer.CallerTurn.TheVariants.{More, Decided, Done, Refused}
 use Rattle.clover_call.specs.declared.under.Underway.{Underway}
 use Rattle.clover_call.specs.declared.under.Underway.TheVariants.{Nothing, Get, Write}
+use Rattle.clover_put.proofs.Sides.{early, behind_at}
 use Rattle.clover_call.proofs.GetGoes.{Misses as GetMisses, goes, going_misses, turn_misses, holding_open}
 use Rattle.clover_call.proofs.PutCalls.{before_short}
 use Rattle.clover_call.proofs.PutGoes.{Misses, same_call, before_misses}
@@ -118,39 +119,13 @@ on_later (AtRaise u) c v x f = f
 on_later AtShort c v x f = f
 on_later Over c v x f = absurd f
 
--- one behind its exchange raises its link or stores its shortcut
-behind_at : {A : Type 0} (s : Stage) → IsBehind s → ((u : ℕ) → s ≡ AtRaise u → A) → (s ≡ AtShort → A) → A
-behind_at (Storing j) b f g = absurd b
-behind_at (Flushing j) b f g = absurd b
-behind_at Seeking b f g = absurd b
-behind_at (AtMeta u) b f g = absurd b
-behind_at (AtLink u) b f g = absurd b
-behind_at (Deciding u y) b f g = absurd b
-behind_at (AtBad u) b f g = absurd b
-behind_at (AtRaise u) b f g = f u refl
-behind_at AtShort b f g = g refl
-behind_at Over b f g = absurd b
-
--- it is to raise its link where it goes on
+-- one behind its exchange is to raise its link where it goes on
 pub raises_at : (c : Putting) (n : ℕ) → IsBehind c.stage → IsBehind (put_on c n).stage → (u : ℕ) × (c.stage ≡ AtRaise u)
 raises_at c n b on = behind_at c.stage b (λ u e. (u, e)) (λ e. absurd (subst (λ (s : Stage). IsBehind (put_on (record c { stage = s }) n).stage) e on))
 
 -- and to store its shortcut where it ends
 pub shortens_at : (c : Putting) (n : ℕ) → IsBehind c.stage → (put_on c n).stage ≡ Over → c.stage ≡ AtShort
 shortens_at c n b over = behind_at c.stage b (λ u e. let z : AtShort ≡ Over = ap (λ (s : Stage). (put_on (record c { stage = s }) n).stage) (sym e) ∙ over in cc) (λ e. e)
-
--- one before it has its own tag at the front of its client's stock
-owns_before : (s : Stage) (c : Putting) (v : View) → IsBefore s → Owns s c v → (rest : List ℕ) × (v.pass.stock ≡ c.own ∷ rest)
-owns_before (Storing j) c v b h = h
-owns_before (Flushing j) c v b h = h
-owns_before Seeking c v b h = h
-owns_before (AtMeta u) c v b h = h
-owns_before (AtLink u) c v b h = h
-owns_before (Deciding u y) c v b h = h
-owns_before (AtBad u) c v b h = h
-owns_before (AtRaise u) c v b h = absurd b
-owns_before AtShort c v b h = absurd b
-owns_before Over c v b h = absurd b
 
 module _ (p : Pool) (v : View) (o : Option Open) (n : ℕ) (w : View) (o1 : Option Open) (room room1 : ValueBuf) where
   same_get : (g g1 : Getting) → w.pass.names ≡ v.pass.names → GetHolds g v room → GetGoesOn g room1.length n g1 → IsSameCall (Get g) v (Get g1) w
@@ -195,7 +170,7 @@ module _ (p : Pool) (v : View) (o : Option Open) (n : ℕ) (w : View) (o1 : Opti
   stock_goes Nothing y a held go b h e = absurd go
   stock_goes (Get g) y a held go b h e = absurd (subst HasCommitted go.3 h)
   stock_goes (Write c) y a held go b h e =
-      let own = owns_before c.stage c v b held.1.owns in
+      let own = (early c.stage b).owns c v held.1.owns in
       let m = e.made in
       let left : w.pass.stock ≡ rest_of v.pass.stock = ap (λ (z : View). z.pass.stock) m.told.next
       ∙ ap (λ (k : Bool). (cond k (link_view v m.now.history (client v) e.slot e.tail c.own (call_under (Write c) v) (reply_of c.own (call_under (Write c) v)) (rest_of v.pass.stock)) (seen e.slot e.tail v (next_of (unlinked e.tail)))).pass.stock) (eq-eqb (unlinked e.tail) (unlinked e.tail) refl) in

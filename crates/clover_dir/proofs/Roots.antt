@@ -146,10 +146,7 @@ module _ (d : Inside) (k : IsDirectoryKept d) where
     other : (s : ℕ) → s ≢ slot → get_or m.roots.items s None ≡ get_or d.roots.items s None
     other s n = ap (λ (xs : List (Option TagParts)). get_or xs s None) roots ∙ get_or-set_other d.roots.items slot s (Some t) None n
 
-    -- the lowest unbound slot stays where another one was bound
-    pub low_stays : slot ≢ d.low → d.low < length m.roots.items → get_or m.roots.items d.low None ≡ None
-    low_stays n h = other d.low (λ e. n (sym e)) ∙ k.free (let z = long in let y = k.directory.sized in omega arith)
-
+    -- what was bound below the lowest unbound slot still is
     pub still_below : (s : ℕ) → s < d.low → IsSome (get_or m.roots.items s None)
     still_below s h = some_now s (k.below s h)
 

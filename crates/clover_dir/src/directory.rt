@@ -118,9 +118,7 @@ impl Directory {
     {
         self.names.push(slot, key);
         self.roots[slot as usize] = Some(root);
-        if slot == self.low {
-            self.low = first_unbound(&self.roots, slot);
-        }
+        self.low = first_unbound(&self.roots, self.low);
     }
 }
 

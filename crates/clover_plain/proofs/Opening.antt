@@ -60,16 +60,7 @@ module _ (s : Setup) (ws : List ℕ) (zeros : ws ≡ replicate (pool_words s.poo
     names = (o.opens.bindings, refl);
     most = omega arith;
     stock = refl;
-    durable = refl;
-    links = refl;
-    words = refl;
-    written = refl;
-    flushed = refl;
-    copied = refl;
-    added = refl;
-    calls = refl;
-    history = refl;
-    plan = refl;
+    nothing = refl;
   }
 
   role_of : (i : ℕ) (v : View) → nth vs i ≡ Some v → v.pass.role ≡ role_at s i

@@ -170,16 +170,7 @@ module _ (s : Setup) (keys : List (List ℕ)) (ws : List ℕ) (sized : length ws
       apart = dealt_once s (suc i) (buffers_total p) 0;
       names = prefix_self (bindings_from 0 keys);
       most = omega arith;
-      durable = refl;
-      links = refl;
-      words = refl;
-      written = refl;
-      flushed = refl;
-      copied = refl;
-      added = refl;
-      calls = refl;
-      history = refl;
-      plan = refl;
+      nothing = refl;
     }
 
     held : (b i : ℕ) → owner b ≡ Some i → (v : View) × (nth vs i ≡ Some v) × (t : ℕ) × Within t v.pass.stock × (home t ≡ b)

@@ -1,9 +1,20 @@
 -- What an access of a port leaves of its pool.
-use Rattle.std.specs.Prelude.{◌≡◌, ℕ, ◌++◌, Bool, true, false, Option, Some}
+use Rattle.std.specs.Prelude.{◌≡◌, ◌≤◌, ℕ, ◌++◌, Bool, true, false, Option, Some}
 use Rattle.std.proofs.Common.{sym, subst}
+use Rattle.clover_port.specs.Told.{Made, Rose}
 use Rattle.clover_rule.specs.Rule.{longest}
+use Rattle.clover_rule.specs.Steps.{Step, act_of}
 use Rattle.clover_rule.specs.declared.access.Act.{Act}
-use Rattle.clover_plain.specs.Plain.{Plain, Same, Refused, open_of, view_at}
+use Rattle.clover_plain.specs.Plain.{Plain, Same, Stepped, Refused, open_of, view_at}
+use Rattle.clover_plain.specs.declared.port.PlainPort.{PlainPort}
+
+-- one access was made: this step, the first of its call or a later one, found this number
+abbrev pub MadeBy : PlainPort → Step → Bool → ℕ → PlainPort → Type 0
+MadeBy p a b x q = Stepped a b p.list p.seat x p.pool.now q.pool.now × Made p.pool.now.setup.pool a b (view_at p.pool.now p.seat) (Some (open_of p.pool.now)) x (view_at q.pool.now q.seat) (Some (open_of q.pool.now)) × (q.seat ≡ p.seat) × (q.faults ≡ p.faults) × (q.pool.ghost_name ≡ p.pool.ghost_name) × (p.refuse ≡ false) × (q.refuse ≡ false) × (q.list ≡ false)
+
+-- one access was refused
+abbrev pub FailedBy : PlainPort → PlainPort → Type 0
+FailedBy p q = ((a : Step) × Refused (act_of a 0) p.seat p.pool.now q.pool.now) × (q.seat ≡ p.seat) × Rose p.faults q.faults × (q.pool.ghost_name ≡ p.pool.ghost_name) × (p.refuse ≡ true) × (q.refuse ≡ false) × (q.list ≡ false) × (p.faults ≤ q.faults)
 
 -- an access leaves the shape of the pool
 pub pool_same : {p q : Plain} → Same p q → q.setup.pool ≡ p.setup.pool

@@ -4,6 +4,7 @@ ghost use Rattle.clover_port.specs.Told.{Rose};
 ghost use Rattle.clover_plain.specs.Plain.{Refused};
 
 use crate::pool::PlainPool;
+use crate::words::act_of;
 use clover_port::{Failed, Op, Port};
 use clover_rule::{Act, StepName};
 use clover_words::{Side, Word};
@@ -28,12 +29,10 @@ pub struct PlainPort<'a> {
 }
 
 impl<'a> Port for PlainPort<'a> {
-    ghost use Rattle.std.specs.Prelude.{◌≡◌, ◌≤◌, true, false, Some};
+    ghost use Rattle.std.specs.Prelude.{Some};
     ghost use Rattle.std.proofs.Common.{refl};
-    ghost use Rattle.clover_rule.specs.Steps.{Step, act_of};
-    ghost use Rattle.clover_port.specs.Told.{Made, Rose};
-    ghost use Rattle.clover_plain.specs.Plain.{Stepped, Refused, open_of, view_at, no_table};
-    ghost use Rattle.clover_plain.specs.Ports.{pool_same, refused_view, refused_told, not_true, not_false};
+    ghost use Rattle.clover_plain.specs.Plain.{open_of, view_at, no_table};
+    ghost use Rattle.clover_plain.specs.Ports.{MadeBy, FailedBy, pool_same, refused_view, refused_told, not_true, not_false};
 
     ghost view = { λ p. view_at p.pool.now p.seat };
 
@@ -49,9 +48,9 @@ impl<'a> Port for PlainPort<'a> {
 
     ghost refuses = { λ p. Some p.refuse };
 
-    ghost made = { λ p a b x q. Stepped a b p.list p.seat x p.pool.now q.pool.now × Made p.pool.now.setup.pool a b (view_at p.pool.now p.seat) (Some (open_of p.pool.now)) x (view_at q.pool.now q.seat) (Some (open_of q.pool.now)) × (q.seat ≡ p.seat) × (q.faults ≡ p.faults) × (q.pool.ghost_name ≡ p.pool.ghost_name) × (p.refuse ≡ false) × (q.refuse ≡ false) × (q.list ≡ false) };
+    ghost made = { MadeBy };
 
-    ghost failed = { λ p q. ((a : Step) × Refused (act_of a 0) p.seat p.pool.now q.pool.now) × (q.seat ≡ p.seat) × Rose p.faults q.faults × (q.pool.ghost_name ≡ p.pool.ghost_name) × (p.refuse ≡ true) × (q.refuse ≡ false) × (q.list ≡ false) × (p.faults ≤ q.faults) };
+    ghost failed = { FailedBy };
 
     ghost made_tells = { λ p q a b x h. h.1 };
 
@@ -60,25 +59,14 @@ impl<'a> Port for PlainPort<'a> {
     ghost failed_leaves = { λ p q h. (pool_same h.0.1.same, refl, h.3, h.2, refused_view p.seat q.seat h.1 h.0.1, refused_told p.seat h.0.1, not_false h.4, h.7) };
 
     fn load<M: StepName>(&mut self, word: Word) -> Result<u64, Failed> {
-        if self.refuse {
-            self.fail(Act::Load { word, got: 0 });
-            return Err(Failed);
-        }
-        let list = self.list;
-        self.list = false;
-        Ok(self.pool.access::<M>(self.seat, list, Op::Load(word)))
+        self.make::<M>(Op::Load(word))
     }
 
     fn store<M: StepName>(&mut self, word: Word, side: Side, value: u64) -> Result<(), Failed> {
-        if self.refuse {
-            self.fail(Act::Store { word, side, value });
-            return Err(Failed);
+        match self.make::<M>(Op::Store { word, side, value }) {
+            Ok(_) => Ok(()),
+            Err(failed) => Err(failed),
         }
-        let list = self.list;
-        self.list = false;
-        self.pool
-            .access::<M>(self.seat, list, Op::Store { word, side, value });
-        Ok(())
     }
 
     fn exchange<M: StepName>(
@@ -87,49 +75,40 @@ impl<'a> Port for PlainPort<'a> {
         expected: u64,
         new: u64,
     ) -> Result<u64, Failed> {
-        if self.refuse {
-            self.fail(Act::Exchange {
-                word,
-                expected,
-                new,
-                old: 0,
-            });
-            return Err(Failed);
-        }
-        let list = self.list;
-        self.list = false;
-        Ok(
-            self.pool.access::<M>(
-                self.seat,
-                list,
-                Op::Exchange {
-                    word,
-                    expected,
-                    new,
-                },
-            ),
-        )
+        self.make::<M>(Op::Exchange {
+            word,
+            expected,
+            new,
+        })
     }
 
     fn raise<M: StepName>(&mut self, word: Word, value: u64) -> Result<u64, Failed> {
-        if self.refuse {
-            self.fail(Act::Raise {
-                word,
-                value,
-                old: 0,
-            });
-            return Err(Failed);
-        }
-        let list = self.list;
-        self.list = false;
-        Ok(
-            self.pool
-                .access::<M>(self.seat, list, Op::Raise { word, value }),
-        )
+        self.make::<M>(Op::Raise { word, value })
     }
 }
 
 impl<'a> PlainPort<'a> {
+    ghost use Rattle.std.specs.Prelude.{MatchResult};
+    ghost use Rattle.clover_rule.specs.Asks.{Asks};
+    ghost use Rattle.clover_port.specs.Asked.{IsOp};
+    ghost use Rattle.clover_plain.specs.Plain.{view_at};
+    ghost use Rattle.clover_plain.specs.Ports.{MadeBy, FailedBy};
+
+    // Makes the access as the step that M names, or refuses it.
+    fn make<M: StepName>(&mut self, op: Op) -> Result<u64, Failed>
+        requires step { IsOp M.step op }
+        requires rule { Asks self.old.pool.now.setup.pool M.step (view_at self.old.pool.now self.old.seat) }
+        ensures ends { MatchResult result (λ x. MadeBy self.old M.step M.first x self.new) (λ e. FailedBy self.old self.new) }
+    {
+        if self.refuse {
+            self.fail(act_of(op, 0));
+            return Err(Failed);
+        }
+        let list = self.list;
+        self.list = false;
+        Ok(self.pool.access::<M>(self.seat, list, op))
+    }
+
     // Refuses the access, and counts that.
     fn fail(&mut self, act: Act)
         requires { self.old.refuse ≡ true }

@@ -25,19 +25,6 @@ use Rattle.clover_put.specs.declared.turn.PutTurn.TheVariants.{More}
 use Rattle.clover_put.proofs.Body.{body_nth, body_some}
 use Rattle.clover_put.proofs.Known.{walk_kept, filled_stored, filled_flushed, bounded}
 
--- a call that has committed nothing goes on where it still has not
-pub before_onward : (s : Stage) (c n : Putting) → IsBefore s → IsBefore n.stage → Onward s c n
-before_onward (Storing j) c n b e = e
-before_onward (Flushing j) c n b e = e
-before_onward Seeking c n b e = e
-before_onward (AtMeta u) c n b e = e
-before_onward (AtLink u) c n b e = e
-before_onward (Deciding u r) c n b e = e
-before_onward (AtBad u) c n b e = e
-before_onward (AtRaise u) c n b e = absurd b
-before_onward AtShort c n b e = absurd b
-before_onward Over c n b e = absurd b
-
 -- for the layers above: the parts of what is known, and the step, at a known stage
 pub at_stage : (c : Putting) (at : Stage) (v : View) → c.stage ≡ at → PutHolds c v → Owns at c v × Fills at c v × Looks at c v × (cond c.walk.first 0 (length v.pass.since) ≤ most at c)
 at_stage c at v e h = subst (λ (s : Stage). Owns s c v × Fills s c v × Looks s c v × (cond c.walk.first 0 (length v.pass.since) ≤ most s c)) e (h.owns, h.fills, h.looks, h.spent)

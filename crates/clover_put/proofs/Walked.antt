@@ -26,7 +26,8 @@ use Rattle.clover_put.specs.Putting.{Putting, Stage, Seeking, AtMeta, AtLink, at
 use Rattle.clover_put.specs.declared.job.Job.{Job}
 use Rattle.clover_put.specs.declared.job.Job.TheVariants.{Put, Delete, Swap}
 use Rattle.clover_put.specs.declared.turn.PutTurn.TheVariants.{More}
-use Rattle.clover_put.proofs.Done.{before_onward, goes_more, within_bound}
+use Rattle.clover_put.proofs.Done.{goes_more, within_bound}
+use Rattle.clover_put.proofs.Sides.{early}
 
 -- what is known of the call where its walk has gone on to n
 pub record Onward (c : Putting) (n : Walking) (w : View) : Type 0 where
@@ -84,7 +85,7 @@ before_tail (Swap x) t = tt
 
 module _ (p : Pool) (c : Putting) (s : Stage) (n : Walking) (v : View) (o : Option Open) (x : ℕ) (w : View) (o1 : Option Open) (fit : length (body c) ≤ c.walk.pool.words + 1) (before : IsBefore s) (k : Onward c n w) where
   on_more : PutHolds (walked c n) w → IsBefore (reached c.job n.stand) → Went p (staged c s) (walked c n) v o w o1 More
-  on_more h b = goes_more (staged c s) (walked c n) w h k.first k.pool refl fit p v o o1 (before_onward s (staged c s) (walked c n) before b)
+  on_more h b = goes_more (staged c s) (walked c n) w h k.first k.pool refl fit p v o o1 ((early s before).to (staged c s) (walked c n) b)
 
   pub walked_went : (r : Turn) → Walked c.walk x w n r → Went p (staged c s) (walked c n) v o w o1 (answer_of r)
   walked_went WalksOn go = on_more (on_way c n w k n.stand refl go.answers go.stands) (before_way c.job n.stand go.answers)

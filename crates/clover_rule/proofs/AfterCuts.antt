@@ -70,7 +70,7 @@ module _ (p : Pool) (first : Tagged) (used ws : List ℕ) (vs : List View) (st :
   legal_rest = legal_left m st r.whole.basis.core i is first used h r.whole.basis.tale
 
   told_durable : (t : ℕ) → IsKnownDurable vs t → (s : ℕ) × Durable st s t
-  told_durable t (v, w, (s, d)) = let x = within_nth v vs w in (s, each_within (λ (q : ℕ × ℕ). Durable st q.0 q.1) (s, t) v.pass.durable (r.whole.basis.views x.0 v x.1).durable d)
+  told_durable t (v, w, (s, d)) = let x = within_nth v vs w in (s, each_within (λ (q : ℕ × ℕ). Durable st q.0 q.1) (s, t) v.pass.durable (r.whole.basis.views x.0 v x.1).knows.durable d)
 
   reads : ReadsMap st i (leads (shows first) rest)
   reads = cut_stands m st r.whole.basis.core i is first used h r.whole.basis.tale

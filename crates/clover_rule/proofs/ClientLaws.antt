@@ -10,13 +10,11 @@ use Rattle.clover_rule.specs.Changes.{raised_mem, raised_story}
 use Rattle.clover_map.specs.Legal.{used_by}
 use Rattle.clover_rule.specs.Lists.{nth, upd, Within}
 use Rattle.clover_rule.specs.Memory.{Mem}
-use Rattle.clover_rule.specs.Server.{AtStage, Whole}
+use Rattle.clover_rule.specs.Server.{Whole}
 use Rattle.clover_rule.specs.Story.{Story, Durable}
 use Rattle.clover_rule.specs.Views.{ViewOk, Basis, renewed, raise_view}
 use Rattle.clover_rule.specs.declared.view.Link.{Link}
 use Rattle.clover_rule.specs.declared.view.Role.TheVariants.{Client}
-use Rattle.clover_rule.specs.declared.view.ServerTask.{ServerTask}
-use Rattle.clover_rule.specs.declared.view.ServerTask.TheVariants.{Idle, Storing, Rooted, Waiting, Loaded, Raised, Led, Both, Exchanged}
 use Rattle.clover_rule.specs.declared.view.View.{View}
 use Rattle.clover_words.specs.declared.pool.Pool.{Pool}
 use Rattle.clover_rule.proofs.Tools.{upd_same, upd_else}
@@ -25,6 +23,7 @@ use Rattle.clover_rule.proofs.ClientSteps.{client_whole, raise_help, raise_serve
 use Rattle.clover_rule.proofs.RaiseLaw.{known, grows as raise_grows, rule' as raise_rule}
 use Rattle.clover_rule.proofs.Raising.{raised_higher}
 use Rattle.clover_rule.proofs.Quiet.{quiet}
+use Rattle.clover_rule.proofs.Staying.{help_kept}
 
 module _ (l : Pool) (m0 : Tagged) (used : List ℕ) (m : Mem) (vs : List View) (st : Story) (h : List Entry) (w : Whole l m0 used m vs st h) (id : ℕ) (v : View) (at : nth vs id ≡ Some v) where
   abbrev r : Basis m0 used m vs st h
@@ -53,26 +52,9 @@ module _ (l : Pool) (m0 : Tagged) (used : List ℕ) (m : Mem) (vs : List View) (
   -- a store of the shortcut with a durable tag
   pub short_whole : (n s t : ℕ) → v.pass.role ≡ Client n → Within (s, t) v.pass.durable → (rule : Basis m0 used (record m { short = upd m.short s (Some t) }) (renewed vs id v) st h)
       → Whole l m0 used (record m { short = upd m.short s (Some t) }) (renewed vs id v) st h
-  short_whole n s t role d ru = let p = w.help in client_whole l m0 used m vs st h w id v v at n role refl (record m { short = upd m.short s (Some t) }) st h ru
-      record {
-        ranged = let a = p.ranged in record { tags = a.tags; own = a.own; below = a.below; ready = a.ready; worn = a.worn; fits = a.fits };
-        keyed = let a = p.keyed in record { valid = a.valid; current = a.current; flushed = a.flushed; bare = a.bare; nameless = a.nameless; filled = a.filled; slots = a.slots };
-        naming = let a = p.naming in record { counted = a.counted; found = a.found; listed = a.listed; waiting = a.waiting; once = a.once };
-        stage = record { settled = p.stage.settled; holds = p.stage.holds; names = p.stage.names; here = here st.task p.stage.here };
-        short = λ s1 y q. dite (ℕ_discrete s1 s) (λ z. let f : t ≡ y = let f1 : Some t ≡ Some y = sym (ap (upd m.short s (Some t)) z ∙ upd_same m.short s (Some t)) ∙ q in cc in
-            rw (z, ← f) (each_within (λ (a : ℕ × ℕ). Durable st a.0 a.1) (s, t) v.pass.durable (r.views id v at).durable d)) (λ z. p.short s1 y (sym (upd_else m.short s s1 (Some t) z) ∙ q));
-      } (λ sv e. record { task_is = e.task_is; directory = e.directory; roots = e.roots; books = e.books }) w.safe (λ cs x y. y)
-    where
-      abbrev_here : Unit {0}
-      abbrev_here = tt
-
-      here : (T : ServerTask) → AtStage l m st T → AtStage l (record m { short = upd m.short s (Some t) }) st T
-      here Idle a = tt
-      here (Storing bind n1) a = record { place = a.place; now = a.now; safe = a.safe; range = a.range; slot = a.slot; bare = a.bare; unnamed = a.unnamed; absent = a.absent; valid = a.valid; body = a.body; fbody = a.fbody; key = a.key; fkey = a.fkey }
-      here (Rooted bind) a = (record { key = a.0.key; unnamed = a.0.unnamed; alone = a.0.alone; tag = a.0.tag; gone = a.0.gone }, a.1)
-      here (Waiting bind) a = (record { key = a.0.key; unnamed = a.0.unnamed; alone = a.0.alone; tag = a.0.tag; gone = a.0.gone }, a.1)
-      here (Loaded cycle) a = a
-      here (Raised cycle) a = a
-      here (Led cycle) a = a
-      here (Both cycle) a = a
-      here (Exchanged cycle) a = record { place = a.place; now = a.now; safe = a.safe; root = a.root; old = a.old; body = a.body; inside = a.inside; young = a.young }
+  short_whole n s t role d ru = let p = w.help in let a = p.ranged in client_whole l m0 used m vs st h w id v v at n role refl (record m { short = upd m.short s (Some t) }) st h ru
+      (help_kept l m st m.fnext m.body m.fbody (upd m.short s (Some t)) st.place st.sure (λ s1 j q. q) (λ b e. (e, refl, refl, refl)) p
+      record { tags = a.tags; own = a.own; below = a.below; ready = a.ready; worn = a.worn; fits = a.fits } p.stage.holds
+      (λ s1 y q. dite (ℕ_discrete s1 s) (λ z. let f : t ≡ y = let f1 : Some t ≡ Some y = sym (ap (upd m.short s (Some t)) z ∙ upd_same m.short s (Some t)) ∙ q in cc in
+      rw (z, ← f) (each_within (λ (a : ℕ × ℕ). Durable st a.0 a.1) (s, t) v.pass.durable (r.views id v at).knows.durable d)) (λ z. p.short s1 y (sym (upd_else m.short s s1 (Some t) z) ∙ q))))
+      (λ sv e. record { task_is = e.task_is; directory = e.directory; roots = e.roots; books = e.books }) w.safe (λ cs x y. y)

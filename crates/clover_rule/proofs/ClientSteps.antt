@@ -29,6 +29,7 @@ use Rattle.clover_rule.proofs.Standings.{tag_within}
 use Rattle.clover_rule.proofs.Steps.{Grows, nth_set, durable_kept}
 use Rattle.clover_rule.proofs.Linking.{CanLink, gens, u_stands, tag_else, Pushed, before, new, pushed, length_linked}
 use Rattle.clover_rule.proofs.ServerTools.{book_same}
+use Rattle.clover_rule.proofs.Staying.{help_kept}
 use Rattle.clover_rule.proofs.Raising.{raised_below}
 use Rattle.clover_rule.proofs.Raising.{CanRaise, order_below, order_self}
 
@@ -236,32 +237,10 @@ module _ (l : Pool) (m : Mem) (st : Story) (c : Core m st) (p : Help l m st) (s 
   more_sure : (s1 j : ℕ) → j < st.sure s1 → j < sr.sure s1
   more_sure s1 j q = let a = g.sure s1 in omega arith
 
-  raised_here : (T : ServerTask) → AtStage l m st T → AtStage l mr sr T
-  raised_here Idle a = tt
-  raised_here (Storing bind n1) a = record { place = a.place; now = a.now; safe = held_off (home bind.tag) a.place ∙ a.safe; range = a.range; slot = a.slot; bare = a.bare; unnamed = a.unnamed; absent = a.absent; valid = a.valid; body = a.body; fbody = a.fbody; key = a.key; fkey = a.fkey }
-  raised_here (Rooted bind) a = (record { key = a.0.key; unnamed = a.0.unnamed; alone = a.0.alone; tag = a.0.tag; gone = a.0.gone }, a.1)
-  raised_here (Waiting bind) a = (record { key = a.0.key; unnamed = a.0.unnamed; alone = a.0.alone; tag = a.0.tag; gone = a.0.gone }, a.1)
-  raised_here (Loaded cycle) a = record { root = a.root; next = a.next }
-  raised_here (Raised cycle) a = (record { root = a.0.root; next = a.0.next }, more_sure cycle.slot (suc (st.gone cycle.slot)) a.1)
-  raised_here (Led cycle) a = (record { root = a.0.root; next = a.0.next }, more_sure cycle.slot (suc (st.gone cycle.slot)) a.1, a.2, a.3)
-  raised_here (Both cycle) a = (record { root = a.0.root; next = a.0.next }, more_sure cycle.slot (suc (st.gone cycle.slot)) a.1, a.2, a.3)
-  raised_here (Exchanged cycle) a = record { place = a.place; now = a.now; safe = held_off (home cycle.root) a.place ∙ a.safe; root = a.root; old = a.old; body = a.body; inside = a.inside; young = a.young }
-
   pub raise_help : Help l mr sr
-  raise_help = record {
-    ranged = let a = p.ranged in record {
-      tags = a.tags;
-      own = a.own;
-      ready = a.ready;
-      worn = a.worn;
-      fits = a.fits;
-      below = λ b. raised_below m u t b u_old (a.below b);
-    };
-    keyed = let a = p.keyed in record { valid = a.valid; current = a.current; flushed = a.flushed; bare = a.bare; nameless = a.nameless; filled = a.filled; slots = a.slots };
-    naming = let a = p.naming in record { counted = a.counted; found = a.found; listed = a.listed; waiting = a.waiting; once = a.once };
-    stage = record { settled = p.stage.settled; holds = p.stage.holds; names = p.stage.names; here = raised_here st.task p.stage.here };
-    short = λ s1 y q. durable_kept m st h mr sr h g s1 y (p.short s1 y q);
-  }
+  raise_help = let a = p.ranged in help_kept l m st mr.fnext m.body m.fbody m.short st.place sr.sure more_sure (λ b e. (e, held_off b e, refl, refl)) p
+      record { tags = a.tags; own = a.own; ready = a.ready; worn = a.worn; fits = a.fits; below = λ b. raised_below m u t b u_old (a.below b) }
+      p.stage.holds (λ s1 y q. durable_kept m st h mr sr h g s1 y (p.short s1 y q))
 
   pub raise_serves : (sv : Server) → Serves l m st st.task sv → Serves l mr sr st.task sv
   raise_serves sv e = record {

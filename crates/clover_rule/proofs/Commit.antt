@@ -67,13 +67,13 @@ module _ (m0 : Tagged) (used : List ℕ) (m : Mem) (vs : List View) (st : Story)
   ok = r.views id v at
 
   pub tail_durable : Durable st s u
-  tail_durable = each_within (λ (q : ℕ × ℕ). Durable st q.0 q.1) (s, u) v.pass.durable ok.durable p.tail
+  tail_durable = each_within (λ (q : ℕ × ℕ). Durable st q.0 q.1) (s, u) v.pass.durable ok.knows.durable p.tail
 
   abbrev place_of : ℕ
   place_of = tail_durable.0
 
   pub slot_bound : (st.keys s ≡ Some k) × (st.named s ≡ true)
-  slot_bound = r.bound s k (subst (Within (s, k)) (sym ok.names.1) (within_prefix (s, k) v.pass.names ok.names.0 p.name))
+  slot_bound = r.bound s k (subst (Within (s, k)) (sym ok.named.names.1) (within_prefix (s, k) v.pass.names ok.named.names.0 p.name))
 
   pub owned : Owned m st id t
   owned = (subst (Each (Owned m st id)) p.stock ok.stocked).0
@@ -206,19 +206,11 @@ module _ (m0 : Tagged) (used : List ℕ) (m : Mem) (vs : List View) (st : Story)
   not_home : (y : ℕ) → y ≢ t → Owned m st id y → home y ≢ home t
   not_home y d o q = d (same_tag y t q (sym o.1 ∙ ap gen (ap m.next q) ∙ owned.1))
 
-  written' : (cs : List Content) → Each (λ (c : Content). Owned m st id c.tag × (m.body (home c.tag) c.place ≡ c.word)) cs → Each (λ (c : Content). Owned m' st' id c.tag × (m.body (home c.tag) c.place ≡ c.word)) (without t cs)
-  written' [] a = tt
-  written' (c ∷ cs) a = go (ℕ_discrete c.tag t) (written' cs a.1)
+  contents' : (f : ℕ → ℕ → ℕ) (cs : List Content) → Each (λ (c : Content). Owned m st id c.tag × (f (home c.tag) c.place ≡ c.word)) cs → Each (λ (c : Content). Owned m' st' id c.tag × (f (home c.tag) c.place ≡ c.word)) (without t cs)
+  contents' f [] a = tt
+  contents' f (c ∷ cs) a = go (ℕ_discrete c.tag t) (contents' f cs a.1)
     where
-      go : Dec (c.tag ≡ t) → Each (λ (c : Content). Owned m' st' id c.tag × (m.body (home c.tag) c.place ≡ c.word)) (without t cs) → Each (λ (c : Content). Owned m' st' id c.tag × (m.body (home c.tag) c.place ≡ c.word)) (cond (eqb c.tag t) (without t cs) (c ∷ without t cs))
-      go (yes q) b = rw (eq-eqb c.tag t q) b
-      go (no q) b = rw (ne_eqb c.tag t q) ((owned_else c.tag (not_home c.tag q a.0.0) a.0.0, a.0.1), b)
-
-  flushed' : (cs : List Content) → Each (λ (c : Content). Owned m st id c.tag × (m.fbody (home c.tag) c.place ≡ c.word)) cs → Each (λ (c : Content). Owned m' st' id c.tag × (m.fbody (home c.tag) c.place ≡ c.word)) (without t cs)
-  flushed' [] a = tt
-  flushed' (c ∷ cs) a = go (ℕ_discrete c.tag t) (flushed' cs a.1)
-    where
-      go : Dec (c.tag ≡ t) → Each (λ (c : Content). Owned m' st' id c.tag × (m.fbody (home c.tag) c.place ≡ c.word)) (without t cs) → Each (λ (c : Content). Owned m' st' id c.tag × (m.fbody (home c.tag) c.place ≡ c.word)) (cond (eqb c.tag t) (without t cs) (c ∷ without t cs))
+      go : Dec (c.tag ≡ t) → Each (λ (c : Content). Owned m' st' id c.tag × (f (home c.tag) c.place ≡ c.word)) (without t cs) → Each (λ (c : Content). Owned m' st' id c.tag × (f (home c.tag) c.place ≡ c.word)) (cond (eqb c.tag t) (without t cs) (c ∷ without t cs))
       go (yes q) b = rw (eq-eqb c.tag t q) b
       go (no q) b = rw (ne_eqb c.tag t q) ((owned_else c.tag (not_home c.tag q a.0.0) a.0.0, a.0.1), b)
 
@@ -235,15 +227,10 @@ module _ (m0 : Tagged) (used : List ℕ) (m : Mem) (vs : List View) (st : Story)
   new_ok = record {
     stocked = owned_rest rest parts_apart.0 (subst (Each (Owned m st id)) p.stock ok.stocked).1;
     apart = parts_apart.1;
-    durable = each_map (λ q d. durable_kept m st h m' st' h' grows q.0 q.1 d) v.pass.durable ok.durable;
-    links = (link_now, each_map (link_kept m st h m' st' h' grows) v.pass.links ok.links);
-    words = (word_now, each_map (λ q d. past_kept m st h m' st' h' grows q.buffer (word q.own q.link) d) v.pass.words ok.words);
-    written = written' v.pass.written ok.written;
-    flushed = flushed' v.pass.flushed ok.flushed;
-    copied = each_map (copied_kept m st h m' st' h' grows) v.pass.copied ok.copied;
-    names = ok.names;
-    added = ok.added;
-    most = ok.most;
+    knows = record { durable = each_map (λ q d. durable_kept m st h m' st' h' grows q.0 q.1 d) v.pass.durable ok.knows.durable; links = (link_now, each_map (link_kept m st h m' st' h' grows) v.pass.links ok.knows.links); words = (word_now, each_map (λ q d. past_kept m st h m' st' h' grows q.buffer (word q.own q.link) d) v.pass.words ok.knows.words); copied = each_map (copied_kept m st h m' st' h' grows) v.pass.copied ok.knows.copied };
+    written = contents' m.body v.pass.written ok.written;
+    flushed = contents' m.fbody v.pass.flushed ok.flushed;
+    named = ok.named;
     history = prefix_self h';
     calls = own_new_calls ok.calls;
   }

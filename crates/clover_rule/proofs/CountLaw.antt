@@ -40,10 +40,10 @@ module _ (l : Pool) (m0 : Tagged) (used : List ℕ) (m : Mem) (vs : List View) (
 
   -- the map has nothing at the key
   pub absent_now : leads (shows m0) h k ≡ None
-  absent_now = absent_map m st st.slot_named m0 used h v.pass.names k w.help.naming r.tale ok.names found missing
+  absent_now = absent_map m st st.slot_named m0 used h v.pass.names k w.help.naming r.tale ok.named.names found missing
 
   all_named : st.bindings ≡ v.pass.names
-  all_named = whole_prefix v.pass.names st.bindings ok.names (sym w.help.naming.counted ∙ found)
+  all_named = whole_prefix v.pass.names st.bindings ok.named.names (sym w.help.naming.counted ∙ found)
 
   -- where the key is being bound, its slot has the tombstone alone, which is durable
   alone : (T : ServerTask) → Stage l m st T → (s : ℕ) → unnamed T ≡ Some s → length (st.log s) ≡ 1
@@ -84,6 +84,6 @@ module _ (l : Pool) (m0 : Tagged) (used : List ℕ) (m : Mem) (vs : List View) (
   pub count_whole : (n : ℕ) → v.pass.role ≡ Client n → (call : Call) (reply : Reply) → key_of call ≡ k → committed call reply ≡ None → Permits (leads (shows m0) h k) (used_by used h) call reply
       → Whole l m0 used m (renewed vs id (counted_view n call reply)) st (h ++ link_entry v n call reply ∷ [])
   count_whole n role call reply nm cm does = client_whole l m0 used m vs st h w id v (counted_view n call reply) at n role refl m st (h ++ link_entry v n call reply ∷ [])
-      (answered_rule m0 used m vs st h r id v at n role k unread_after v.pass.words ok.words (max v.pass.most m.count) (let q = ok.most in omega arith) call reply nm cm does) w.help (λ sv e. e)
+      (answered_rule m0 used m vs st h r id v at n role k unread_after v.pass.words ok.knows.words (max v.pass.most m.count) (let q = ok.named.most in omega arith) call reply nm cm does) w.help (λ sv e. e)
       (each_used (λ (x : ℕ). (age x < l.wear) × (age x ≤ gen (m.fnext (home x)))) used h (link_entry v n call reply) w.safe (subst (Each (λ (x : ℕ). (age x < l.wear) × (age x ≤ gen (m.fnext (home x))))) (sym (new_none (leads (shows m0) h k) (used_by used h) call reply does cm)) tt))
       (λ cs a b. each_both (λ (x : Entry). Within x.client cs) h (link_entry v n call reply ∷ []) b (a, tt))

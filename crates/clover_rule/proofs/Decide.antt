@@ -37,13 +37,13 @@ module _ (m0 : Tagged) (used : List ℕ) (m : Mem) (vs : List View) (st : Story)
   ok = r.views id v at
 
   pub tail_durable : Durable st s t
-  tail_durable = each_within (λ (q : ℕ × ℕ). Durable st q.0 q.1) (s, t) v.pass.durable ok.durable tail
+  tail_durable = each_within (λ (q : ℕ × ℕ). Durable st q.0 q.1) (s, t) v.pass.durable ok.knows.durable tail
 
   abbrev i : ℕ
   i = tail_durable.0
 
   pub slot_bound : (st.keys s ≡ Some k) × (st.named s ≡ true)
-  slot_bound = r.bound s k (subst (Within (s, k)) (sym ok.names.1) (within_prefix (s, k) v.pass.names ok.names.0 name))
+  slot_bound = r.bound s k (subst (Within (s, k)) (sym ok.named.names.1) (within_prefix (s, k) v.pass.names ok.named.names.0 name))
 
   pub stands : st.gone s ≤ i
   stands = dite (dec_le (st.gone s) i) (λ d. d) (λ d. let q = (r.core.passed s i t tail_durable.1 (omega arith)).later in let f = ap gen found in absurd (omega arith))
@@ -59,7 +59,7 @@ module _ (m0 : Tagged) (used : List ℕ) (m : Mem) (vs : List View) (st : Story)
 
   -- a word copied under the tail is its version's
   pub copied_word : (j y z : ℕ) → Within (s, record { tag = t; place = j; word = y }) v.pass.copied → nth (content version.0.value) j ≡ Some z → z ≡ y
-  copied_word j y z q there = go (each_within (IsCopied st) (s, record { tag = t; place = j; word = y }) v.pass.copied ok.copied q)
+  copied_word j y z q there = go (each_within (IsCopied st) (s, record { tag = t; place = j; word = y }) v.pass.copied ok.knows.copied q)
     where
       go : IsCopied st (s, record { tag = t; place = j; word = y }) → z ≡ y
       go d =
@@ -93,4 +93,4 @@ module _ (m0 : Tagged) (used : List ℕ) (m : Mem) (vs : List View) (st : Story)
 
   pub decide_rule : (n : ℕ) → v.pass.role ≡ Client n → (call : Call) (reply : Reply) → key_of call ≡ k → committed call reply ≡ None → Permits (leads (shows m0) h k) (used_by used h) call reply
       → Basis m0 used m (renewed vs id (decided_view n call reply)) st (h ++ link_entry v n call reply ∷ [])
-  decide_rule n role = answered_rule m0 used m vs st h r id v at n role k unread_after (shown (home t) (age t) None ∷ v.pass.words) ((let a = ap gen found in omega arith, inl refl), ok.words) v.pass.most ok.most
+  decide_rule n role = answered_rule m0 used m vs st h r id v at n role k unread_after (shown (home t) (age t) None ∷ v.pass.words) ((let a = ap gen found in omega arith, inl refl), ok.knows.words) v.pass.most ok.named.most

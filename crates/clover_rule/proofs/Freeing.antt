@@ -140,7 +140,7 @@ module _ (l : Pool) (m0 : Tagged) (used : List ℕ) (m : Mem) (vs : List View) (
             help = help1;
             fgens = λ b. omega arith;
           }
-          (λ q. let a = same_known m1 st1 h id v (root_passed v cycle).server q in record { stocked = a.stocked; apart = a.apart; durable = a.durable; links = a.links; words = (subst (Past m1 st1 (home cycle.root)) next_now (current_past m1 st1 core1 (home cycle.root)), a.words); written = a.written; flushed = a.flushed; copied = a.copied; names = a.names; added = a.added; most = a.most; history = a.history; calls = a.calls })
+          (λ q. let a = same_known m1 st1 h id v (root_passed v cycle).server q in record { stocked = a.stocked; apart = a.apart; knows = record { durable = a.knows.durable; links = a.knows.links; words = (subst (Past m1 st1 (home cycle.root)) next_now (current_past m1 st1 core1 (home cycle.root)), a.knows.words); copied = a.knows.copied }; written = a.written; flushed = a.flushed; named = a.named; history = a.history; calls = a.calls })
           record { task_is = refl; directory = sv.directory; roots = λ s1. sv.roots s1 ∙ sym (roots_kept s1); books = books1 },
       no_stock st.place (home cycle.root) Taken (λ i z. absurd (let y : Taken ≡ Stocked i = z in cc)),
     )

@@ -11,19 +11,18 @@ use Rattle.clover_map.specs.Tagged.{Tagged}
 use Rattle.clover_map.specs.Legal.{used_by}
 use Rattle.clover_rule.specs.Lists.{Each, nth, upd, Within}
 use Rattle.clover_rule.specs.Memory.{gen, Mem}
-use Rattle.clover_rule.specs.Server.{Ready, AtStage, Help, Serves, Whole}
+use Rattle.clover_rule.specs.Server.{Ready, Help, Serves, Whole}
 use Rattle.clover_rule.specs.Story.{Place, Chained, Stocked, Free, Worn, Taken, Loose, Story, Core}
 use Rattle.clover_rule.specs.Views.{Owned, ViewOk, Spent, Numbered, batch_at}
 use Rattle.clover_rule.specs.Moves.{making, client_of}
 use Rattle.clover_rule.specs.declared.view.Role.TheVariants.{Client, Serving}
-use Rattle.clover_rule.specs.declared.view.ServerTask.{ServerTask}
-use Rattle.clover_rule.specs.declared.view.ServerTask.TheVariants.{Idle, Storing, Rooted, Waiting, Loaded, Raised, Led, Both, Exchanged}
 use Rattle.clover_rule.specs.declared.view.View.{View}
 use Rattle.clover_words.specs.declared.pool.Pool.{Pool}
 use Rattle.clover_rule.proofs.Tools.{upd_same, upd_else, nth_within, nth_snoc, nth_front}
 use Rattle.clover_rule.proofs.Steps.{each_map, prefix_self, Grows, view_kept, nth_set, set_here, set_away}
 use Rattle.clover_rule.proofs.GrantLaw.{away, all_there, core_handed}
 use Rattle.clover_rule.proofs.ServerTools.{tale_copy}
+use Rattle.clover_rule.proofs.Staying.{help_kept}
 
 -- a batch that stood at one loose place goes to another
 module _ (l : Pool) (m0 : Tagged) (used : List ℕ) (m : Mem) (vs : List View) (st : Story) (h : List Entry) (w : Whole l m0 used m vs st h) (batch : List ℕ) (q0 : Place) (k : ℕ) (ready : Ready q0) (was : Each (λ (t : ℕ). st.place (home t) ≡ q0) batch) where
@@ -62,31 +61,16 @@ module _ (l : Pool) (m0 : Tagged) (used : List ℕ) (m : Mem) (vs : List View) (
   held_kept b e = hand_else b Taken e (λ z. subst Ready (sym z) ready)
 
   pub hand_help : Help l m st'
-  hand_help = let p = w.help in record {
-    ranged = let a = p.ranged in record {
-      tags = a.tags;
-      own = a.own;
-      below = a.below;
-      fits = a.fits;
-      ready = λ b f. ⊎_elim (λ d. a.ready b (subst Ready (sym d.1) ready)) (λ d. a.ready b (subst Ready d f)) (hand_case b);
-      worn = λ b i f. ⊎_elim (λ d. absurd (cc (d.0, f))) (λ d. a.worn b i (sym d ∙ f)) (hand_case b);
-    };
-    keyed = let a = p.keyed in record { valid = a.valid; current = a.current; flushed = a.flushed; bare = a.bare; nameless = a.nameless; filled = a.filled; slots = a.slots };
-    naming = let a = p.naming in record { counted = a.counted; found = a.found; listed = a.listed; waiting = a.waiting; once = a.once };
-    stage = record { settled = p.stage.settled; holds = λ b f. ⊎_elim (λ d. absurd (cc (d.0, f))) (λ d. p.stage.holds b (sym d ∙ f)) (hand_case b); names = p.stage.names; here = here st.task p.stage.here };
-    short = p.short;
-  }
-    where
-      here : (T : ServerTask) → AtStage l m st T → AtStage l m st' T
-      here Idle a = tt
-      here (Storing bind n1) a = record { place = held_kept (home bind.tag) a.place; now = a.now; safe = a.safe; range = a.range; slot = a.slot; bare = a.bare; unnamed = a.unnamed; absent = a.absent; valid = a.valid; body = a.body; fbody = a.fbody; key = a.key; fkey = a.fkey }
-      here (Rooted bind) a = (record { key = a.0.key; unnamed = a.0.unnamed; alone = a.0.alone; tag = a.0.tag; gone = a.0.gone }, a.1)
-      here (Waiting bind) a = (record { key = a.0.key; unnamed = a.0.unnamed; alone = a.0.alone; tag = a.0.tag; gone = a.0.gone }, a.1)
-      here (Loaded cycle) a = record { root = a.root; next = a.next }
-      here (Raised cycle) a = (record { root = a.0.root; next = a.0.next }, a.1)
-      here (Led cycle) a = (record { root = a.0.root; next = a.0.next }, a.1, a.2, a.3)
-      here (Both cycle) a = (record { root = a.0.root; next = a.0.next }, a.1, a.2, a.3)
-      here (Exchanged cycle) a = record { place = held_kept (home cycle.root) a.place; now = a.now; safe = a.safe; root = a.root; old = a.old; body = a.body; inside = a.inside; young = a.young }
+  hand_help = let p = w.help in let a = p.ranged in help_kept l m st m.fnext m.body m.fbody m.short st'.place st.sure (λ s j q. q) (λ b e. (held_kept b e, refl, refl, refl)) p
+      record {
+        tags = a.tags;
+        own = a.own;
+        below = a.below;
+        fits = a.fits;
+        ready = λ b f. ⊎_elim (λ d. a.ready b (subst Ready (sym d.1) ready)) (λ d. a.ready b (subst Ready d f)) (hand_case b);
+        worn = λ b i f. ⊎_elim (λ d. absurd (cc (d.0, f))) (λ d. a.worn b i (sym d ∙ f)) (hand_case b);
+      }
+      (λ b f. ⊎_elim (λ d. absurd (cc (d.0, f))) (λ d. p.stage.holds b (sym d ∙ f)) (hand_case b)) p.short
 
   pub hand_spent : (y : ℕ) → Spent m st y → Spent m st' y
   hand_spent y (inl a) = inl a
@@ -155,8 +139,8 @@ module _ (l : Pool) (m0 : Tagged) (used : List ℕ) (m : Mem) (vs : List View) (
 
   pub split_client : Whole l m0 used m views_then st h
   split_client = let p = w.basis in hand_whole l m0 used m vs st h w [] Free (length vs) tt tt views_then
-      (λ i y e. ⊎_elim (λ a. rw (← a.1) (record { stocked = tt; apart = tt; durable = tt; links = tt; words = tt; written = tt; flushed = tt; copied = tt; names = (st.bindings, refl); added = inl refl; most = omega arith; history = (h, refl); calls = sym (none_own v.server.clients h fresh (w.entered id v at role)) }))
-      (λ a. ⊎_elim (λ b. rw (b.0, ← b.1) (let k = p.views id v at in record { stocked = k.stocked; apart = k.apart; durable = k.durable; links = k.links; words = k.words; written = k.written; flushed = k.flushed; copied = k.copied; names = k.names; added = k.added; most = k.most; history = k.history; calls = k.calls })) (λ b. p.views i y b.1) a) (made_case i y e))
+      (λ i y e. ⊎_elim (λ a. rw (← a.1) (record { stocked = tt; apart = tt; knows = record { durable = tt; links = tt; words = tt; copied = tt }; written = tt; flushed = tt; named = record { names = (st.bindings, refl); added = inl refl; most = omega arith }; history = (h, refl); calls = sym (none_own v.server.clients h fresh (w.entered id v at role)) }))
+      (λ a. ⊎_elim (λ b. rw (b.0, ← b.1) (let k = p.views id v at in record { stocked = k.stocked; apart = k.apart; knows = k.knows; written = k.written; flushed = k.flushed; named = k.named; history = k.history; calls = k.calls })) (λ b. p.views i y b.1) a) (made_case i y e))
       (λ i j c y z e f s t. ⊎_elim (λ a. ⊎_elim (λ b. a.0 ∙ sym b.0) (λ b. absurd (fresh (subst (λ (x : ℕ). Within x v.server.clients) a.1 (w.made id j c v z at b role t)))) (client_at j c z f t))
       (λ a. ⊎_elim (λ b. absurd (fresh (subst (λ (x : ℕ). Within x v.server.clients) b.1 (w.made id i c v y at a role s)))) (λ b. p.numbered i j c y z a b s t) (client_at j c z f t)) (client_at i c y e s))
       (let o = p.longest in longest_of o.0 o.1 o.2 o.3 (ℕ_discrete o.0 id))

@@ -49,7 +49,7 @@ module _ (l : Pool) (m0 : Tagged) (used : List ℕ) (m : Mem) (vs : List View) (
 
     pub take_in : Whole l m0 used m views_then after h
     take_in = let p = w.basis in hand_whole l m0 used m vs st h w batch (Stocked j) id tt was views_then
-        (λ i a e. ⊎_elim (λ b. rw (← b.1) (record { stocked = tt; apart = tt; durable = tt; links = tt; words = tt; written = tt; flushed = tt; copied = tt; names = (st.bindings, refl); added = inl refl; most = omega arith; history = (h, refl); calls = tt }))
+        (λ i a e. ⊎_elim (λ b. rw (← b.1) (record { stocked = tt; apart = tt; knows = record { durable = tt; links = tt; words = tt; copied = tt }; written = tt; flushed = tt; named = record { names = (st.bindings, refl); added = inl refl; most = omega arith }; history = (h, refl); calls = tt }))
         (λ b. ⊎_elim (λ c. rw (c.0, ← c.1) knows) (λ c. hand_view l m0 used m vs st h w batch (Stocked j) id tt was i a (λ z. c.1 (let z1 : Stocked i ≡ Stocked j = z in cc)) (p.views i a c.2)) b) (cases i a e))
         (λ i k c a b e f s t. let x = old i a e (λ z. absurd (cc (z, s))) in let z = old k b f (λ z. absurd (cc (z, t))) in p.numbered i k c x.0 z.0 x.1 z.1 (x.2 ∙ s) (z.2 ∙ t))
         (let o = p.longest in longest_of o.0 o.1 o.2 o.3 (ℕ_discrete o.0 id) (ℕ_discrete o.0 j))
@@ -71,9 +71,6 @@ module _ (l : Pool) (m0 : Tagged) (used : List ℕ) (m : Mem) (vs : List View) (
     (n : ℕ) (role : v.pass.role ≡ Client n) (granting : y.pass.role ≡ Granting) (fits : length v.pass.names ≡ y.pass.from) (bare : y.pass.history ≡ []) where
   abbrev joining : View
   joining = accepted v y
-
-  abbrev pub joined_list : List View
-  joined_list = set (set vs id joining) j (spent v)
 
   okv : ViewOk m st h id v
   okv = w.basis.views id v at
@@ -99,22 +96,17 @@ module _ (l : Pool) (m0 : Tagged) (used : List ℕ) (m : Mem) (vs : List View) (
   same_length {A} (a ∷ xs) (b ∷ ys) us vs e f = let g : xs ++ us ≡ ys ++ vs = cc in let h1 = same_length xs ys us vs (omega arith) g in let h0 : a ≡ b = cc in (cc, h1.1)
 
   names_then : IsPrefix (v.pass.names ++ y.pass.added) st.bindings
-  names_then = ⊎_elim (λ e. (okv.names.0, okv.names.1 ∙ sym (ap (λ (xs : List (ℕ × List ℕ)). (v.pass.names ++ xs) ++ okv.names.0) e ∙ ap (λ (xs : List (ℕ × List ℕ)). xs ++ okv.names.0) (append-nil v.pass.names))))
-      (λ d. let a = same_length v.pass.names d.0 okv.names.0 (y.pass.added ++ d.1) (fits ∙ sym d.3) (sym okv.names.1 ∙ d.2) in (d.1, okv.names.1 ∙ ap (λ (xs : List (ℕ × List ℕ)). v.pass.names ++ xs) a.1 ∙ sym (append_assoc v.pass.names y.pass.added d.1))) oky.added
+  names_then = ⊎_elim (λ e. (okv.named.names.0, okv.named.names.1 ∙ sym (ap (λ (xs : List (ℕ × List ℕ)). (v.pass.names ++ xs) ++ okv.named.names.0) e ∙ ap (λ (xs : List (ℕ × List ℕ)). xs ++ okv.named.names.0) (append-nil v.pass.names))))
+      (λ d. let a = same_length v.pass.names d.0 okv.named.names.0 (y.pass.added ++ d.1) (fits ∙ sym d.3) (sym okv.named.names.1 ∙ d.2) in (d.1, okv.named.names.1 ∙ ap (λ (xs : List (ℕ × List ℕ)). v.pass.names ++ xs) a.1 ∙ sym (append_assoc v.pass.names y.pass.added d.1))) oky.named.added
 
   ok_join : ViewOk m st1 h id joining
   ok_join = let a = hand_view l m0 used m vs st h w y.pass.stock (Stocked j) id tt was id v (λ z. apart_seats (let z1 : Stocked id ≡ Stocked j = z in cc)) okv in record {
     stocked = each_both (Owned m st1 id) v.pass.stock y.pass.stock a.stocked (hand_owned l m0 used m vs st h w y.pass.stock (Stocked j) id tt was y.pass.stock was (each_map (λ t d. d.1) y.pass.stock oky.stocked));
     apart = apart_both v.pass.stock okv.stocked okv.apart;
-    durable = a.durable;
-    links = a.links;
-    words = a.words;
+    knows = a.knows;
     written = a.written;
     flushed = a.flushed;
-    copied = a.copied;
-    names = names_then;
-    added = a.added;
-    most = a.most;
+    named = record { names = names_then; added = a.named.added; most = a.named.most };
     history = a.history;
     calls = a.calls;
   }
@@ -123,6 +115,6 @@ module _ (l : Pool) (m0 : Tagged) (used : List ℕ) (m : Mem) (vs : List View) (
   empty_prefix [] zs f = refl
   empty_prefix (x ∷ xs) zs f = absurd (let g = ap length f in omega arith)
 
-  pub join_whole : Whole l m0 used m joined_list st1 h
+  pub join_whole : Whole l m0 used m (set (set vs id joining) j (spent v)) st1 h
   join_whole = take_in l m0 used m vs st h w id j apart_seats v y at there_at y.pass.stock was joining refl refl ok_join (λ e. e)
       (λ e. let g : [] ≡ h = sym bare ∙ e in let p = subst (IsPrefix v.pass.history) (sym g) okv.history in empty_prefix v.pass.history p.0 p.1 ∙ g)

@@ -27,6 +27,8 @@ pub mod Spelling
 pub mod Histories
 pub mod Tools
 pub mod Standings
+pub mod Cores
+pub mod Staying
 pub mod Linking
 pub mod Raising
 pub mod Exchanging

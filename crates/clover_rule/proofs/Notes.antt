@@ -38,12 +38,6 @@ long_right a b h p q e = go (leb (length a) (length b)) refl
 -- the join of a note
 module _ (l : Pool) (m0 : Tagged) (used : List ℕ) (m : Mem) (vs : List View) (st : Story) (h : List Entry) (w : Whole l m0 used m vs st h) (id j : ℕ) (apart_seats : j ≢ id) (v y : View) (at : nth vs id ≡ Some v) (there_at : nth vs j ≡ Some y)
     (role : v.pass.role ≡ Serving) (noting : y.pass.role ≡ Noting) (no_stock : y.pass.stock ≡ []) where
-  abbrev joining : View
-  joining = noted v y
-
-  abbrev pub joined_list : List View
-  joined_list = set (set vs id joining) j (spent v)
-
   okv : ViewOk m st h id v
   okv = w.basis.views id v at
 
@@ -53,22 +47,17 @@ module _ (l : Pool) (m0 : Tagged) (used : List ℕ) (m : Mem) (vs : List View) (
   long_ok : IsPrefix (longer v.pass.history y.pass.history) h
   long_ok = elim (leb (length v.pass.history) (length y.pass.history)) as (λ (b : Bool). IsPrefix (cond b y.pass.history v.pass.history) h) [ true ↦ oky.history | false ↦ okv.history ]
 
-  ok_join : ViewOk m st h id joining
+  ok_join : ViewOk m st h id (noted v y)
   ok_join = let a = okv in record {
     stocked = a.stocked;
     apart = a.apart;
-    durable = a.durable;
-    links = a.links;
-    words = a.words;
+    knows = a.knows;
     written = a.written;
     flushed = a.flushed;
-    copied = a.copied;
-    names = a.names;
-    added = a.added;
-    most = a.most;
+    named = a.named;
     history = long_ok;
     calls = subst (λ (o : Role). OwnCalls o v.pass.calls h) (sym role) tt;
   }
 
-  pub join_note : Whole l m0 used m joined_list st h
-  join_note = take_in l m0 used m vs st h w id j apart_seats v y at there_at [] tt joining refl refl ok_join (λ e. long_left v.pass.history y.pass.history h okv.history oky.history e) (λ e. long_right v.pass.history y.pass.history h okv.history oky.history e)
+  pub join_note : Whole l m0 used m (set (set vs id (noted v y)) j (spent v)) st h
+  join_note = take_in l m0 used m vs st h w id j apart_seats v y at there_at [] tt (noted v y) refl refl ok_join (λ e. long_left v.pass.history y.pass.history h okv.history oky.history e) (λ e. long_right v.pass.history y.pass.history h okv.history oky.history e)

@@ -49,16 +49,7 @@ module _ (p : Pool) (first : Tagged) (used ws : List ℕ) (vs : List View) (o : 
     apart = subst Apart (sym b.stock) tt;
     names = b.names;
     most = b.most;
-    durable = b.durable;
-    links = b.links;
-    words = b.words;
-    written = b.written;
-    flushed = b.flushed;
-    copied = b.copied;
-    added = b.added;
-    calls = b.calls;
-    history = b.history;
-    plan = b.plan;
+    nothing = b.nothing;
   }
 
   root_is : (s : ℕ) → tag_at st s 0 ≡ o.image.root s
@@ -118,7 +109,7 @@ module _ (p : Pool) (first : Tagged) (used ws : List ℕ) (vs : List View) (o : 
     sized = o.sized;
     decodes = o.decodes;
     same = λ i y e. (v.begins i y e).run;
-    still = λ i y e. (v.begins i y e).plan;
+    still = λ i y e. ap (λ (z : View). z.plan) (sym (v.begins i y e).nothing);
     stocks = no_stock;
     whole = open_whole p o.image o.sound first used m o.opens owner owners vs starts v.numbered v.some (λ i y e s. serves y.server (v.serves i y e s)) v.one v.made;
   })

@@ -258,29 +258,24 @@ module _ (l : Pool) (im : Image) (sound : Sound l im) (m0 : Tagged) (used : List
     in_stock : (i t : ℕ) → (owner (home t) ≡ Some i) × (gen (m.next (home t)) ≡ age t) → Owned m opened i t
     in_stock i t d = (ap (λ (x : Option (ℕ × ℕ)). placed x (rest_place (owner (home t)) (ready_test (home t)))) (own.off (home t) i d.0) ∙ ap (λ (y : Option ℕ). rest_place y (ready_test (home t))) d.0, d.1)
 
-    none_own : (ro : Role) (cs : List Entry) → cs ≡ [] → OwnCalls ro cs []
-    none_own (Client c) cs e = e
-    none_own Serving cs e = tt
-    none_own Granting cs e = tt
-    none_own Noting cs e = tt
-    none_own Joined cs e = tt
-    none_own Restarting cs e = tt
+    none_own : (ro : Role) → OwnCalls ro [] []
+    none_own (Client c) = refl
+    none_own Serving = tt
+    none_own Granting = tt
+    none_own Noting = tt
+    none_own Joined = tt
+    none_own Restarting = tt
 
     view_starts : (i : ℕ) (v : View) → Starts m o.bindings owner i v → ViewOk m opened [] i v
-    view_starts i v s = record {
+    view_starts i v s = subst (ViewOk m opened [] i) s.nothing record {
       stocked = each_map (in_stock i) v.pass.stock s.stock;
       apart = s.apart;
-      names = s.names;
-      most = s.most;
-      added = inl s.added;
-      history = ([], sym (append-nil v.pass.history ∙ s.history));
-      calls = none_own v.pass.role v.pass.calls s.calls;
-      durable = subst (Each (λ (p : ℕ × ℕ). Durable opened p.0 p.1)) (sym s.durable) tt;
-      links = subst (Each (IsLink opened)) (sym s.links) tt;
-      words = subst (Each (λ (p : Shown). Past m opened p.buffer (word p.own p.link))) (sym s.words) tt;
-      written = subst (Each (λ (c : Content). Owned m opened i c.tag × (m.body (home c.tag) c.place ≡ c.word))) (sym s.written) tt;
-      flushed = subst (Each (λ (c : Content). Owned m opened i c.tag × (m.fbody (home c.tag) c.place ≡ c.word))) (sym s.flushed) tt;
-      copied = subst (Each (IsCopied opened)) (sym s.copied) tt;
+      named = record { names = s.names; added = inl refl; most = s.most };
+      history = ([], refl);
+      calls = none_own v.pass.role;
+      knows = record { durable = tt; links = tt; words = tt; copied = tt };
+      written = tt;
+      flushed = tt;
     }
 
     pub open_whole : Whole l m0 used m vs opened []
@@ -294,7 +289,7 @@ module _ (l : Pool) (im : Image) (sound : Sound l im) (m0 : Tagged) (used : List
         keyed = λ s1 s2 k e f. sym (o.found s1 k e) ∙ o.found s2 k f;
         views = λ i y e. view_starts i y (starts i y e);
         numbered = numbered;
-        longest = (some.0, some.1, some.2, (starts some.0 some.1 some.2).history);
+        longest = (some.0, some.1, some.2, ap (λ (y : View). y.pass.history) (sym (starts some.0 some.1 some.2).nothing));
       };
       help = open_help;
       serves = serves;

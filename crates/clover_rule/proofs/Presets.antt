@@ -221,7 +221,7 @@ preset_law p first ws vs keys tomb owner sized decodes same empty words ks views
       sized = sized;
       decodes = decodes;
       same = same;
-      still = λ i v e. (views.starts i v e).plan;
+      still = λ i v e. ap (λ (z : View). z.plan) (sym (views.starts i v e).nothing);
       stocks = preset_stocks p keys tomb (mem_of p ws) words ks first empty owner vs views;
       whole = preset_whole p keys tomb (mem_of p ws) words ks first empty owner vs views;
     })

@@ -20,7 +20,7 @@ module _ (m0 : Tagged) (used : List ℕ) (m : Mem) (vs : List View) (st : Story)
   ok = r.views id v at
 
   pub known : IsLink st l
-  known = each_within (IsLink st) l v.pass.links ok.links p
+  known = each_within (IsLink st) l v.pass.links ok.knows.links p
 
   abbrev i : ℕ
   i = known.0
@@ -63,17 +63,12 @@ module _ (m0 : Tagged) (used : List ℕ) (m : Mem) (vs : List View) (st : Story)
   new_ok = let a = view_kept m st h m' st' h grows id v (leaves id) (λ c f. refl) ok in record {
     stocked = a.stocked;
     apart = a.apart;
-    links = a.links;
-    words = a.words;
+    knows = record { durable = ((suc i, known.2, now_sure), a.knows.durable); links = a.knows.links; words = a.knows.words; copied = a.knows.copied };
     written = a.written;
     flushed = a.flushed;
-    copied = a.copied;
-    names = a.names;
-    added = a.added;
-    most = a.most;
+    named = a.named;
     history = a.history;
     calls = a.calls;
-    durable = ((suc i, known.2, now_sure), a.durable);
   }
 
   views' : (i1 : ℕ) (v1 : View) → nth (renewed vs id v') i1 ≡ Some v1 → ViewOk m' st' h i1 v1

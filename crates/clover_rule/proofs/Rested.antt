@@ -1,7 +1,6 @@
 -- What else each image of a cut has: a worn buffer is unlinked, and used tags are in the pool, below the wear and not above the image.
 use Rattle.std.proofs.Common.{◌≡◌, ℕ, ◌<◌, ◌≤◌, List, [], ◌∷◌, Bool, true, false, refl, sym, ap, ◌∙◌, ⊎_elim, arith, subst}
 use Rattle.std.specs.Prelude.{Some, None}
-use Rattle.std.proofs.lemmas.Option.{same_Some}
 use Rattle.clover_words.specs.declared.pool.Pool.{Pool}
 use Rattle.clover_words.specs.Tag.{home, age}
 use Rattle.clover_map.specs.declared.call.Entry.{Entry}
@@ -11,13 +10,12 @@ use Rattle.clover_map.specs.Legal.{used_by}
 use Rattle.clover_rule.specs.Image.{Image, IsImage}
 use Rattle.clover_rule.specs.Lists.{Each}
 use Rattle.clover_rule.specs.Memory.{Mem, Next, word, gen, link}
-use Rattle.clover_rule.specs.Server.{AtStage, Stage, holding, Whole}
+use Rattle.clover_rule.specs.Server.{Whole}
 use Rattle.clover_rule.specs.Story.{Place, Chained, Stocked, Free, Worn, Taken, Loose, Story, Core}
 use Rattle.clover_rule.specs.Views.{Spent}
-use Rattle.clover_rule.specs.declared.view.ServerTask.{ServerTask}
-use Rattle.clover_rule.specs.declared.view.ServerTask.TheVariants.{Idle, Storing, Rooted, Waiting, Loaded, Raised, Led, Both, Exchanged}
 use Rattle.clover_rule.specs.declared.view.View.{View}
 use Rattle.clover_rule.proofs.Restarts.{cut_used}
+use Rattle.clover_rule.proofs.Standings.{by_held}
 
 each_pair : {A : Type 0} (P Q R : A → Type 0) (xs : List A) → ((x : A) → P x → Q x → R x) → Each P xs → Each Q xs → Each R xs
 each_pair P Q R [] f a b = tt
@@ -40,21 +38,8 @@ module _ (l : Pool) (m0 : Tagged) (used : List ℕ) (m : Mem) (vs : List View) (
   at_place b (Stocked i) e = let o = c.loose b (subst Loose (sym e) tt) in (λ z. o.0, λ z. ap link o.1 ∙ o.0)
   at_place b Free e = let o = c.loose b (subst Loose (sym e) tt) in (λ z. o.0, λ z. ap link o.1 ∙ o.0)
   at_place b Worn e = let o = c.loose b (subst Loose (sym e) tt) in (λ z. o.0, λ z. ap link o.1 ∙ o.0)
-  at_place b Taken e = held st.task w.help.stage
-    where
-      held : (T : ServerTask) → Stage l m st T → AtRest (m.next b) × AtRest (m.fnext b)
-      held T g = by T (g.holds b e) g.here
-        where
-          by : (T : ServerTask) → holding T ≡ Some b → AtStage l m st T → AtRest (m.next b) × AtRest (m.fnext b)
-          by (Storing bind n) z a = let q = same_Some (home bind.tag) b z in (λ u. ap link (ap m.next (sym q) ∙ a.now), λ u. ap link (ap m.fnext (sym q) ∙ a.safe))
-          by (Exchanged cycle) z a = let q = same_Some (home cycle.root) b z in let g : gen (m.fnext b) ≡ age cycle.root = ap gen (ap m.fnext (sym q) ∙ a.safe) in let d = a.young in (λ u. ap link (ap m.next (sym q) ∙ a.now), λ u. absurd (omega arith))
-          by Idle z a = absurd cc
-          by (Rooted bind) z a = absurd cc
-          by (Waiting bind) z a = absurd cc
-          by (Loaded cycle) z a = absurd cc
-          by (Raised cycle) z a = absurd cc
-          by (Led cycle) z a = absurd cc
-          by (Both cycle) z a = absurd cc
+  at_place b Taken e = by_held l m st (λ T. AtRest (m.next b) × AtRest (m.fnext b)) st.task b w.help.stage.here (w.help.stage.holds b e) (λ bind n q a. (λ u. ap link (ap m.next (sym q) ∙ a.now), λ u. ap link (ap m.fnext (sym q) ∙ a.safe)))
+      (λ cycle q a. let g : gen (m.fnext b) ≡ age cycle.root = ap gen (ap m.fnext (sym q) ∙ a.safe) in let d = a.young in (λ u. ap link (ap m.next (sym q) ∙ a.now), λ u. absurd (omega arith)))
 
   module _ (outside : (b : ℕ) → inside l b ≡ false → m.next b ≡ word 0 None) (im : Image) (is : IsImage m im) where
     pub cut_rested : (b : ℕ) → gen (im.next b) ≡ l.wear → link (im.next b) ≡ None

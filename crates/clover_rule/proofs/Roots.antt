@@ -1,14 +1,15 @@
 -- The other steps of a recycling, and a grant, on the core facts.
-use Rattle.std.proofs.Common.{◌≡◌, ℕ, suc, ◌<◌, ◌≢◌, ◌⊎◌, length, sym, ap, ◌∙◌, inl, inr, ⊎_elim, arith, subst}
+use Rattle.std.proofs.Common.{◌≡◌, ℕ, suc, ◌<◌, ◌≢◌, ◌⊎◌, length, refl, sym, ap, ◌∙◌, inl, inr, ⊎_elim, arith, subst}
 use native.Mathlib.Decide.{ℕ_discrete}
 use mathlib.Core.Logic.{dite}
 use Rattle.std.specs.Prelude.{Some, None}
 use Rattle.clover_words.specs.Tag.{home, age}
 use Rattle.clover_rule.specs.Lists.{upd}
 use Rattle.clover_rule.specs.Memory.{word, gen, link, Mem}
-use Rattle.clover_rule.specs.Story.{Place, Chained, Taken, Loose, Story, tag_at, Standing, Core}
+use Rattle.clover_rule.specs.Story.{Place, Chained, Taken, Loose, Story, tag_at, Core}
 use Rattle.clover_rule.proofs.Tools.{upd_same, upd_else}
 use Rattle.clover_rule.proofs.Standings.{tag_within}
+use Rattle.clover_rule.proofs.Cores.{core_but}
 
 -- the root is stored: the second version leads
 module _ (m : Mem) (st : Story) (s r t : ℕ) (c : Core m st) (from : tag_at st s (st.gone s) ≡ Some r) (to : tag_at st s (suc (st.gone s)) ≡ Some t) (sure : suc (st.gone s) < st.sure s) where
@@ -75,34 +76,20 @@ module _ (m : Mem) (st : Story) (b a : ℕ) (q : Place) (c : Core m st) (held : 
   abbrev pub freed_story : Story
   freed_story = record st { place = upd st.place b q }
 
-  away : (s i t : ℕ) → Standing m st s i t → home t ≢ b
-  away s i t x h = absurd (cc (ap st.place h, x.placed, held))
+  away : (y s : ℕ) → st.place y ≡ Chained s → y ≢ b
+  away y s e h = absurd (cc (ap st.place h, e, held))
 
   pub freed_core : Core freed_mem freed_story
-  freed_core = record {
-    spotted = c.spotted;
-    passed = λ s' i t e h. let x = c.passed s' i t e h in record {
-      later = x.later;
-      safe = dite (ℕ_discrete (home t) b)
-          (λ d. inl (rw d (rw (upd_same m.fnext b (word a None)) (let y = x.later in let z = ap gen (ap m.next d ∙ now) in let w : age t < a = omega arith in w))))
-          (λ n. ⊎_elim (λ y. inl (rw (upd_else m.fnext b (home t) (word a None) n) y)) (λ y. inr (upd_else m.fnext b (home t) (word a None) n ∙ y)) x.safe);
-    };
-    standing = λ s' i t e h. let x = c.standing s' i t e h in let n = away s' i t x in record { placed = upd_else st.place b (home t) q n ∙ x.placed; now = x.now; safe = upd_else m.fnext b (home t) (word a None) n ∙ x.safe };
-    sure_most = c.sure_most;
-    sure_all = c.sure_all;
-    rooted = c.rooted;
-    bare = c.bare;
-    led = c.led;
-    root = c.root;
-    froot = λ s'. ⊎_elim inl (λ h. inr record { empty = h.empty; unnamed = h.unnamed; alone = h.alone; dead = h.dead }) (c.froot s');
-    loose = λ j f. dite (ℕ_discrete j b)
-        (λ d. (ap link (ap m.next d ∙ now), ap freed_mem.fnext d ∙ upd_same m.fnext b (word a None) ∙ sym (ap m.next d ∙ now)))
-        (λ n. let o = c.loose j (subst Loose (upd_else st.place b j q n) f) in (o.0, upd_else m.fnext b j (word a None) n ∙ o.1));
-    held = λ j f. dite (ℕ_discrete j b) (λ d. ap link (ap m.next d ∙ now)) (λ n. c.held j (sym (upd_else st.place b j q n) ∙ f));
-    chained = λ j s' f. dite (ℕ_discrete j b)
-        (λ d. absurd (loose_q s' (sym (upd_same st.place b q) ∙ ap freed_story.place (sym d) ∙ f)))
-        (λ n. c.chained j s' (sym (upd_else st.place b j q n) ∙ f));
-  }
+  freed_core = core_but m st c freed_mem.fnext freed_story.place st.named m.body m.fbody m.key m.fkey m.short m.count st.keys st.first st.bindings st.task st.slot_named
+      (λ s i t x. dite (ℕ_discrete (home t) b)
+      (λ d. inl (rw d (rw (upd_same m.fnext b (word a None)) (let y = x.later in let z = ap gen (ap m.next d ∙ now) in let w : age t < a = omega arith in w))))
+      (λ n. ⊎_elim (λ y. inl (rw (upd_else m.fnext b (home t) (word a None) n) y)) (λ y. inr (upd_else m.fnext b (home t) (word a None) n ∙ y)) x.safe))
+      (λ y s e. let n = away y s e in (upd_else st.place b y q n ∙ e, upd_else m.fnext b y (word a None) n)) (λ s e n. n)
+      (λ j f. dite (ℕ_discrete j b)
+      (λ d. (ap link (ap m.next d ∙ now), ap freed_mem.fnext d ∙ upd_same m.fnext b (word a None) ∙ sym (ap m.next d ∙ now)))
+      (λ n. let o = c.loose j (subst Loose (upd_else st.place b j q n) f) in (o.0, upd_else m.fnext b j (word a None) n ∙ o.1)))
+      (λ j f. dite (ℕ_discrete j b) (λ d. ap link (ap m.next d ∙ now)) (λ n. c.held j (sym (upd_else st.place b j q n) ∙ f)))
+      (λ j s f. dite (ℕ_discrete j b) (λ d. absurd (loose_q s (sym (upd_same st.place b q) ∙ ap freed_story.place (sym d) ∙ f))) (λ n. c.chained j s (sym (upd_else st.place b j q n) ∙ f)))
 
 -- a buffer that is off the chains and unlinked goes to another place
 module _ (m : Mem) (st : Story) (b : ℕ) (q : Place) (c : Core m st) (off : (s : ℕ) → st.place b ≢ Chained s) (off_then : (s : ℕ) → q ≢ Chained s) (lone : link (m.next b) ≡ None) (flushed : Loose q → m.fnext b ≡ m.next b) where
@@ -110,23 +97,11 @@ module _ (m : Mem) (st : Story) (b : ℕ) (q : Place) (c : Core m st) (off : (s 
   placed_story = record st { place = upd st.place b q }
 
   pub placed_core : Core m placed_story
-  placed_core = record {
-    spotted = c.spotted;
-    passed = λ s' i t e h. let x = c.passed s' i t e h in record { later = x.later; safe = x.safe };
-    standing = λ s' i t e h. let x = c.standing s' i t e h in record { placed = upd_else st.place b (home t) q (λ z. off s' (ap st.place (sym z) ∙ x.placed)) ∙ x.placed; now = x.now; safe = x.safe };
-    sure_most = c.sure_most;
-    sure_all = c.sure_all;
-    rooted = c.rooted;
-    bare = c.bare;
-    led = c.led;
-    root = c.root;
-    froot = λ s'. ⊎_elim inl (λ h. inr record { empty = h.empty; unnamed = h.unnamed; alone = h.alone; dead = h.dead }) (c.froot s');
-    loose = λ j f. dite (ℕ_discrete j b) (λ d. (ap (λ (x : ℕ). link (m.next x)) d ∙ lone, ap m.fnext d ∙ flushed (subst Loose (ap placed_story.place d ∙ upd_same st.place b q) f) ∙ sym (ap m.next d))) (λ n. c.loose j (subst Loose (upd_else st.place b j q n) f));
-    held = λ j f. dite (ℕ_discrete j b) (λ d. ap (λ (x : ℕ). link (m.next x)) d ∙ lone) (λ n. c.held j (sym (upd_else st.place b j q n) ∙ f));
-    chained = λ j s' f. dite (ℕ_discrete j b)
-        (λ d. absurd (off_then s' (sym (upd_same st.place b q) ∙ ap placed_story.place (sym d) ∙ f)))
-        (λ n. c.chained j s' (sym (upd_else st.place b j q n) ∙ f));
-  }
+  placed_core = core_but m st c m.fnext (upd st.place b q) st.named m.body m.fbody m.key m.fkey m.short m.count st.keys st.first st.bindings st.task st.slot_named (λ s i t x. x.safe)
+      (λ y s e. (upd_else st.place b y q (λ z. off s (ap st.place (sym z) ∙ e)) ∙ e, refl)) (λ s e n. n)
+      (λ j f. dite (ℕ_discrete j b) (λ d. (ap (λ (x : ℕ). link (m.next x)) d ∙ lone, ap m.fnext d ∙ flushed (subst Loose (ap placed_story.place d ∙ upd_same st.place b q) f) ∙ sym (ap m.next d))) (λ n. c.loose j (subst Loose (upd_else st.place b j q n) f)))
+      (λ j f. dite (ℕ_discrete j b) (λ d. ap (λ (x : ℕ). link (m.next x)) d ∙ lone) (λ n. c.held j (sym (upd_else st.place b j q n) ∙ f)))
+      (λ j s f. dite (ℕ_discrete j b) (λ d. absurd (off_then s (sym (upd_same st.place b q) ∙ ap placed_story.place (sym d) ∙ f))) (λ n. c.chained j s (sym (upd_else st.place b j q n) ∙ f)))
 
 -- a loose buffer changes hands
 pub handed_core : (m : Mem) (st : Story) (b : ℕ) (q : Place) → Core m st → Loose (st.place b) → ((s : ℕ) → q ≢ Chained s) → Core m (record st { place = upd st.place b q })

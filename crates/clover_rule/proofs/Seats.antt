@@ -120,7 +120,7 @@ module _ (l : Pool) (m0 : Tagged) (used : List ℕ) (m : Mem) (vs : List View) (
 
   pub grant_whole : Whole l m0 used m (set vs id (giving batch v) ++ grant batch position names v ∷ []) st1 h
   grant_whole = split_whole l m0 used m vs st h w id v (giving batch v) (grant batch position names v) at batch was refl refl refl (λ e. cc) (λ c e. cc)
-      (let a = hand_view l m0 used m vs st h w batch Free k tt was id v (λ z. absurd cc) (w.basis.views id v at) in record { stocked = a.stocked; apart = a.apart; durable = a.durable; links = a.links; words = a.words; written = a.written; flushed = a.flushed; copied = a.copied; names = a.names; added = a.added; most = a.most; history = a.history; calls = a.calls })
-      (record { stocked = hand_owned l m0 used m vs st h w batch Free k tt was batch was ages; apart = apart; durable = tt; links = tt; words = tt; written = tt; flushed = tt; copied = tt; names = (st.bindings, refl); added = inr part; most = omega arith; history = (h, refl); calls = tt })
+      (let a = hand_view l m0 used m vs st h w batch Free k tt was id v (λ z. absurd cc) (w.basis.views id v at) in record { stocked = a.stocked; apart = a.apart; knows = a.knows; written = a.written; flushed = a.flushed; named = a.named; history = a.history; calls = a.calls })
+      (record { stocked = hand_owned l m0 used m vs st h w batch Free k tt was batch was ages; apart = apart; knows = record { durable = tt; links = tt; words = tt; copied = tt }; written = tt; flushed = tt; named = record { names = (st.bindings, refl); added = inr part; most = omega arith }; history = (h, refl); calls = tt })
       (λ e. record { task_is = sv.task_is; directory = sv.directory; roots = sv.roots; books = books_then })
       (λ s e n. absurd (n role))

@@ -1,5 +1,5 @@
 -- What each act of the server has to show, and how its law follows from it.
-use Rattle.std.proofs.Common.{◌≡◌, ℕ, ◌≤◌, ◌≢◌, List, Bool, true, false, cond, refl, sym, ap, ◌∙◌, inl, inr, ⊎_elim, arith, subst}
+use Rattle.std.proofs.Common.{◌≡◌, ℕ, ◌≤◌, ◌≢◌, List, Bool, true, false, cond, refl, sym, ap, ◌∙◌, ⊎_elim, arith, subst}
 use native.Mathlib.Decide.{ℕ_discrete}
 use mathlib.Core.Logic.{dite}
 use Rattle.std.specs.Prelude.{Option, Some}
@@ -22,27 +22,14 @@ use Rattle.clover_rule.specs.declared.view.ServerTask.TheVariants.{Idle, Storing
 use Rattle.clover_rule.specs.declared.view.View.{View}
 use Rattle.clover_words.specs.declared.pool.Pool.{Pool}
 use Rattle.clover_rule.proofs.Tools.{upd_same, upd_else}
+use Rattle.clover_rule.proofs.Cores.{core_but}
 use Rattle.clover_rule.proofs.Quiet.{quiet}
 use Rattle.clover_rule.proofs.Steps.{each_map, Grows, Leaves, view_kept, nth_set, longest_was}
 
 -- the core facts read neither contents, keys, shortcuts nor the count, nor names and tasks
 pub core_copy : (m : Mem) (st : Story) → Core m st → (b fb k fk : ℕ → ℕ → ℕ) (sh : ℕ → Option ℕ) (ct : ℕ) (keys : ℕ → Option (List ℕ)) (first : ℕ → List Version) (bindings : List (ℕ × List ℕ)) (task : ServerTask) (sn : List ℕ → ℕ)
     → Core (record m { body = b; fbody = fb; key = k; fkey = fk; short = sh; count = ct }) (record st { keys = keys; first = first; bindings = bindings; task = task; slot_named = sn })
-core_copy m st c b fb k fk sh ct keys first bindings task sn = record {
-  spotted = c.spotted;
-  passed = λ s i t e g. let x = c.passed s i t e g in record { later = x.later; safe = x.safe };
-  standing = λ s i t e g. let x = c.standing s i t e g in record { placed = x.placed; now = x.now; safe = x.safe };
-  sure_most = c.sure_most;
-  sure_all = c.sure_all;
-  rooted = c.rooted;
-  bare = c.bare;
-  led = c.led;
-  root = c.root;
-  froot = λ s. ⊎_elim inl (λ h. inr record { empty = h.empty; unnamed = h.unnamed; alone = h.alone; dead = h.dead }) (c.froot s);
-  loose = c.loose;
-  held = c.held;
-  chained = c.chained;
-}
+core_copy m st c b fb k fk sh ct keys first bindings task sn = core_but m st c m.fnext st.place st.named b fb k fk sh ct keys first bindings task sn (λ s i t x. x.safe) (λ y s e. (e, refl)) (λ s e n. n) c.loose c.held c.chained
 
 pub record Moves (l : Pool) (m0 : Tagged) (used : List ℕ) (m : Mem) (st : Story) (h : List Entry) (m' : Mem) (st' : Story) : Type 0 where
   pub core : Core m' st'
@@ -62,7 +49,7 @@ no_stock f a q n b i e = dite (ℕ_discrete b a) (λ d. absurd (n i (sym (upd_sa
 
 -- what the server alone knows is in no fact on its view
 pub same_known : (m : Mem) (st : Story) (h : List Entry) (id : ℕ) (v : View) (sv : Server) → ViewOk m st h id v → ViewOk m st h id (record v { server = sv })
-same_known m st h id v sv k = record { stocked = k.stocked; apart = k.apart; durable = k.durable; links = k.links; words = k.words; written = k.written; flushed = k.flushed; copied = k.copied; names = k.names; added = k.added; most = k.most; history = k.history; calls = k.calls }
+same_known m st h id v sv k = record { stocked = k.stocked; apart = k.apart; knows = k.knows; written = k.written; flushed = k.flushed; named = k.named; history = k.history; calls = k.calls }
 
 -- after a step of the server the helping facts hold with the same history, and no buffer came into a stock
 abbrev pub IsServed : Pool → Tagged → List ℕ → Mem → List View → Story → List Entry → Type 0

@@ -19,7 +19,7 @@ use Rattle.clover_rule.specs.declared.view.View.{View}
 use Rattle.clover_words.specs.declared.pool.Pool.{Pool}
 use Rattle.clover_rule.proofs.KeyMaps.{leads, shows}
 use Rattle.clover_rule.proofs.Spelling.{one_key}
-use Rattle.clover_rule.proofs.Standings.{tag_within, one_buffer}
+use Rattle.clover_rule.proofs.Standings.{tag_within, one_buffer, by_held}
 use Rattle.std.specs.Prelude.{drop}
 use Rattle.clover_rule.proofs.Cuts.{ends_drop, longer, map_left, Shown, shown, inside, up_to, nth_drop, cut_chain}
 
@@ -118,22 +118,9 @@ module _ (l : Pool) (m0 : Tagged) (used : List ℕ) (m : Mem) (vs : List View) (
   place_cases b t (Chained s) e f =
       let a = c.chained b s e in let x = c.standing s a.0 a.1 a.2 a.3 in
       p.ranged.tags s (suc a.0) t (⊎_elim (λ g. sym (ap link (ap m.next (sym a.4) ∙ x.now)) ∙ g) (λ g. only_some (ltb (suc a.0) (st.sure s)) (tag_at st s (suc a.0)) t (sym (ap link (ap m.fnext (sym a.4) ∙ x.safe)) ∙ g)) f)
-  place_cases b t Taken e f = held st.task p.stage
-    where
-      held : (T : ServerTask) → Stage l m st T → InRange l t
-      held T g = by T (g.holds b e) g.here
-        where
-          by : (T : ServerTask) → holding T ≡ Some b → AtStage l m st T → InRange l t
-          by (Storing bind n) z a = let q : home bind.tag ≡ b = cc in ⊎_elim (λ g1. absurd (cc (ap m.next q, ap link a.now, ap link (ap m.next q), g1))) (λ g1. absurd (cc (ap link (ap m.fnext q), ap link a.safe, g1))) f
-          by (Exchanged cycle) z a = let q : home cycle.root ≡ b = cc in ⊎_elim (λ g1. absurd (cc (ap link (ap m.next q), ap link a.now, g1)))
-              (λ g1. let u : cycle.next ≡ t = let u1 : Some cycle.next ≡ Some t = sym (ap link a.safe) ∙ ap link (ap m.fnext q) ∙ g1 in cc in p.ranged.tags cycle.slot (st.gone cycle.slot) t (a.root ∙ ap Some u)) f
-          by Idle z a = absurd cc
-          by (Rooted bind) z a = absurd cc
-          by (Waiting bind) z a = absurd cc
-          by (Loaded cycle) z a = absurd cc
-          by (Raised cycle) z a = absurd cc
-          by (Led cycle) z a = absurd cc
-          by (Both cycle) z a = absurd cc
+  place_cases b t Taken e f = by_held l m st (λ T. InRange l t) st.task b p.stage.here (p.stage.holds b e) (λ bind n q a. ⊎_elim (λ g1. absurd (cc (ap m.next q, ap link a.now, ap link (ap m.next q), g1))) (λ g1. absurd (cc (ap link (ap m.fnext q), ap link a.safe, g1))) f)
+      (λ cycle q a. ⊎_elim (λ g1. absurd (cc (ap link (ap m.next q), ap link a.now, g1)))
+          (λ g1. let u : cycle.next ≡ t = let u1 : Some cycle.next ≡ Some t = sym (ap link a.safe) ∙ ap link (ap m.fnext q) ∙ g1 in cc in p.ranged.tags cycle.slot (st.gone cycle.slot) t (a.root ∙ ap Some u)) f)
   place_cases b t (Stocked i) e f = absurd (let o = c.loose b (subst Loose (sym e) tt) in ⊎_elim (λ g. cc (o.0, g)) (λ g. cc (o.0, ap link o.1, g)) f)
   place_cases b t Free e f = absurd (let o = c.loose b (subst Loose (sym e) tt) in ⊎_elim (λ g. cc (o.0, g)) (λ g. cc (o.0, ap link o.1, g)) f)
   place_cases b t Worn e f = absurd (let o = c.loose b (subst Loose (sym e) tt) in ⊎_elim (λ g. cc (o.0, g)) (λ g. cc (o.0, ap link o.1, g)) f)

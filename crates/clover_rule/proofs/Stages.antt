@@ -29,6 +29,7 @@ use Rattle.clover_rule.proofs.Bindings.{nth_among}
 use Rattle.clover_rule.proofs.Tools.{upd_same, upd_else, nth_snoc}
 use Rattle.clover_rule.proofs.Standings.{tag_within}
 use Rattle.clover_rule.proofs.Steps.{prefix_self, within_prefix, within_last, Grows, durable_kept}
+use Rattle.clover_rule.proofs.Cores.{core_but}
 use Rattle.clover_rule.proofs.ServerTools.{IsServed, Moves, same_known, own_whole, core_copy, whole, book_same, tale_copy}
 use Rattle.clover_rule.proofs.Derived.{current_past}
 use Rattle.clover_rule.proofs.ServerLaws.{stage_at, serves_at}
@@ -150,7 +151,7 @@ module _ (l : Pool) (m0 : Tagged) (used : List ℕ) (m : Mem) (vs : List View) (
     -- no version stands behind it
     pub read_unlinked : m.next (home r) ≡ word (age r) None → Whole l m0 used m (renewed vs id (looked s r v (word (age r) None))) st h
     read_unlinked q = own_whole l m0 used m vs st h w id v (looked s r v (word (age r) None)) at refl refl
-        (let k = ru.views id v at in record { stocked = k.stocked; apart = k.apart; durable = k.durable; links = k.links; words = (past (word (age r) None) q, k.words); written = k.written; flushed = k.flushed; copied = k.copied; names = k.names; added = k.added; most = k.most; history = k.history; calls = k.calls })
+        (let k = ru.views id v at in record { stocked = k.stocked; apart = k.apart; knows = record { durable = k.knows.durable; links = k.knows.links; words = (past (word (age r) None) q, k.knows.words); copied = k.knows.copied }; written = k.written; flushed = k.flushed; named = k.named; history = k.history; calls = k.calls })
         (λ ro x. record { task_is = x.task_is; directory = x.directory; roots = x.roots; books = x.books }) refl
 
     -- a recycling begins
@@ -171,7 +172,7 @@ module _ (l : Pool) (m0 : Tagged) (used : List ℕ) (m : Mem) (vs : List View) (
       pub read_linked : IsServed l m0 used m (renewed vs id y) st h
       read_linked = let g = stage_of Idle e in led_whole Idle (Loaded cycle) e refl (λ s1. refl) refl m.fnext m.root m.froot st.sure st.lead st.flead ru.core (λ s1. omega arith) (λ b. omega arith) w.help.ranged.below
           (λ s1 q. g.settled s1 (λ z. absurd cc)) g.names record { root = recycling.root; next = recycling.next } y.pass refl refl
-          (λ k. record { stocked = k.stocked; apart = k.apart; durable = k.durable; links = link_there (eqb (age r) (age r)) k.links; words = (past (word (age r) (Some t)) shows, k.words); written = k.written; flushed = k.flushed; copied = k.copied; names = k.names; added = k.added; most = k.most; history = k.history; calls = k.calls })
+          (λ k. record { stocked = k.stocked; apart = k.apart; knows = record { durable = k.knows.durable; links = link_there (eqb (age r) (age r)) k.knows.links; words = (past (word (age r) (Some t)) shows, k.knows.words); copied = k.knows.copied }; written = k.written; flushed = k.flushed; named = k.named; history = k.history; calls = k.calls })
 
   -- the raise over its link
   module _ (cycle : Recycling) (e : v.server.task ≡ Loaded cycle) where
@@ -194,7 +195,7 @@ module _ (l : Pool) (m0 : Tagged) (used : List ℕ) (m : Mem) (vs : List View) (
     flush_link_whole = led_whole (Loaded cycle) (Raised cycle) e refl (λ s1. refl) refl ms.fnext m.root m.froot ss.sure st.lead st.flead (raise_core m st cycle.slot (st.gone cycle.slot) cycle.root cycle.next ru.core record { from = gl.here.root; to = gl.here.next })
         (raised_more st cycle.slot (st.gone cycle.slot)) (raised_higher m cycle.root cycle.next) (λ b. raised_below m cycle.root cycle.next b old_root (w.help.ranged.below b))
         (λ s1 q. gl.settled s1 (λ z. absurd cc)) gl.names (record { root = gl.here.root; next = gl.here.next }, now_sure) (link_flushed v cycle).pass refl refl
-        (λ a. record { stocked = a.stocked; apart = a.apart; durable = ((suc (st.gone cycle.slot), gl.here.next, now_sure), a.durable); links = a.links; words = a.words; written = a.written; flushed = a.flushed; copied = a.copied; names = a.names; added = a.added; most = a.most; history = a.history; calls = a.calls })
+        (λ a. record { stocked = a.stocked; apart = a.apart; knows = record { durable = ((suc (st.gone cycle.slot), gl.here.next, now_sure), a.knows.durable); links = a.knows.links; words = a.knows.words; copied = a.knows.copied }; written = a.written; flushed = a.flushed; named = a.named; history = a.history; calls = a.calls })
 
   -- the store of the root
   module _ (cycle : Recycling) (e : v.server.task ≡ Raised cycle) where
@@ -283,21 +284,8 @@ module _ (l : Pool) (m0 : Tagged) (used : List ℕ) (m : Mem) (vs : List View) (
       sc,
       whole l m0 used m vs st h w id v at role (entered v bind) refl refl refl mc sc
           record {
-            core = record {
-              spotted = c.spotted;
-              passed = λ s1 i y f g. let x = c.passed s1 i y f g in record { later = x.later; safe = x.safe };
-              standing = λ s1 i y f g. let x = c.standing s1 i y f g in record { placed = x.placed; now = x.now; safe = x.safe };
-              sure_most = c.sure_most;
-              sure_all = c.sure_all;
-              rooted = c.rooted;
-              bare = c.bare;
-              led = c.led;
-              root = c.root;
-              froot = λ s1. ⊎_elim inl (λ x. dite (ℕ_discrete s1 bind.slot) (λ d. absurd (cc (ap m.froot d, x.empty, gc.here.1))) (λ d. inr record { empty = x.empty; unnamed = named_else s1 d ∙ x.unnamed; alone = x.alone; dead = x.dead })) (c.froot s1);
-              loose = c.loose;
-              held = c.held;
-              chained = c.chained;
-            };
+            core = core_but m st c m.fnext st.place (upd st.named bind.slot true) m.body m.fbody m.key m.fkey m.short mc.count st.keys st.first (st.bindings ++ (bind.slot, bind.key) ∷ []) Idle st.slot_named (λ s1 i y x. x.safe) (λ y s1 f. (f, refl))
+                (λ s1 f x. dite (ℕ_discrete s1 bind.slot) (λ d. absurd (cc (ap m.froot d, f, gc.here.1))) (λ d. named_else s1 d ∙ x)) c.loose c.held c.chained;
             tale = tale_copy st m0 used h ru.tale st.place st.gone st.lead st.flead (upd st.named bind.slot true) (st.bindings ++ (bind.slot, bind.key) ∷ []) Idle st.slot_named;
             bodies = ru.bodies;
             spent = λ y q. q;

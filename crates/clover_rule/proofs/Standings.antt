@@ -4,14 +4,18 @@ use native.Mathlib.Decide.{dec_le}
 use mathlib.Core.Logic.{dite}
 use Rattle.std.specs.Prelude.{Option, Some, None}
 use Rattle.std.proofs.lemmas.Bool.{le-ltb}
+use Rattle.std.proofs.lemmas.Option.{same_Some}
 use Rattle.clover_words.specs.declared.pool.Pool.{Pool}
 use Rattle.clover_words.specs.Tag.{home, age}
 use Rattle.clover_rule.specs.History.{Version}
 use Rattle.clover_rule.specs.Lists.{nth}
 use Rattle.clover_rule.specs.Memory.{Next, word, gen, link, Mem}
-use Rattle.clover_rule.specs.Server.{IsExchanged}
+use Rattle.clover_rule.specs.Server.{IsStoring, IsExchanged, holding, AtStage}
 use Rattle.clover_rule.specs.Story.{Story, tag_in_version, tag_at, only, Core}
+use Rattle.clover_rule.specs.declared.view.NewBinding.{NewBinding}
 use Rattle.clover_rule.specs.declared.view.Recycling.{Recycling}
+use Rattle.clover_rule.specs.declared.view.ServerTask.{ServerTask}
+use Rattle.clover_rule.specs.declared.view.ServerTask.TheVariants.{Idle, Storing, Rooted, Waiting, Loaded, Raised, Led, Both, Exchanged}
 use Rattle.clover_rule.proofs.Tools.{nth_within, nth_past}
 
 -- a tag at a place, of the version there
@@ -60,3 +64,16 @@ one_buffer m st c s i t s' i' t' e g e' g' h =
 -- the content of an exchanged root version is of its tag
 pub exchanged_tag : (l : Pool) (m : Mem) (st : Story) (cycle : Recycling) (a : IsExchanged l m st cycle) → a.body.0.tag ≡ cycle.root
 exchanged_tag l m st cycle a = let z : Some a.body.0.tag ≡ Some cycle.root = sym (ap tag_in_version a.body.1) ∙ a.old.2 in cc
+
+-- a held buffer is a new binding's or an exchanged root's
+pub by_held : (l : Pool) (m : Mem) (st : Story) (P : ServerTask → Type 0) (T : ServerTask) (b : ℕ) → AtStage l m st T → holding T ≡ Some b
+    → ((bind : NewBinding) (n : ℕ) → home bind.tag ≡ b → IsStoring l m st bind n → P (Storing bind n)) → ((cycle : Recycling) → home cycle.root ≡ b → IsExchanged l m st cycle → P (Exchanged cycle)) → P T
+by_held l m st P (Storing bind n) b a e f g = f bind n (same_Some (home bind.tag) b e) a
+by_held l m st P (Exchanged cycle) b a e f g = g cycle (same_Some (home cycle.root) b e) a
+by_held l m st P Idle b a e f g = absurd cc
+by_held l m st P (Rooted bind) b a e f g = absurd cc
+by_held l m st P (Waiting bind) b a e f g = absurd cc
+by_held l m st P (Loaded cycle) b a e f g = absurd cc
+by_held l m st P (Raised cycle) b a e f g = absurd cc
+by_held l m st P (Led cycle) b a e f g = absurd cc
+by_held l m st P (Both cycle) b a e f g = absurd cc

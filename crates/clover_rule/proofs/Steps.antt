@@ -83,15 +83,10 @@ module _ (m : Mem) (st : Story) (h : List Entry) (m' : Mem) (st' : Story) (h' : 
   view_kept id v f o k = record {
     stocked = each_map owned v.pass.stock k.stocked;
     apart = k.apart;
-    durable = each_map (λ p d. durable_kept p.0 p.1 d) v.pass.durable k.durable;
-    links = each_map link_kept v.pass.links k.links;
-    words = each_map (λ p d. past_kept p.buffer (word p.own p.link) d) v.pass.words k.words;
+    knows = record { durable = each_map (λ p d. durable_kept p.0 p.1 d) v.pass.durable k.knows.durable; links = each_map link_kept v.pass.links k.knows.links; words = each_map (λ p d. past_kept p.buffer (word p.own p.link) d) v.pass.words k.knows.words; copied = each_map copied_kept v.pass.copied k.knows.copied };
     written = each_map (λ c d. (owned c.tag d.0, (f (home c.tag) d.0.0).body c.place ∙ d.1)) v.pass.written k.written;
     flushed = each_map (λ c d. (owned c.tag d.0, (f (home c.tag) d.0.0).fbody c.place ∙ d.1)) v.pass.flushed k.flushed;
-    copied = each_map copied_kept v.pass.copied k.copied;
-    names = prefix_trans v.pass.names st.bindings st'.bindings k.names g.names;
-    added = ⊎_elim inl (λ d. inr (part_kept v.pass.from v.pass.added st.bindings st'.bindings d g.names)) k.added;
-    most = let x = g.count in let y = k.most in omega arith;
+    named = record { names = prefix_trans v.pass.names st.bindings st'.bindings k.named.names g.names; added = ⊎_elim inl (λ d. inr (part_kept v.pass.from v.pass.added st.bindings st'.bindings d g.names)) k.named.added; most = let x = g.count in let y = k.named.most in omega arith };
     history = prefix_trans v.pass.history h h' k.history g.history;
     calls = called v.pass.role v.pass.calls o k.calls;
   }

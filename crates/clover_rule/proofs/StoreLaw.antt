@@ -12,21 +12,20 @@ use Rattle.clover_rule.specs.History.{Version}
 use Rattle.clover_rule.specs.Knowing.{dropped, stored_view, stored_mem, flushed_view, flushed_mem}
 use Rattle.clover_rule.specs.Lists.{Each, nth, upd, Within}
 use Rattle.clover_rule.specs.Memory.{gen, Mem}
-use Rattle.clover_rule.specs.Server.{AtStage, Whole}
-use Rattle.clover_rule.specs.Story.{Stocked, Story, tag_in_version}
+use Rattle.clover_rule.specs.Server.{Whole}
+use Rattle.clover_rule.specs.Story.{Stocked, Taken, Story, tag_in_version}
 use Rattle.clover_rule.specs.Views.{Owned, Stands, ViewOk, Basis, renewed}
 use Rattle.clover_rule.specs.declared.view.Content.{Content}
 use Rattle.clover_rule.specs.declared.view.Role.TheVariants.{Client}
-use Rattle.clover_rule.specs.declared.view.ServerTask.{ServerTask}
-use Rattle.clover_rule.specs.declared.view.ServerTask.TheVariants.{Idle, Storing, Rooted, Waiting, Loaded, Raised, Led, Both, Exchanged}
 use Rattle.clover_rule.specs.declared.view.View.{View}
 use Rattle.clover_words.specs.declared.pool.Pool.{Pool}
 use Rattle.clover_rule.proofs.Tools.{upd_same, upd_else, other_place}
-use Rattle.clover_rule.proofs.Standings.{exchanged_tag, same_tag}
+use Rattle.clover_rule.proofs.Standings.{same_tag}
 use Rattle.clover_rule.proofs.Steps.{each_map, each_within, prefix_self, Grows, view_kept, nth_set, role_was, longest_was}
 use Rattle.clover_rule.proofs.ServerTools.{core_copy}
 use Rattle.clover_rule.proofs.ClientSteps.{client_whole}
 use Rattle.clover_rule.proofs.Stages.{grow_refl}
+use Rattle.clover_rule.proofs.Staying.{help_kept}
 
 -- the word at this place of the buffer of t
 abbrev written : (ℕ → ℕ → ℕ) → ℕ → ℕ → ℕ → ℕ → ℕ → ℕ
@@ -88,15 +87,10 @@ module _ (l : Pool) (m0 : Tagged) (used : List ℕ) (m : Mem) (vs : List View) (
     ok' = record {
       stocked = ok.stocked;
       apart = ok.apart;
-      durable = ok.durable;
-      links = ok.links;
-      words = ok.words;
+      knows = let k = ok.knows in record { durable = k.durable; links = k.links; words = k.words; copied = k.copied };
       written = stored_ok;
       flushed = flushed_ok;
-      copied = ok.copied;
-      names = ok.names;
-      added = ok.added;
-      most = ok.most;
+      named = ok.named;
       history = ok.history;
       calls = ok.calls;
     }
@@ -126,57 +120,14 @@ module _ (l : Pool) (m0 : Tagged) (used : List ℕ) (m : Mem) (vs : List View) (
       longest = longest_was vs id v v' at h refl r.longest;
     }
 
-    here : (T : ServerTask) → AtStage l m st T → AtStage l m1 st T
-    here Idle a = tt
-    here (Storing bind n1) a =
-        let away : home bind.tag ≢ home t = λ d. absurd (cc (ap st.place d, a.place, owned.0)) in
-        record {
-          place = a.place;
-          now = a.now;
-          safe = a.safe;
-          range = a.range;
-          slot = a.slot;
-          bare = a.bare;
-          unnamed = a.unnamed;
-          absent = a.absent;
-          valid = a.valid;
-          body = λ q. ap (λ (f : ℕ → ℕ). f 0) (body_else (home bind.tag) away) ∙ a.body q;
-          fbody = λ q. ap (λ (f : ℕ → ℕ). f 0) (fbody_else (home bind.tag) away) ∙ a.fbody q;
-          key = a.key;
-          fkey = a.fkey;
-        }
-    here (Rooted bind) a = (record { key = a.0.key; unnamed = a.0.unnamed; alone = a.0.alone; tag = a.0.tag; gone = a.0.gone }, a.1)
-    here (Waiting bind) a = (record { key = a.0.key; unnamed = a.0.unnamed; alone = a.0.alone; tag = a.0.tag; gone = a.0.gone }, a.1)
-    here (Loaded cycle) a = a
-    here (Raised cycle) a = a
-    here (Led cycle) a = a
-    here (Both cycle) a = a
-    here (Exchanged cycle) a =
-        let away : home a.body.0.tag ≢ home t = λ d. absurd (cc (ap (λ (b : ℕ). st.place (home b)) (exchanged_tag l m st cycle a), a.place, ap st.place d, owned.0)) in
-        record {
-          place = a.place;
-          now = a.now;
-          safe = a.safe;
-          root = a.root;
-          old = a.old;
-          body = (
-            a.body.0,
-            a.body.1,
-            λ i y q. let z = a.body.2 i y q in (ap (λ (f : ℕ → ℕ). f i) (body_else (home a.body.0.tag) away) ∙ z.0, ap (λ (f : ℕ → ℕ). f i) (fbody_else (home a.body.0.tag) away) ∙ z.1),
-          );
-          inside = a.inside;
-          young = a.young;
-        }
+    -- nor is a held buffer that of t
+    held_off : (b : ℕ) → st.place b ≡ Taken → b ≢ home t
+    held_off b e d = absurd (cc (ap st.place d, e, owned.0))
 
     within_own : Whole l m0 used m1 (renewed vs id v') st h
-    within_own = let p = w.help in client_whole l m0 used m vs st h w id v v' at n role refl m1 st h rule'
-        record {
-          ranged = let a = p.ranged in record { tags = a.tags; own = a.own; below = a.below; ready = a.ready; worn = a.worn; fits = a.fits };
-          keyed = let a = p.keyed in record { valid = a.valid; current = a.current; flushed = a.flushed; bare = a.bare; nameless = a.nameless; filled = a.filled; slots = a.slots };
-          naming = let a = p.naming in record { counted = a.counted; found = a.found; listed = a.listed; waiting = a.waiting; once = a.once };
-          stage = record { settled = p.stage.settled; holds = p.stage.holds; names = p.stage.names; here = here st.task p.stage.here };
-          short = p.short;
-        }
+    within_own = let p = w.help in let a = p.ranged in client_whole l m0 used m vs st h w id v v' at n role refl m1 st h rule'
+        (help_kept l m st m.fnext body fbody m.short st.place st.sure (λ s i q. q) (λ b e. (e, refl, body_else b (held_off b e), fbody_else b (held_off b e))) p
+        record { tags = a.tags; own = a.own; below = a.below; ready = a.ready; worn = a.worn; fits = a.fits } p.stage.holds p.short)
         (λ sv e. record { task_is = e.task_is; directory = e.directory; roots = e.roots; books = e.books }) w.safe (λ cs a b. b)
 
   pub store_whole : (j x : ℕ) → Whole l m0 used (stored_mem m t j x) (renewed vs id (stored_view v t j x)) st h

@@ -85,7 +85,7 @@ module _ (p : Pool) (first : Tagged) (used : List ℕ) (ws : List ℕ) (vs : Lis
   root_is s k name =
       let b = r.whole.basis in
       let ok = b.views id v at in
-      let bound = b.bound s k (subst (Within (s, k)) (sym ok.names.1) (within_prefix (s, k) v.pass.names ok.names.0 name)) in
+      let bound = b.bound s k (subst (Within (s, k)) (sym ok.named.names.1) (within_prefix (s, k) v.pass.names ok.named.names.0 name)) in
       let low = b.core.rooted s (r.whole.help.keyed.filled s k bound.0) in
       let most = b.core.sure_most s in
       there (λ e. let past = tag_past st s (st.lead s) e in omega arith) (tag_at st s (st.lead s)) (b.core.root s)
@@ -100,7 +100,7 @@ module _ (p : Pool) (first : Tagged) (used : List ℕ) (ws : List ℕ) (vs : Lis
       let b = r.whole.basis in
       let ok = b.views id v at in
       let f : m.next (home t) ≡ word (age t) None = read_next p ws (home t) (inside_of p (home t) hw) ∙ ap next_of e ∙ next_again (age t) None (omega arith) in
-      go f (each_within (IsCopied st) (s, record { tag = t; place = 0; word = y }) v.pass.copied ok.copied q)
+      go f (each_within (IsCopied st) (s, record { tag = t; place = 0; word = y }) v.pass.copied ok.knows.copied q)
     where
       go : m.next (home t) ≡ word (age t) None → IsCopied st (s, record { tag = t; place = 0; word = y }) → IsMetaWord p y
       go f d = ⊎_elim (λ whole. head p y d.1.value (r.whole.help.ranged.fits s d.0 d.1 d.2) whole)
@@ -113,9 +113,9 @@ module _ (p : Pool) (first : Tagged) (used : List ℕ) (ws : List ℕ) (vs : Lis
       let ok = b.views id v at in
       let n = r.whole.help.naming in
       let c : copy_in p ws Count Current ≡ length st.bindings = n.counted in
-      let e = ap length ok.names.1 in
+      let e = ap length ok.named.names.1 in
       let few = few_bindings p.slots st.bindings n.once (λ q w. r.whole.help.keyed.slots q.0 q.1 (b.bound q.0 q.1 w).0) in
-      (omega (arith, length-append v.pass.names ok.names.0), omega arith)
+      (omega (arith, length-append v.pass.names ok.named.names.0), omega arith)
 
   pub says : (a : Step) → Asks p a v → Says p ws a v (found p a ws)
   says (LoadNext s t) asks = λ e y q. meta_is s t y asks.0 e q

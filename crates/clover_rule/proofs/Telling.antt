@@ -196,9 +196,9 @@ module _ (p : Pool) (first : Tagged) (used : List ℕ) (ws : List ℕ) (vs : Lis
           calls = ok.calls;
           stock = each_map (λ t q. let g = r.whole.help.ranged.ready (home t) (subst Ready (sym q.0) tt) in (g.0, let z = q.1 in let y = g.1 in omega arith)) v.pass.stock ok.stocked;
           apart = ok.apart;
-          durable = each_map (λ q d. (slot_in q.0 d.0 q.1 d.1, root_in_range q.0 q.1 d)) v.pass.durable ok.durable;
-          links = each_map (λ l d. (slot_in l.slot d.0 l.from d.1, r.whole.help.ranged.tags l.slot d.0 l.from d.1, r.whole.help.ranged.tags l.slot (suc d.0) l.to d.2)) v.pass.links ok.links;
-          names = each_of (λ (q : ℕ × List ℕ). (q.0 < p.slots) × IsKey q.1) v.pass.names (λ q w. bound_in q.0 q.1 (r.whole.basis.bound q.0 q.1 (subst (Within q) (sym ok.names.1) (within_prefix q v.pass.names ok.names.0 w))).0);
+          durable = each_map (λ q d. (slot_in q.0 d.0 q.1 d.1, root_in_range q.0 q.1 d)) v.pass.durable ok.knows.durable;
+          links = each_map (λ l d. (slot_in l.slot d.0 l.from d.1, r.whole.help.ranged.tags l.slot d.0 l.from d.1, r.whole.help.ranged.tags l.slot (suc d.0) l.to d.2)) v.pass.links ok.knows.links;
+          names = each_of (λ (q : ℕ × List ℕ). (q.0 < p.slots) × IsKey q.1) v.pass.names (λ q w. bound_in q.0 q.1 (r.whole.basis.bound q.0 q.1 (subst (Within q) (sym ok.named.names.1) (within_prefix q v.pass.names ok.named.names.0 w))).0);
           server = λ ro. let sv = r.whole.serves id v at ro in record {
             directory = subst (Each (λ (q : ℕ × List ℕ). (q.0 < p.slots) × IsKey q.1)) (sym sv.directory) (each_both (λ (q : ℕ × List ℕ). (q.0 < p.slots) × IsKey q.1) st.bindings (waiting_name st.task) (each_of (λ (q : ℕ × List ℕ). (q.0 < p.slots) × IsKey q.1) st.bindings (λ q w. bound_in q.0 q.1 (r.whole.basis.bound q.0 q.1 w).0)) (waiting_in st.task r.whole.help.stage.here));
             roots = λ s t e. root_ranged st.task r.whole.help.stage.here s t (sym (sv.roots s) ∙ e);

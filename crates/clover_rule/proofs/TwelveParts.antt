@@ -40,7 +40,7 @@ use Rattle.clover_rule.specs.declared.view.ServerTask.{ServerTask}
 use Rattle.clover_rule.specs.declared.view.ServerTask.TheVariants.{Idle, Storing, Rooted, Waiting, Loaded, Raised, Led, Both, Exchanged}
 use Rattle.clover_rule.specs.declared.view.View.{View}
 use Rattle.clover_rule.proofs.Bindings.{few_bindings, nth_among}
-use Rattle.clover_rule.proofs.Standings.{exchanged_tag, tag_there, tag_within, tag_past, one_buffer, word_is}
+use Rattle.clover_rule.proofs.Standings.{exchanged_tag, tag_there, tag_within, tag_past, one_buffer, word_is, by_held}
 use Rattle.clover_rule.proofs.Steps.{each_map, each_within}
 use Rattle.clover_rule.proofs.Histories.{leads_commits, ends_more}
 use Rattle.clover_rule.proofs.Snocs.{within_nth, within_commits, within_back}
@@ -209,16 +209,8 @@ module _ (p : Pool) (first : Tagged) (used : List ℕ) (ws : List ℕ) (vs : Lis
   worn_now : (T : ServerTask) (g b : ℕ) → book_of T st Worn g b ≡ book g IsWorn
   worn_now T g b = refl
 
-  held_same : (T : ServerTask) (b : ℕ) → holding T ≡ Some b → held_by T ≡ Some b
-  held_same (Storing bind n) b e = e
-  held_same (Exchanged cycle) b e = e
-  held_same Idle b e = absurd cc
-  held_same (Rooted bind) b e = absurd cc
-  held_same (Waiting bind) b e = absurd cc
-  held_same (Loaded cycle) b e = absurd cc
-  held_same (Raised cycle) b e = absurd cc
-  held_same (Led cycle) b e = absurd cc
-  held_same (Both cycle) b e = absurd cc
+  held_same : (b : ℕ) → holding st.task ≡ Some b → held_by st.task ≡ Some b
+  held_same b e = by_held p m st (λ T. held_by T ≡ Some b) st.task b r.whole.help.stage.here e (λ bind n q a. ap Some q) (λ cycle q a. ap Some q)
 
   -- the slot whose root is on its way is the task's
   not_settled : (s : ℕ) → st.lead s ≡ suc (st.gone s) → (moving st.task ≢ Some s) → ⊥
@@ -274,7 +266,7 @@ module _ (p : Pool) (first : Tagged) (used : List ℕ) (ws : List ℕ) (vs : Lis
       go (Stocked i) f g = absurd (let z : Stocked i ≡ Taken = g in cc)
       go Free f g = absurd (let z : Free ≡ Taken = g in cc)
       go Worn f g = absurd (let z : Worn ≡ Taken = g in cc)
-      go Taken f g = held_same st.task b (r.whole.help.stage.holds b f)
+      go Taken f g = held_same b (r.whole.help.stage.holds b f)
 
   part_1 : BuffersInOnePlace p vs (chain_of st) st.task place_at
   unfolding moved
@@ -387,26 +379,16 @@ module _ (p : Pool) (first : Tagged) (used : List ℕ) (ws : List ℕ) (vs : Lis
       bare : m.fnext b ≡ m.next b → link (m.next b) ≡ None → link (m.fnext b) ≡ None
       bare e f = ap link e ∙ f
 
-      held_here : (T : ServerTask) → AtStage p m st T → holding T ≡ Some b → (link (m.fnext b) ≡ None) ⊎ ((l : Link) × IsLink st l × (home l.from ≡ b) × (age l.from ≡ gen (m.fnext b)) × (link (m.fnext b) ≡ Some l.to))
-      held_here (Storing bind n) a e = let q = same_Some (home bind.tag) b e in inl (ap (λ (z : ℕ). link (m.fnext z)) (sym q) ∙ ap link a.safe)
-      held_here (Exchanged cycle) a e = exchanged_link cycle a (same_Some (home cycle.root) b e)
-        where
-          exchanged_link : (c1 : Recycling) → IsExchanged p m st c1 → home c1.root ≡ b → (link (m.fnext b) ≡ None) ⊎ ((l : Link) × IsLink st l × (home l.from ≡ b) × (age l.from ≡ gen (m.fnext b)) × (link (m.fnext b) ≡ Some l.to))
-          exchanged_link c1 a q = inr (record { slot = c1.slot; from = c1.root; to = c1.next }, (a.old.0, a.old.2, ap (tag_at st c1.slot) a.old.1 ∙ a.root), q, sym (ap (λ (z : ℕ). gen (m.fnext z)) (sym q) ∙ ap gen a.safe), ap (λ (z : ℕ). link (m.fnext z)) (sym q) ∙ ap link a.safe)
-      held_here Idle a e = absurd cc
-      held_here (Rooted bind) a e = absurd cc
-      held_here (Waiting bind) a e = absurd cc
-      held_here (Loaded cycle) a e = absurd cc
-      held_here (Raised cycle) a e = absurd cc
-      held_here (Led cycle) a e = absurd cc
-      held_here (Both cycle) a e = absurd cc
+      exchanged_link : (c1 : Recycling) → home c1.root ≡ b → IsExchanged p m st c1 → (link (m.fnext b) ≡ None) ⊎ ((l : Link) × IsLink st l × (home l.from ≡ b) × (age l.from ≡ gen (m.fnext b)) × (link (m.fnext b) ≡ Some l.to))
+      exchanged_link c1 q a = inr (record { slot = c1.slot; from = c1.root; to = c1.next }, (a.old.0, a.old.2, ap (tag_at st c1.slot) a.old.1 ∙ a.root), q, sym (ap (λ (z : ℕ). gen (m.fnext z)) (sym q) ∙ ap gen a.safe), ap (λ (z : ℕ). link (m.fnext z)) (sym q) ∙ ap link a.safe)
 
       by_place : (q : Place) → st.place b ≡ q → (link (m.fnext b) ≡ None) ⊎ ((l : Link) × IsLink st l × (home l.from ≡ b) × (age l.from ≡ gen (m.fnext b)) × (link (m.fnext b) ≡ Some l.to))
       by_place (Chained s) e = let x = c.chained b s e in at s x.0 x.1 x.2 x.3 x.4 (ltb (suc x.0) (st.sure s)) (ap m.fnext (sym x.4) ∙ (c.standing s x.0 x.1 x.2 x.3).safe) (tag_at st s (suc x.0)) refl
       by_place (Stocked j) e = let o = c.loose b (subst Loose (sym e) tt) in inl (bare o.1 o.0)
       by_place Free e = let o = c.loose b (subst Loose (sym e) tt) in inl (bare o.1 o.0)
       by_place Worn e = let o = c.loose b (subst Loose (sym e) tt) in inl (bare o.1 o.0)
-      by_place Taken e = held_here st.task r.whole.help.stage.here (r.whole.help.stage.holds b e)
+      by_place Taken e = by_held p m st (λ T. (link (m.fnext b) ≡ None) ⊎ ((l : Link) × IsLink st l × (home l.from ≡ b) × (age l.from ≡ gen (m.fnext b)) × (link (m.fnext b) ≡ Some l.to))) st.task b r.whole.help.stage.here (r.whole.help.stage.holds b e)
+          (λ bind n q a. inl (ap (λ (z : ℕ). link (m.fnext z)) (sym q) ∙ ap link a.safe)) exchanged_link
 
   part_3 : NextWordsRise m vs
   part_3 b = record {
@@ -414,7 +396,7 @@ module _ (p : Pool) (first : Tagged) (used : List ℕ) (ws : List ℕ) (vs : Lis
     falls = rises b;
     current = past_there m st c b (m.next b) (current_past m st c b);
     flushed = past_there m st c b (m.fnext b) (flushed_past b);
-    seen = λ v w. let x = within_there vs v w in each_map {P = λ (q : Shown). Past m st q.buffer (word q.own q.link)} {Q = λ (q : Shown). q.buffer ≡ b → Within (word q.own q.link) (values st b (gen (m.next b)))} (λ q d e. past_there m st c b (word q.own q.link) (subst (λ (z : ℕ). Past m st z (word q.own q.link)) e d)) v.pass.words (r.whole.basis.views x.0 v x.1).words;
+    seen = λ v w. let x = within_there vs v w in each_map {P = λ (q : Shown). Past m st q.buffer (word q.own q.link)} {Q = λ (q : Shown). q.buffer ≡ b → Within (word q.own q.link) (values st b (gen (m.next b)))} (λ q d e. past_there m st c b (word q.own q.link) (subst (λ (z : ℕ). Past m st z (word q.own q.link)) e d)) v.pass.words (r.whole.basis.views x.0 v x.1).knows.words;
   }
 
   -- how the flushed copy of a slot's root is
@@ -494,15 +476,15 @@ module _ (p : Pool) (first : Tagged) (used : List ℕ) (ws : List ℕ) (vs : Lis
   }
 
   part_6 : DurableTagsKnown m vs (chain_of st) st.task
-  part_6 v w = let x = within_there vs v w in each_map (λ q d. known m st c st.task leaves_by_task q.0 q.1 d) v.pass.durable (r.whole.basis.views x.0 v x.1).durable
+  part_6 v w = let x = within_there vs v w in each_map (λ q d. known m st c st.task leaves_by_task q.0 q.1 d) v.pass.durable (r.whole.basis.views x.0 v x.1).knows.durable
 
   part_7 : TargetsStand m vs (chain_of st) st.task
-  part_7 v w = let x = within_there vs v w in each_map (λ l d. target m st c st.task leaves_by_task l d) v.pass.links (r.whole.basis.views x.0 v x.1).links
+  part_7 v w = let x = within_there vs v w in each_map (λ l d. target m st c st.task leaves_by_task l d) v.pass.links (r.whole.basis.views x.0 v x.1).knows.links
 
   part_8 : CopiesAreWhole m vs (value_by st)
   part_8 v w = let x = within_there vs v w in each_map (λ q d. ⊎_elim
       (λ f. inr (λ y e. f y (ap (λ (o : Option Value). nth (content o) q.1.place) (sym (ap (value_by st) (sym d.3) ∙ value_at q.0 d.0 d.1 d.2)) ∙ e)))
-      (λ g. inl (c.passed q.0 d.0 q.1.tag (ap tag_in_version d.2 ∙ ap Some d.3) g).later) d.4) v.pass.copied (r.whole.basis.views x.0 v x.1).copied
+      (λ g. inl (c.passed q.0 d.0 q.1.tag (ap tag_in_version d.2 ∙ ap Some d.3) g).later) d.4) v.pass.copied (r.whole.basis.views x.0 v x.1).knows.copied
 
   part_9 : ShortcutsKnown m (chain_of st) st.task
   part_9 s t e = known m st c st.task leaves_by_task s t (r.whole.help.short s t e)
@@ -544,9 +526,9 @@ module _ (p : Pool) (first : Tagged) (used : List ℕ) (ws : List ℕ) (vs : Lis
     keys_once = λ i j s s1 k e f. let a = bound_at i s k e in let b = bound_at j s1 k f in r.whole.help.naming.once i j s k k e (f ∙ ap (λ (x : ℕ). Some (x, k)) (r.whole.basis.keyed s1 s k b a));
     few = let a = few_bindings p.slots st.bindings r.whole.help.naming.once (λ q w. r.whole.help.keyed.slots q.0 q.1 (r.whole.basis.bound q.0 q.1 w).0) in let b = r.whole.help.naming.counted in omega arith;
     directory = λ v sv. (r.whole.serves sv.0 v sv.1 sv.2).directory;
-    names = λ v w. let x = within_there vs v w in (r.whole.basis.views x.0 v x.1).names;
-    added = λ v w. let x = within_there vs v w in (r.whole.basis.views x.0 v x.1).added;
-    most = λ v w. let x = within_there vs v w in (r.whole.basis.views x.0 v x.1).most;
+    names = λ v w. let x = within_there vs v w in (r.whole.basis.views x.0 v x.1).named.names;
+    added = λ v w. let x = within_there vs v w in (r.whole.basis.views x.0 v x.1).named.added;
+    most = λ v w. let x = within_there vs v w in (r.whole.basis.views x.0 v x.1).named.most;
     waiting = waiting_here st.task refl r.whole.help.stage.here;
   }
     where

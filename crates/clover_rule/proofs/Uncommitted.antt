@@ -76,15 +76,10 @@ module _ (m0 : Tagged) (used : List ℕ) (m : Mem) (vs : List View) (st : Story)
   new_ok = record {
     stocked = ok.stocked;
     apart = ok.apart;
-    durable = ok.durable;
-    links = ok.links;
+    knows = record { durable = ok.knows.durable; links = ok.knows.links; words = words_ok; copied = ok.knows.copied };
     written = ok.written;
     flushed = ok.flushed;
-    copied = ok.copied;
-    names = ok.names;
-    added = ok.added;
-    most = most_ok;
-    words = words_ok;
+    named = record { names = ok.named.names; added = ok.named.added; most = most_ok };
     history = prefix_self h';
     calls = subst (λ (o : Role). OwnCalls o v.pass.calls h → OwnCalls o (v.pass.calls ++ e ∷ []) h') (sym role) (λ q. ap (λ (xs : List Entry). xs ++ e ∷ []) q ∙ sym (own_push h e)) ok.calls;
   }

@@ -57,22 +57,17 @@ pub record Owners (l : Pool) (im : Image) (spot : ℕ → Option (ℕ × ℕ)) (
   pub in_pool : (b i : ℕ) → owner b ≡ Some i → inside l b ≡ true
   pub young : (b i : ℕ) → owner b ≡ Some i → gen (im.next b) < l.wear
 
+-- the view where its actor has learned and done nothing
+abbrev pub unlearned : View → View
+unlearned v = record v { pass = record v.pass { durable = []; links = []; words = []; written = []; flushed = []; copied = []; added = []; calls = []; history = [] }; plan = [] }
+
 -- the view of seat i as a run begins: it has a stock and names, and knows nothing else
 pub record Starts (m : Mem) (bindings : List (ℕ × List ℕ)) (owner : ℕ → Option ℕ) (i : ℕ) (v : View) : Type 0 where
   pub stock : Each (λ (t : ℕ). (owner (home t) ≡ Some i) × (gen (m.next (home t)) ≡ age t)) v.pass.stock
   pub apart : Apart v.pass.stock
   pub names : IsPrefix v.pass.names bindings
   pub most : v.pass.most ≤ m.count
-  pub durable : v.pass.durable ≡ []
-  pub links : v.pass.links ≡ []
-  pub words : v.pass.words ≡ []
-  pub written : v.pass.written ≡ []
-  pub flushed : v.pass.flushed ≡ []
-  pub copied : v.pass.copied ≡ []
-  pub added : v.pass.added ≡ []
-  pub calls : v.pass.calls ≡ []
-  pub history : v.pass.history ≡ []
-  pub plan : v.plan ≡ []
+  pub nothing : unlearned v ≡ v
 
 -- the words from which a run begins with this map and these used tags: both copies are one sound image
 pub record Opening (p : Pool) (first : Tagged) (used ws : List ℕ) : Type 0 where
@@ -88,16 +83,7 @@ pub record Begins (p : Pool) (first : Tagged) (used ws : List ℕ) (o : Opening 
   pub names : IsPrefix v.pass.names o.opens.bindings
   pub most : v.pass.most ≤ (mem_of p ws).count
   pub stock : v.pass.stock ≡ []
-  pub durable : v.pass.durable ≡ []
-  pub links : v.pass.links ≡ []
-  pub words : v.pass.words ≡ []
-  pub written : v.pass.written ≡ []
-  pub flushed : v.pass.flushed ≡ []
-  pub copied : v.pass.copied ≡ []
-  pub added : v.pass.added ≡ []
-  pub calls : v.pass.calls ≡ []
-  pub history : v.pass.history ≡ []
-  pub plan : v.plan ≡ []
+  pub nothing : unlearned v ≡ v
 
 -- what the books say of a buffer as a run begins, by where it stands: bound as a root, out behind one, and off the chains free, or worn at the wear
 abbrev pub opened_book : Pool → Image → Option (ℕ × ℕ) → ℕ → Book

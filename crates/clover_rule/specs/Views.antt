@@ -97,19 +97,27 @@ abbrev pub OwnCalls : Role → List Entry → List Entry → Type 0
 OwnCalls (Client c) calls h = calls ≡ own h c
 OwnCalls _ calls h = Unit {0}
 
+-- what a view knows of versions is so: its durable tags, links, next words and copied contents
+pub record Knows (m : Mem) (st : Story) (tags : List (ℕ × ℕ)) (ls : List Link) (ws : List Shown) (cs : List (ℕ × Content)) : Type 0 where
+  pub durable : Each (λ (p : ℕ × ℕ). Durable st p.0 p.1) tags
+  pub links : Each (IsLink st) ls
+  pub words : Each (λ (p : Shown). Past m st p.buffer (word p.own p.link)) ws
+  pub copied : Each (IsCopied st) cs
+
+-- and so are its names, those on their way from a place on, and its greatest count
+pub record Named (bindings : List (ℕ × List ℕ)) (count : ℕ) (ns on : List (ℕ × List ℕ)) (from n : ℕ) : Type 0 where
+  pub names : IsPrefix ns bindings
+  pub added : (on ≡ []) ⊎ IsPart from on bindings
+  pub most : n ≤ count
+
 -- what holds of the view of the seat id
 pub record ViewOk (m : Mem) (st : Story) (h : List Entry) (id : ℕ) (v : View) : Type 0 where
   pub stocked : Each (Owned m st id) v.pass.stock
   pub apart : Apart v.pass.stock
-  pub durable : Each (λ (p : ℕ × ℕ). Durable st p.0 p.1) v.pass.durable
-  pub links : Each (IsLink st) v.pass.links
-  pub words : Each (λ (p : Shown). Past m st p.buffer (word p.own p.link)) v.pass.words
+  pub knows : Knows m st v.pass.durable v.pass.links v.pass.words v.pass.copied
   pub written : Each (λ (c : Content). Owned m st id c.tag × (m.body (home c.tag) c.place ≡ c.word)) v.pass.written
   pub flushed : Each (λ (c : Content). Owned m st id c.tag × (m.fbody (home c.tag) c.place ≡ c.word)) v.pass.flushed
-  pub copied : Each (IsCopied st) v.pass.copied
-  pub names : IsPrefix v.pass.names st.bindings
-  pub added : (v.pass.added ≡ []) ⊎ IsPart v.pass.from v.pass.added st.bindings
-  pub most : v.pass.most ≤ m.count
+  pub named : Named st.bindings m.count v.pass.names v.pass.added v.pass.from v.pass.most
   pub history : IsPrefix v.pass.history h
   pub calls : OwnCalls v.pass.role v.pass.calls h
 

@@ -1,5 +1,5 @@
 -- pool lines, and the setups that they make
-use Rattle.std.proofs.Common.{◌≡◌, ◌<◌, ◌≤◌, ◌+◌, ◌-◌, ◌*◌, ℕ, true, None, List, [], ◌++◌, sym, ap, subst, ◌∙◌, inl, inr, arith, append_assoc, append-nil}
+use Rattle.std.proofs.Common.{◌≡◌, ◌<◌, ◌≤◌, ◌+◌, ◌-◌, ◌*◌, ◌^◌, ℕ, true, None, List, [], ◌++◌, sym, ap, subst, ◌∙◌, inl, inr, arith, append_assoc, append-nil}
 use Rattle.std.proofs.lemmas.Bool.{false≢true}
 use Rattle.std.proofs.lemmas.Bool.Decides.{nat_tests}
 use Rattle.std.proofs.lemmas.Nat.{mul-le}
@@ -56,6 +56,30 @@ batch_ends n = λ h. omega (arith, h.0)
 
 pub pool_parts : (n : PoolLine) → pool_line n ≡ nodes_on n
 pool_parts n = simp (append_assoc, append-nil)
+
+-- the text has this number behind this name, and this text behind it, however it is taken apart
+abbrev Reads : List ℕ → List ℕ → ℕ → List ℕ → Type 0
+Reads text name value behind = (n : ℕ) (rest : List ℕ) → n < 2 ^ 64 → EndsNumber rest → text ≡ name ++ (decimal n ++ rest) → (value ≡ n) × (behind ≡ rest)
+
+-- what was read of a pool line leaves the line's other numbers
+module _ (n : PoolLine) (fit : AreNumbers n) {v : ℕ} {text rest : List ℕ} where
+  pub after_nodes : text ≡ pool_line n → Reads text (codes "pool nodes=") v rest → rest ≡ buffers_on n
+  after_nodes e only = (only n.nodes (buffers_on n) fit.nodes (buffers_ends n) (e ∙ pool_parts n)).1
+
+  pub after_buffers : text ≡ buffers_on n → Reads text (codes " buffers=") v rest → rest ≡ slots_on n
+  after_buffers e only = (only n.buffers (slots_on n) fit.buffers (slots_ends n) e).1
+
+  pub after_slots : text ≡ slots_on n → Reads text (codes " slots=") v rest → rest ≡ words_on n
+  after_slots e only = (only n.slots (words_on n) fit.slots (words_ends n) e).1
+
+  pub after_words : text ≡ words_on n → Reads text (codes " words=") v rest → rest ≡ wear_on n
+  after_words e only = (only n.words (wear_on n) fit.words (wear_ends n) e).1
+
+  pub after_wear : text ≡ wear_on n → Reads text (codes " wear=") v rest → rest ≡ clients_on n
+  after_wear e only = (only n.wear (clients_on n) fit.wear (clients_ends n) e).1
+
+  pub after_clients : text ≡ clients_on n → Reads text (codes " clients=") v rest → rest ≡ batch_on n
+  after_clients e only = (only n.clients (batch_on n) fit.clients (batch_ends n) e).1
 
 -- the numbers that were read one behind the other are those of the line
 pub pool_found : (n : PoolLine) (line r1 r2 r3 r4 r5 r6 r7 : List ℕ)

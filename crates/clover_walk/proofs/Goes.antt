@@ -14,6 +14,7 @@ use Rattle.clover_rule.specs.Learned.{turn_of, turn_at, seen, started, counted}
 use Rattle.clover_rule.specs.Steps.{Step, LoadNext, act_of, word_of, number_of}
 use Rattle.clover_rule.specs.Told.{IsShown}
 use Rattle.clover_rule.specs.Words.{root_of, next_of}
+use Rattle.clover_rule.specs.declared.access.Act.{Act}
 use Rattle.clover_rule.specs.declared.view.Role.{Role}
 use Rattle.clover_rule.specs.declared.view.Role.TheVariants.{Client}
 use Rattle.clover_rule.specs.declared.view.View.{View}
@@ -136,37 +137,23 @@ module _ (p : Pool) (w : Walking) (v : View) (o : Option Open) (x : ℕ) (v1 : V
   placed_gone : (at to : Stand) (r : Turn) → Knows w v1 → v1.pass.turns ≡ w.turns → StandsOn w.slot to v1 → IsOnWay to → (ShowsTail at x → ⊥) → Answers (placed w to) r → Gone at (placed w to) r
   placed_gone at to r k e on way never a = (placed_promises w v1 to r k on e a, (λ q. absurd (not_there (placed w to) r way a q), λ q. absurd (never q)), nowhere at (placed w to) r way a)
 
+  -- the tag that a shortcut or root shows is known to be durable
+  started_at : (a : Act) (t : ℕ) → v1 ≡ counted w.first a 0 (started w.slot v (root_of x)) → root_of x ≡ Some t → Within (w.slot, t) v1.pass.durable
+  started_at a t next f = subst (λ (z : View). Within (w.slot, t) z.pass.durable) (sym (next ∙ ap (λ (q : Option ℕ). counted w.first a 0 (started w.slot v q)) f)) (inl refl)
+
   gone_at : (at : Stand) → StandsOn w.slot at v → IsOnWay at → Made p (step_at w.slot at) w.first v o x v1 o1 → (r : Turn) → Answers (goes_from at w x) r → Gone at (goes_from at w x) r
-  gone_at AtShort on way made r a = by_root (root_of x) refl a
+  gone_at AtShort on way made r a = by_root (root_of x) refl a (knows p w v o x v1 o1 of h _ made) (no_turn p w v o x v1 o1 of h _ made refl)
     where
-      k : Knows w v1
-      k = knows p w v o x v1 o1 of h (step_at w.slot AtShort) made
-
-      e : v1.pass.turns ≡ w.turns
-      e = no_turn p w v o x v1 o1 of h (step_at w.slot AtShort) made refl
-
-      by_root : (q : Option ℕ) → root_of x ≡ q → Answers (shortened w q) r → Gone AtShort (shortened w q) r
-      by_root None f b =
+      by_root : (q : Option ℕ) → root_of x ≡ q → Answers (shortened w q) r → Knows w v1 → v1.pass.turns ≡ w.turns → Gone AtShort (shortened w q) r
+      by_root None f b k e =
           let g = placed_promises (record w { start = FromRoot }) v1 AtRoot r (record { pool = k.pool; client = k.client; named = k.named; below = k.below }) tt e b in
           (record { stands = g.stands; behind = g.behind; ahead = g.ahead }, (λ q. absurd (not_there (shortened w None) r tt b q), λ q. absurd q), nowhere AtShort (shortened w None) r tt b)
-      by_root (Some t) f b = placed_gone AtShort (AtTag t) r k e (started_at f) tt (λ q. q) b
-        where
-          started_at : root_of x ≡ Some t → Within (w.slot, t) v1.pass.durable
-          started_at f = subst (λ (z : View). Within (w.slot, t) z.pass.durable) (sym (made.told.next ∙ ap (λ (q : Option ℕ). counted w.first (act_of (step_at w.slot AtShort) x) 0 (started w.slot v q)) f)) (inl refl)
-  gone_at AtRoot on way made r a = by_root (root_of x) refl a
+      by_root (Some t) f b k e = placed_gone AtShort (AtTag t) r k e (started_at _ t made.told.next f) tt (λ q. q) b
+  gone_at AtRoot on way made r a = by_root (root_of x) refl a (knows p w v o x v1 o1 of h _ made) (no_turn p w v o x v1 o1 of h _ made refl)
     where
-      k : Knows w v1
-      k = knows p w v o x v1 o1 of h (step_at w.slot AtRoot) made
-
-      e : v1.pass.turns ≡ w.turns
-      e = no_turn p w v o x v1 o1 of h (step_at w.slot AtRoot) made refl
-
-      by_root : (q : Option ℕ) → root_of x ≡ q → Answers (rooted w q) r → Gone AtRoot (rooted w q) r
-      by_root None f b = placed_gone AtRoot AtRoot r k e tt tt (λ q. q) b
-      by_root (Some t) f b = placed_gone AtRoot (AtTag t) r k e (started_at f) tt (λ q. q) b
-        where
-          started_at : root_of x ≡ Some t → Within (w.slot, t) v1.pass.durable
-          started_at f = subst (λ (z : View). Within (w.slot, t) z.pass.durable) (sym (made.told.next ∙ ap (λ (q : Option ℕ). counted w.first (act_of (step_at w.slot AtRoot) x) 0 (started w.slot v q)) f)) (inl refl)
+      by_root : (q : Option ℕ) → root_of x ≡ q → Answers (rooted w q) r → Knows w v1 → v1.pass.turns ≡ w.turns → Gone AtRoot (rooted w q) r
+      by_root None f b k e = placed_gone AtRoot AtRoot r k e tt tt (λ q. q) b
+      by_root (Some t) f b k e = placed_gone AtRoot (AtTag t) r k e (started_at _ t made.told.next f) tt (λ q. q) b
   gone_at (AtTag t) on way made r a =
       let range : InRange w.pool t = subst (λ (q : Pool). InRange q t) of (each_within (λ (q : ℕ × ℕ). (q.0 < p.slots) × InRange p q.1) (w.slot, t) v.pass.durable made.told.before.durable on).1 in
       shown_walked w t v1 x (goes_from (AtTag t) w x) r (shows_tag p w v o x v1 o1 of h t on made) refl a range
