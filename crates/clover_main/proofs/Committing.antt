@@ -93,5 +93,5 @@ kept_first : AllKept [] empty
 unfolding AllKept
 kept_first k x is = let none : None ≡ Some x = sym (get-empty (slice_cmp nat_cmp) k) ∙ is in cc
 
-pub legal_committed : (es : List Entry) → Legal empty [] es → AllCommitted es
-legal_committed es legal before after e k t v is ec er = legal_on [] es empty [] kept_first legal before after e k t v is ec er
+pub legal_committed : (m : Tagged) (used : List ℕ) (es : List Entry) → m ≡ empty → Legal m used es → AllCommitted es
+legal_committed m used es none legal before after e k t v is ec er = legal_on [] es m used (subst (AllKept []) (sym none) kept_first) legal before after e k t v is ec er

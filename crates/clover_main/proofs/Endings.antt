@@ -1,11 +1,12 @@
 -- the text of a run, from its pieces
 use Rattle.std.proofs.Common.{◌≡◌, ◌≤◌, inl, inr, ℕ, Bool, List, [], ◌++◌, flat_map, map, Option, refl, subst, sym, arith, append-nil}
+use Rattle.std.specs.FinMap.{empty}
 use Rattle.std.specs.Io.KnownBytes.{Appends}
 use Rattle.clover_words.specs.declared.setup.Setup.{Setup}
 use Rattle.clover_script.specs.Line.{Spoken, kept_line}
 use Rattle.clover_script.specs.Lines.{IsLinesOf}
 use Rattle.clover_script.specs.declared.line.Line.{Line}
-use Rattle.clover_sched.specs.Folds.{entries_in, made_in}
+use Rattle.clover_sched.specs.Folds.{entries_in, made_after}
 use Rattle.clover_sched.specs.Lines.{Covers}
 use Rattle.clover_sched.specs.Machine.{Parts, IsAt, IsOpening}
 use Rattle.clover_sched.specs.Record.{Record}
@@ -23,16 +24,18 @@ use Rattle.clover_main.specs.Replay.{IsScriptOf, IsReplay, LacksMemory, HasStopp
 use Rattle.clover_main.specs.Running.{PutsEnding, Ran, Fails}
 use Rattle.clover_main.specs.declared.output.Stop.{Stop}
 use Rattle.clover_main.specs.declared.output.Stop.TheVariants.{Memory, Write}
+use Rattle.clover_main.proofs.Committing.{legal_committed}
 use Rattle.clover_main.proofs.Following.{lawful_at}
 use Rattle.clover_main.proofs.Listening.{lines_served}
 use Rattle.clover_main.proofs.Pieces.{front_then, whole_put}
 
-module _ (o : Opening) (lines : List Line) (t : Bool) where
-  performed : (m : Parts) (a b : Option (List ℕ)) (w : List ℕ) → (x : Ran o t [] m a b [] w (Covers lines [])) → IsPerformed o lines t (text t x.more)
+module _ (o : Opening) (lines : List Line) (t : Bool) (none : o.first ≡ empty) where
+  performed : (m : Parts) (a b : Option (List ℕ)) (w : List ℕ) → (x : Ran o t [] m a b [] w (Covers lines [])) → IsPerformed o lines t (text t o.made x.more)
   performed m a b w x = record {
     records = x.more;
     covers = x.kind;
     lawful = lawful_at o m x.more x.at;
+    whole = legal_committed o.first o.used (entries_in x.more) none x.at.legal;
     printed = refl;
   }
 
@@ -42,18 +45,19 @@ module _ (o : Opening) (lines : List Line) (t : Bool) where
     records = x.more;
     covers = record { done = lines; rest = []; before = x.more; part = []; split = sym (append-nil lines); all = sym (append-nil x.more); covers = x.kind; begun = refl };
     lawful = lawful_at o m x.more x.at;
+    whole = legal_committed o.first o.used (entries_in x.more) none x.at.legal;
     printed = refl;
   }
 
   begun_some : (stop : Stop) (a c : Option (List ℕ)) → (f : Fails o t [] stop a c [] (CoversFront lines)) → IsBeginning o lines t (flat_map (said t) f.more)
-  begun_some stop a c f = record { records = f.more; covers = f.kind; lawful = f.lawful; printed = refl }
+  begun_some stop a c f = record { records = f.more; covers = f.kind; lawful = f.lawful; whole = legal_committed o.first o.used (entries_in f.more) none f.lawful.legal; printed = refl }
 
--- the text is a script of these lines, which begins there
+-- the text is a script of these lines, which begins there, with nothing in the map
 abbrev pub Begins : List ℕ → Opening → List Line → Type 1
-Begins bytes o lines = (Is : Opening → List Line → Type 0) → Is o lines → IsScriptOf bytes Is
+Begins bytes o lines = (o.first ≡ empty) × ((Is : Opening → List Line → Type 0) → Is o lines → IsScriptOf bytes Is)
 
 pub script_begins : (bytes : List ℕ) (s : Setup) (said : List Spoken) (keys : List (List ℕ)) (o : Opening) → IsLinesOf bytes s said keys → IsOpening s keys o → Begins bytes o (map kept_line said)
-script_begins bytes s said keys o script opens = λ Is is. record { setup = s; said = said; keys = keys; script = script; opening = o; opens = opens; is = is }
+script_begins bytes s said keys o script opens = (opens.first, λ Is is. record { setup = s; said = said; keys = keys; script = script; opening = o; opens = opens; is = is })
 
 -- a machine at the beginning of a script's run has what its lines ask for
 pub script_ready : (bytes : List ℕ) (s : Setup) (said : List Spoken) (keys : List (List ℕ)) (m : Parts) (o : Opening) → IsLinesOf bytes s said keys → IsAt o m [] → m.setup ≡ s → m.names ≡ keys
@@ -88,36 +92,36 @@ lacks_memory Memory t bytes left after taken between now before then_faults faul
 
 module _ (bytes : List ℕ) (o : Opening) (lines : List Line) (t : Bool) (begins : Begins bytes o lines) where
   pub performs : (m : Parts) (a b c : Option (List ℕ)) (w : List ℕ) → (x : Ran o t [] m a b [] w (Covers lines []))
-      → ((p : Opening) (rs : List Record) → IsAt p m rs → Appends b c (w ++ ending (entries_in rs) (made_in rs))) → (out : List ℕ) × IsReplay t bytes out × Appends a c out
+      → ((p : Opening) (rs : List Record) → IsAt p m rs → Appends b c (w ++ ending (entries_in rs) (made_after p.made rs))) → (out : List ℕ) × IsReplay t bytes out × Appends a c out
   performs m a b c w x close = (
-    text t x.more,
-    begins (λ (p : Opening) (ls : List Line). IsPerformed p ls t (text t x.more)) (performed o lines t m a b w x),
-    whole_put a b c [] w (flat_map (said t) x.more) (ending (entries_in x.more) (made_in x.more)) x.says (close o x.more x.at),
+    text t o.made x.more,
+    begins.1 (λ (p : Opening) (ls : List Line). IsPerformed p ls t (text t o.made x.more)) (performed o lines t begins.0 m a b w x),
+    whole_put a b c [] w (flat_map (said t) x.more) (ending (entries_in x.more) (made_after o.made x.more)) x.says (close o x.more x.at),
   )
 
   pub stops_closing : (stop : Stop) (m : Parts) (a b c : Option (List ℕ)) (w : List ℕ) → (x : Ran o t [] m a b [] w (Covers lines []))
-      → ((p : Opening) (rs : List Record) → IsAt p m rs → PutsEnding stop b c w (ending (entries_in rs) (made_in rs))) → HasStopped stop t bytes a c
+      → ((p : Opening) (rs : List Record) → IsAt p m rs → PutsEnding stop b c w (ending (entries_in rs) (made_after p.made rs))) → HasStopped stop t bytes a c
   stops_closing Write m a b c w x close = (
-    text t x.more,
-    begins (λ (p : Opening) (ls : List Line). IsOutput p ls t (text t x.more)) (inl (performed o lines t m a b w x)),
-    front_then a b c [] w (flat_map (said t) x.more) (ending (entries_in x.more) (made_in x.more)) x.says (close o x.more x.at),
+    text t o.made x.more,
+    begins.1 (λ (p : Opening) (ls : List Line). IsOutput p ls t (text t o.made x.more)) (inl (performed o lines t begins.0 m a b w x)),
+    front_then a b c [] w (flat_map (said t) x.more) (ending (entries_in x.more) (made_after o.made x.more)) x.says (close o x.more x.at),
   )
   stops_closing Memory m a b c w x close =
       let all = flat_map (said t) x.more in
       inr (
         all,
-        begins (λ (p : Opening) (ls : List Line). IsBeginning p ls t all) (begun_all o lines t m a b w x),
+        begins.1 (λ (p : Opening) (ls : List Line). IsBeginning p ls t all) (begun_all o lines t begins.0 m a b w x),
         subst (Appends a c) (append-nil all) (whole_put a b c [] w all [] x.says (subst (Appends b c) (sym (append-nil w)) (close o x.more x.at))),
       )
 
   pub stops_running : (stop : Stop) (a c : Option (List ℕ)) → Fails o t [] stop a c [] (CoversFront lines) → HasStopped stop t bytes a c
   stops_running Write a c f = (
     flat_map (said t) f.more,
-    begins (λ (p : Opening) (ls : List Line). IsOutput p ls t (flat_map (said t) f.more)) (inr (begun_some o lines t Write a c f)),
+    begins.1 (λ (p : Opening) (ls : List Line). IsOutput p ls t (flat_map (said t) f.more)) (inr (begun_some o lines t begins.0 Write a c f)),
     f.puts,
   )
   stops_running Memory a c f = inr (
     flat_map (said t) f.more,
-    begins (λ (p : Opening) (ls : List Line). IsBeginning p ls t (flat_map (said t) f.more)) (begun_some o lines t Memory a c f),
+    begins.1 (λ (p : Opening) (ls : List Line). IsBeginning p ls t (flat_map (said t) f.more)) (begun_some o lines t begins.0 Memory a c f),
     f.puts,
   )

@@ -1,5 +1,5 @@
 -- what holds of every run: its accesses replay, and each client's entries are numbered; and of the records behind which a machine stands
-use Rattle.std.proofs.Common.{suc, ◌≡◌, ◌+◌, ℕ, Bool, true, false, List, [], ◌∷◌, ◌++◌, length, Option, Some, None, refl, ap, subst, sym, ◌∙◌, arith, append-nil, append_assoc}
+use Rattle.std.proofs.Common.{suc, ◌≡◌, ◌+◌, ℕ, Bool, true, false, List, [], ◌∷◌, ◌++◌, length, Option, Some, None, refl, ap, subst, sym, ◌∙◌, arith, append-nil, append_assoc, option_to_list}
 use Rattle.std.specs.Prelude.{IfSome, if◌then◌else◌}
 use Rattle.clover_words.specs.declared.pool.Pool.{Pool}
 use Rattle.clover_map.specs.History.{own, IsNumberedByClient}
@@ -8,7 +8,7 @@ use Rattle.clover_map.proofs.Parts.{numbered_by_client_push}
 use Rattle.clover_rule.specs.Accesses.{CameBack, words_after_act, ActsReplay, done, Replays}
 use Rattle.clover_rule.specs.declared.access.Access.{Access}
 use Rattle.clover_rule.specs.declared.access.Act.{Act}
-use Rattle.clover_sched.specs.Folds.{listed, accesses_in, entries_in, words_by, words_after, doing}
+use Rattle.clover_sched.specs.Folds.{accesses_in, entries_in, words_by, words_after, doing}
 use Rattle.clover_sched.specs.Machine.{Parts, IsAt}
 use Rattle.clover_sched.specs.Record.{Record}
 use Rattle.clover_sched.specs.Run.{Opening, IsAccess, IsEntry, Fits, Goes, IsRun}
@@ -16,7 +16,6 @@ use Rattle.clover_sched.specs.declared.event.Event.{Event}
 use Rattle.clover_sched.specs.declared.event.Event.TheVariants.{Begin, Step, Refuse}
 use Rattle.clover_sched.proofs.Pasts.{entries_more, words_more}
 use Rattle.clover_main.specs.Performing.{IsLawful}
-use Rattle.clover_main.proofs.Committing.{legal_committed}
 
 -- an access that was made came back with what the words give
 fits_access : (o : Opening) (before : List Record) (r : Record) (e : Event) → Fits o before r e → (x : Access) → r.access ≡ Some x → x.refused ≡ false → CameBack o.setup.pool (words_after o.setup.pool o.words before) x.act
@@ -39,7 +38,7 @@ one_act : (b : Bool) (p : Pool) (ws : List ℕ) (act : Act) (xs : List Access) �
 one_act true p ws act xs came rest = rest
 one_act false p ws act xs came rest = (came refl, rest)
 
-first_act : (p : Pool) (ws : List ℕ) (o : Option Access) (xs : List Access) → ((x : Access) → o ≡ Some x → x.refused ≡ false → CameBack p ws x.act) → ActsReplay p (words_by p ws o) (done xs) → ActsReplay p ws (done (listed o ++ xs))
+first_act : (p : Pool) (ws : List ℕ) (o : Option Access) (xs : List Access) → ((x : Access) → o ≡ Some x → x.refused ≡ false → CameBack p ws x.act) → ActsReplay p (words_by p ws o) (done xs) → ActsReplay p ws (done (option_to_list o ++ xs))
 first_act p ws None xs came rest = rest
 first_act p ws (Some x) xs came rest = one_act x.refused p ws x.act xs (λ made. came x refl made) rest
 
@@ -54,7 +53,7 @@ replays_on o before (r ∷ rs) h =
 pub run_replays : (o : Opening) (rs : List Record) → IsRun o rs → Replays o.setup.pool o.words (accesses_in rs)
 run_replays o rs run = replays_on o [] rs run
 
-entry_numbered : (h : List Entry) (o : Option Entry) → IsNumberedByClient h → ((x : Entry) → o ≡ Some x → x.number ≡ suc (length (own h x.client))) → IsNumberedByClient (h ++ listed o)
+entry_numbered : (h : List Entry) (o : Option Entry) → IsNumberedByClient h → ((x : Entry) → o ≡ Some x → x.number ≡ suc (length (own h x.client))) → IsNumberedByClient (h ++ option_to_list o)
 entry_numbered h None all number = subst IsNumberedByClient (sym (append-nil h)) all
 entry_numbered h (Some e) all number = numbered_by_client_push h e all (number e refl ∙ (let one : suc (length (own h e.client)) ≡ 1 + length (own h e.client) = omega arith in one))
 
@@ -76,7 +75,6 @@ lawful_at o m rs at = record {
   replays = run_replays o rs at.run;
   legal = at.legal;
   numbered = run_numbered o rs at.run;
-  whole = legal_committed (entries_in rs) at.legal;
   found = at.found;
   alone = at.alone.all;
 }

@@ -5,46 +5,66 @@ use Rattle.clover_script.specs.Line.{lines_of, IsLineOf, IsNoLine}
 use Rattle.std.proofs.lemmas.Bool.Decides.{nat_tests}
 use Rattle.clover_script.specs.declared.line.Line.{Line}
 use Rattle.clover_script.proofs.SpokenLemmas.{one_line}
-use Rattle.clover_sched.specs.Lines.{Stands, Covers}
+use Rattle.clover_sched.specs.Folds.{traced_in}
+use Rattle.clover_sched.specs.Lines.{CoversLine, Covers}
 use Rattle.clover_sched.specs.Machine.{Parts, IsAt}
 use Rattle.clover_sched.specs.Record.{Record}
 use Rattle.clover_sched.specs.Run.{Opening}
-use Rattle.clover_sched.specs.Running.{steps_line, IsLeft, IsPartOrAll}
+use Rattle.clover_sched.specs.Running.{steps_line, Advances, Comes, IsLeft, IsPartOrAll}
+use Rattle.clover_sched.specs.declared.runner.Advance.{Advance}
 use Rattle.clover_sched.specs.declared.runner.Work.{Work}
 use Rattle.clover_sched.proofs.Working.{left_then, part_then}
 use Rattle.clover_main.specs.Beginnings.{IsBegun, CoversFront}
 use Rattle.clover_main.specs.Hearing.{Heard}
+use Rattle.clover_main.specs.Performing.{IsLawful}
 use Rattle.clover_main.specs.Running.{Ran, Runs, Fails, Stops, Continues, IsSaidBy, IsPartOfSaid, Reaches}
 use Rattle.clover_main.specs.declared.output.Stop.{Stop}
+use Rattle.clover_main.proofs.Following.{lawful_at}
 use Rattle.clover_main.proofs.Pieces.{ran_then, fails_then, ran_nothing}
 
 pub continues_then : (m n k : Parts) → Continues m n → Continues n k → Continues m k
 continues_then m n k f g = record { setup = g.setup ∙ f.setup; names = g.names ∙ f.names; traced = g.traced ∙ f.traced }
 
+-- an event of a line was made, and what it came to was said
+module _ (m n : Parts) (l : Line) (came : Option Advance) (listed : ℕ) (adv : Advances m n l came) (has : (o : Opening) (rs : List Record) → IsAt o m rs → listed ≡ length (traced_in m.pool.traced rs)) where
+  has_listed : (o : Opening) (rs : List Record) → IsAt o m rs → listed ≡ length (traced_in n.pool.traced rs)
+  has_listed o rs at = has o rs at ∙ ap (λ t. length (traced_in t rs)) (sym adv.traced)
+
+  pub told_runs : (a b : Option (List ℕ)) (w v : List ℕ) (left : Option Work)
+      → ((o : Opening) (rs more : List Record) (line : Line) → IsAt o n (rs ++ more) → Comes line came rs more → listed ≡ length (traced_in n.pool.traced rs) → Ran o n.pool.traced rs n a b w v (IsLeft line left rs)) → Runs m n a b w v (IsLeft l left)
+  told_runs a b w v left tells = record {
+    goes_on = record { setup = adv.setup; names = adv.names; traced = adv.traced };
+    ran = λ o rs at. let x = adv.ran o rs at in subst (λ t. Ran o t rs n a b w v (IsLeft l left rs)) adv.traced (tells o rs x.0 l x.1 x.2 (has_listed o rs at));
+  }
+
+  pub told_stops : (stop : Stop) (a b : Option (List ℕ)) (w : List ℕ)
+      → ((o : Opening) (rs more : List Record) (line : Line) → IsLawful o rs → IsAt o n (rs ++ more) → Comes line came rs more → listed ≡ length (traced_in n.pool.traced rs) → Fails o n.pool.traced rs stop a b w (IsPartOrAll line rs)) → Stops m stop a b w (IsPartOrAll l)
+  told_stops stop a b w tells o rs at = let x = adv.ran o rs at in subst (λ t. Fails o t rs stop a b w (IsPartOrAll l rs)) adv.traced (tells o rs x.0 l (lawful_at o m rs at) x.1 x.2 (has_listed o rs at))
+
 -- the first event of a line went on, and then what was left of it
-pub left_next : (t : Bool) (m n q : Parts) (a b c : Option (List ℕ)) (w v u : List ℕ) (l : Line) (k : Work) (left : Option Work) → Runs t m n a b w v (IsLeft l (Some k)) → Runs t n q b c v u (IsLeft (steps_line k) left) → Runs t m q a c w u (IsLeft l left)
-left_next t m n q a b c w v u l k left x y = record {
+pub left_next : (m n q : Parts) (a b c : Option (List ℕ)) (w v u : List ℕ) (l : Line) (k : Work) (left : Option Work) → Runs m n a b w v (IsLeft l (Some k)) → Runs n q b c v u (IsLeft (steps_line k) left) → Runs m q a c w u (IsLeft l left)
+left_next m n q a b c w v u l k left x y = record {
   goes_on = continues_then m n q x.goes_on y.goes_on;
   ran = λ o rs at.
       let first = x.ran o rs at in
-      let next = y.ran o (rs ++ first.more) first.at in
-      ran_then o t rs n q a b c w v u (IsLeft l (Some k) rs) (IsLeft (steps_line k) left (rs ++ first.more)) (IsLeft l left rs) first next (left_then l k left rs first.more next.more first.kind next.kind);
+      let next = subst (λ t. Ran o t (rs ++ first.more) q b c v u (IsLeft (steps_line k) left (rs ++ first.more))) x.goes_on.traced (y.ran o (rs ++ first.more) first.at) in
+      ran_then o m.pool.traced rs n q a b c w v u (IsLeft l (Some k) rs) (IsLeft (steps_line k) left (rs ++ first.more)) (IsLeft l left rs) first next (left_then l k left rs first.more next.more first.kind next.kind);
 }
 
-pub left_stop : (t : Bool) (stop : Stop) (m n : Parts) (a b c : Option (List ℕ)) (w v : List ℕ) (l : Line) (k : Work) → Runs t m n a b w v (IsLeft l (Some k)) → Stops t n stop b c v (IsPartOrAll (steps_line k)) → Stops t m stop a c w (IsPartOrAll l)
-left_stop t stop m n a b c w v l k x y o rs at =
+pub left_stop : (stop : Stop) (m n : Parts) (a b c : Option (List ℕ)) (w v : List ℕ) (l : Line) (k : Work) → Runs m n a b w v (IsLeft l (Some k)) → Stops n stop b c v (IsPartOrAll (steps_line k)) → Stops m stop a c w (IsPartOrAll l)
+left_stop stop m n a b c w v l k x y o rs at =
     let first = x.ran o rs at in
-    let next = y o (rs ++ first.more) first.at in
-    fails_then o t rs stop n a b c w v (IsLeft l (Some k) rs) (IsPartOrAll (steps_line k) (rs ++ first.more)) (IsPartOrAll l rs) first next (part_then l k rs first.more next.more first.kind next.kind)
+    let next = subst (λ t. Fails o t (rs ++ first.more) stop b c v (IsPartOrAll (steps_line k) (rs ++ first.more))) x.goes_on.traced (y o (rs ++ first.more) first.at) in
+    fails_then o m.pool.traced rs stop n a b c w v (IsLeft l (Some k) rs) (IsPartOrAll (steps_line k) (rs ++ first.more)) (IsPartOrAll l rs) first next (part_then l k rs first.more next.more first.kind next.kind)
 
-pub covers_push : (ls : List Line) (l : Line) (before xs ys : List Record) → Covers ls before xs → Stands l (before ++ xs) ys → Covers (ls ++ l ∷ []) before (xs ++ ys)
-covers_push [] l before xs ys h k = (ys, [], ap (λ z. z ++ ys) h ∙ sym (append-nil ys), subst (λ z. Stands l z ys) (ap (λ z. before ++ z) h ∙ append-nil before) k, refl)
+pub covers_push : (ls : List Line) (l : Line) (before xs ys : List Record) → Covers ls before xs → CoversLine l (before ++ xs) ys → Covers (ls ++ l ∷ []) before (xs ++ ys)
+covers_push [] l before xs ys h k = (ys, [], ap (λ z. z ++ ys) h ∙ sym (append-nil ys), subst (λ z. CoversLine l z ys) (ap (λ z. before ++ z) h ∙ append-nil before) k, refl)
 covers_push (m ∷ ls) l before xs ys h k = (
   h.0,
   h.1 ++ ys,
   ap (λ z. z ++ ys) h.2 ∙ append_assoc h.0 h.1 ys,
   h.3,
-  covers_push ls l (before ++ h.0) h.1 ys h.4 (subst (λ z. Stands l z ys) (ap (λ z. before ++ z) h.2 ∙ sym (append_assoc before h.0 h.1)) k),
+  covers_push ls l (before ++ h.0) h.1 ys h.4 (subst (λ z. CoversLine l z ys) (ap (λ z. before ++ z) h.2 ∙ sym (append_assoc before h.0 h.1)) k),
 )
 
 not_both : (text : List ℕ) (l : Line) → IsNoLine text → IsLineOf text l → ⊥
@@ -61,22 +81,22 @@ heard_none text texts todo (inl (no1, heard)) none = heard
 heard_none text texts todo (inr (first, rest, is, e, heard)) none = absurd (not_both text first none is)
 
 -- what a text says was run where its line was
-pub said_runs : (t : Bool) (m n : Parts) (a b : Option (List ℕ)) (w v : List ℕ) (text : List ℕ) (l : Line) → IsLineOf text l → Runs t m n a b w v (Stands l) → Runs t m n a b w v (IsSaidBy text)
-said_runs t m n a b w v text l is x = record {
+pub said_runs : (m n : Parts) (a b : Option (List ℕ)) (w v : List ℕ) (text : List ℕ) (l : Line) → IsLineOf text l → Runs m n a b w v (CoversLine l) → Runs m n a b w v (IsSaidBy text)
+said_runs m n a b w v text l is x = record {
   goes_on = x.goes_on;
   ran = λ o rs at. let y = x.ran o rs at in record { more = y.more; kind = inr (l, is, y.kind); at = y.at; says = y.says };
 }
 
-pub said_stops : (t : Bool) (stop : Stop) (m : Parts) (a b : Option (List ℕ)) (w : List ℕ) (text : List ℕ) (l : Line) → IsLineOf text l → Stops t m stop a b w (IsPartOrAll l) → Stops t m stop a b w (IsPartOfSaid text)
-said_stops t stop m a b w text l is x o rs at = let y = x o rs at in record { more = y.more; kind = inr (l, is, y.kind); lawful = y.lawful; puts = y.puts }
+pub said_stops : (stop : Stop) (m : Parts) (a b : Option (List ℕ)) (w : List ℕ) (text : List ℕ) (l : Line) → IsLineOf text l → Stops m stop a b w (IsPartOrAll l) → Stops m stop a b w (IsPartOfSaid text)
+said_stops stop m a b w text l is x o rs at = let y = x o rs at in record { more = y.more; kind = inr (l, is, y.kind); lawful = y.lawful; puts = y.puts }
 
 begun_nothing : (ls : List Line) (before : List Record) → IsBegun ls before []
 begun_nothing [] before = refl
 begun_nothing (l ∷ ls) before = inl refl
 
-module _ (o : Opening) (t : Bool) (lines : List Line) (text : List ℕ) (texts : List (List ℕ)) (m : Parts) (a b c : Option (List ℕ)) (w v : List ℕ) (x : Reaches o t lines (text ∷ texts) m a b w v) where
-  pub lines_next : (n : Parts) (u : List ℕ) → Ran o t x.ran.more n b c v u (IsSaidBy text x.ran.more) → Reaches o t lines texts n a c w u
-  lines_next n u y = elim y.kind as (λ _. Reaches o t lines texts n a c w u) [
+module _ (o : Opening) (t : Bool) (lines : List Line) (text : List ℕ) (texts : List (List ℕ)) (m : Parts) (a b c : Option (List ℕ)) (w v : List ℕ) (x : Reaches o t lines (text ∷ texts) m a b w v) (on : m.pool.traced ≡ t) where
+  pub lines_next : (n : Parts) (u : List ℕ) → Ran o m.pool.traced x.ran.more n b c v u (IsSaidBy text x.ran.more) → Reaches o t lines texts n a c w u
+  lines_next n u z = let y = subst (λ k. Ran o k x.ran.more n b c v u (IsSaidBy text x.ran.more)) on z in elim y.kind as (λ _. Reaches o t lines texts n a c w u) [
     | inl none ↦ record {
       done = x.done;
       todo = x.todo;
@@ -98,8 +118,8 @@ module _ (o : Opening) (t : Bool) (lines : List Line) (text : List ℕ) (texts :
         }
   ]
 
-  pub lines_stop : (stop : Stop) → Fails o t x.ran.more stop b c v (IsPartOfSaid text x.ran.more) → Fails o t [] stop a c w (CoversFront lines)
-  lines_stop stop y = fails_then o t [] stop m a b c w v (Covers x.done []) (IsPartOfSaid text x.ran.more) (CoversFront lines) x.ran y
+  pub lines_stop : (stop : Stop) → Fails o m.pool.traced x.ran.more stop b c v (IsPartOfSaid text x.ran.more) → Fails o t [] stop a c w (CoversFront lines)
+  lines_stop stop z = let y = subst (λ k. Fails o k x.ran.more stop b c v (IsPartOfSaid text x.ran.more)) on z in fails_then o t [] stop m a b c w v (Covers x.done []) (IsPartOfSaid text x.ran.more) (CoversFront lines) x.ran y
       (elim y.kind as (λ _. CoversFront lines (x.ran.more ++ y.more)) [
         | inl none ↦ record {
           done = x.done;

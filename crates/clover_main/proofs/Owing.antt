@@ -1,5 +1,5 @@
 -- the buffers that lines ask for: a client has spent no more than the lines so far asked for, so what comes next may come
-use Rattle.std.proofs.Common.{suc, ◌≡◌, ◌+◌, ◌≤◌, ◌==◌, ℕ, Bool, true, false, List, [], ◌∷◌, ◌++◌, Option, Some, refl, ap, subst, sym, ◌∙◌, arith, inl, inr, ◌⊎◌}
+use Rattle.std.proofs.Common.{suc, ◌≡◌, ◌+◌, ◌≤◌, ◌==◌, ℕ, Bool, true, false, List, [], ◌∷◌, ◌++◌, Option, Some, refl, ap, subst, sym, ◌∙◌, arith, inl, inr, ◌⊎◌, fold}
 use Rattle.std.specs.Prelude.{All, Contains, if◌then◌else◌}
 use Rattle.std.proofs.lemmas.Bool.Decides.{nat_tests}
 use Rattle.std.proofs.lemmas.List.Elements.{All-head, All-tail}
@@ -15,8 +15,7 @@ use Rattle.clover_script.specs.declared.line.Task.{Task}
 use Rattle.clover_script.specs.declared.line.Task.TheVariants.{Client}
 use Rattle.clover_rule.specs.Lists.{Each, nth}
 use Rattle.clover_sched.specs.Client.{spent}
-use Rattle.clover_sched.specs.Folds.{along}
-use Rattle.clover_sched.specs.Lines.{Works, Calls, IsTurnedAway, Stands, Covers}
+use Rattle.clover_sched.specs.Lines.{Works, Calls, IsTurnedAway, CoversLine, Covers}
 use Rattle.clover_sched.specs.Machine.{Parts, asks, asked, MayCome, IsAt}
 use Rattle.clover_sched.specs.Record.{Record}
 use Rattle.clover_sched.specs.Run.{Opening}
@@ -26,7 +25,7 @@ use Rattle.clover_sched.specs.declared.event.Event.{Event}
 use Rattle.clover_sched.specs.declared.event.Event.TheVariants.{Begin, Step, Refuse}
 use Rattle.clover_sched.specs.declared.event.Note.{Note}
 use Rattle.clover_sched.specs.declared.event.Note.TheVariants.{Quiet, Answered, Refused, Busy, Missing}
-use Rattle.clover_sched.proofs.Runs.{along_append}
+use Rattle.std.proofs.lemmas.List.Sums.{fold-append}
 use Rattle.clover_main.specs.Hearing.{task_takes, owed_by, owed, IsNamed, HasSlot, Serves, IsReady}
 use Rattle.clover_main.specs.Running.{Continues, Reaches}
 use Rattle.clover_main.proofs.Loops.{heard_line}
@@ -42,12 +41,12 @@ asks_plus a n (Begin b (Client call w)) = elim (b == a) as (λ t. (if t then n +
 asks_plus a n (Step b) = omega arith
 asks_plus a n (Refuse b) = omega arith
 
-asked_from : (a n : ℕ) (rs : List Record) → along (counts a) n rs ≡ n + asked a rs
+asked_from : (a n : ℕ) (rs : List Record) → fold (counts a) n rs ≡ n + asked a rs
 asked_from a n [] = omega arith
 asked_from a n (r ∷ rs) = omega (arith, asked_from a (asks a n r.event) rs, asked_from a (asks a 0 r.event) rs, asks_plus a n r.event)
 
 asked_append : (a : ℕ) (xs ys : List Record) → asked a (xs ++ ys) ≡ asked a xs + asked a ys
-asked_append a xs ys = along_append (counts a) 0 xs ys ∙ asked_from a (asked a xs) ys
+asked_append a xs ys = fold-append (counts a) 0 xs ys ∙ asked_from a (asked a xs) ys
 
 asked_first : (a : ℕ) (r : Record) (rs : List Record) → asked a (r ∷ rs) ≡ asks a 0 r.event + asked a rs
 asked_first a r rs = asked_from a (asks a 0 r.event) rs
@@ -86,7 +85,7 @@ turned (Refused c y) = inr (λ away. away)
 turned (Busy a) = inl tt
 turned (Missing a) = inl tt
 
-asked_stands : (c : ℕ) (l : Line) (before rs : List Record) → Stands l before rs → asked c rs ≤ owed_by c l
+asked_stands : (c : ℕ) (l : Line) (before rs : List Record) → CoversLine l before rs → asked c rs ≤ owed_by c l
 asked_stands c (line.Begin a t) before rs (r, all, is) = omega (arith, ap (asked c) all, asked_first c r [], asked_one c a t r is)
 asked_stands c (line.Step a n) before rs (all, many) = omega (arith, asked_steps c a rs all)
 asked_stands c (line.Finish a) before rs x = omega (arith, asked_works c a before rs x.works)

@@ -1,11 +1,11 @@
 -- pieces of output, one behind the other
-use Rattle.std.proofs.Common.{◌≡◌, ℕ, Bool, true, false, List, [], ◌∷◌, ◌++◌, length, flat_map, Option, Some, None, refl, ap, subst, sym, ◌∙◌, append-nil, append_assoc}
+use Rattle.std.proofs.Common.{◌≡◌, ℕ, Bool, true, false, List, [], ◌∷◌, ◌++◌, length, flat_map, Option, Some, None, refl, ap, subst, sym, ◌∙◌, append-nil, append_assoc, option_to_list}
 use Rattle.std.proofs.KnownBytes.{Appends-nil, Appends-trans}
 use Rattle.std.specs.Io.KnownBytes.{Appends}
 use Rattle.std.specs.Prelude.{All, slice_get}
 use Rattle.std.proofs.lemmas.List.Elements.{All-head, All-tail}
 use Rattle.clover_rule.specs.declared.access.Access.{Access}
-use Rattle.clover_sched.specs.Folds.{listed, accesses_in}
+use Rattle.clover_sched.specs.Folds.{accesses_in, traced_in}
 use Rattle.clover_sched.specs.Machine.{Parts, IsAt}
 use Rattle.clover_sched.specs.Record.{Record}
 use Rattle.clover_sched.specs.Run.{Opening, Still}
@@ -26,23 +26,29 @@ all_said t (r ∷ rs) qs = ap (λ l. said t r ++ l) (all_said t rs qs) ∙ sym (
 
 pub accesses_append : (rs qs : List Record) → accesses_in (rs ++ qs) ≡ accesses_in rs ++ accesses_in qs
 accesses_append [] qs = refl
-accesses_append (r ∷ rs) qs = ap (λ l. listed r.access ++ l) (accesses_append rs qs) ∙ sym (append_assoc (listed r.access) (accesses_in rs) (accesses_in qs))
+accesses_append (r ∷ rs) qs = ap (λ l. option_to_list r.access ++ l) (accesses_append rs qs) ∙ sym (append_assoc (option_to_list r.access) (accesses_in rs) (accesses_in qs))
 
 -- the element behind a list
-get_behind : {A : Type 0} (xs : List A) (o : Option A) → slice_get (xs ++ listed o) (length xs) ≡ o
+get_behind : {A : Type 0} (xs : List A) (o : Option A) → slice_get (xs ++ option_to_list o) (length xs) ≡ o
 get_behind [] None = refl
 get_behind [] (Some x) = refl
 get_behind (x ∷ xs) o = get_behind xs o
 
 -- the access that was listed last is that of the last record
-pub listed_last : (rs : List Record) (r : Record) → slice_get (accesses_in (rs ++ r ∷ [])) (length (accesses_in rs)) ≡ r.access
-listed_last rs r = ap (λ l. slice_get l (length (accesses_in rs))) (accesses_append rs (r ∷ []) ∙ ap (λ l. accesses_in rs ++ l) (append-nil (listed r.access))) ∙ get_behind (accesses_in rs) r.access
+listed_last : (rs : List Record) (r : Record) → slice_get (accesses_in (rs ++ r ∷ [])) (length (accesses_in rs)) ≡ r.access
+listed_last rs r = ap (λ l. slice_get l (length (accesses_in rs))) (accesses_append rs (r ∷ []) ∙ ap (λ l. accesses_in rs ++ l) (append-nil (option_to_list r.access))) ∙ get_behind (accesses_in rs) r.access
 
--- with a trace its line is that of the list's access behind those before
-pub listed_line : (t : Bool) (xs : List Access) (n : ℕ) (rs : List Record) (r : Record) (old new : List ℕ) → t ≡ true → xs ≡ accesses_in (rs ++ r ∷ []) → n ≡ length (accesses_in rs)
-    → new ≡ old ++ traced true (slice_get xs n) → new ≡ old ++ traced t r.access
-listed_line t xs n rs r old new on all here grown =
-    grown ∙ ap (λ o. old ++ traced true o) (ap (λ l. slice_get l n) all ∙ ap (λ k. slice_get (accesses_in (rs ++ r ∷ [])) k) here ∙ listed_last rs r) ∙ ap (λ b. old ++ traced b r.access) (sym on)
+-- the line of the access that is listed behind those before is the one that is printed; without a trace there is none
+listed_line : (t : Bool) (rs : List Record) (r : Record) → traced true (slice_get (traced_in t (rs ++ r ∷ [])) (length (traced_in t rs))) ≡ traced t r.access
+listed_line true rs r = ap (traced true) (listed_last rs r)
+listed_line false rs r = refl
+
+-- that line and that of the note are what the record prints
+pub said_line : (t : Bool) (xs : List Access) (n : ℕ) (rs : List Record) (r : Record) (note : Note) (old mid new : List ℕ) → xs ≡ traced_in t (rs ++ r ∷ []) → n ≡ length (traced_in t rs) → r.note ≡ note
+    → mid ≡ old ++ traced true (slice_get xs n) → new ≡ mid ++ note_line note → new ≡ old ++ said t r
+said_line t xs n rs r note old mid new all here is grown told =
+    let line : traced true (slice_get xs n) ≡ traced t r.access = ap (λ l. traced true (slice_get l n)) all ∙ ap (λ k. traced true (slice_get (traced_in t (rs ++ r ∷ [])) k)) here ∙ listed_line t rs r in
+    told ∙ ap (λ l. l ++ note_line note) (grown ∙ ap (λ l. old ++ l) line) ∙ append_assoc old (traced t r.access) (note_line note) ∙ ap (λ k. old ++ (traced t r.access ++ note_line k)) (sym is)
 
 pub says_then : (a b c : Option (List ℕ)) (w v u x y : List ℕ) → Says a b w v x → Says b c v u y → Says a c w u (x ++ y)
 says_then a b c w v u x y s t = record {

@@ -1,6 +1,5 @@
 -- what the printed text of a run of some lines promises
 use Rattle.std.specs.Prelude.{◌≡◌, ◌⊎◌, ℕ, Bool, List, [], ◌∷◌, ◌++◌, flat_map}
-use Rattle.std.specs.FinMap.{empty}
 use Rattle.clover_map.specs.History.{IsNumberedByClient}
 use Rattle.clover_map.specs.Legal.{Legal}
 use Rattle.clover_map.specs.declared.bytes.Value.{Value}
@@ -33,28 +32,29 @@ IsCommitted h k t v = (e : Entry) × Within e h × (e.reply ≡ Stored t) × Sto
 abbrev pub AllCommitted : List Entry → Type 0
 AllCommitted h = (before after : List Entry) (e : Entry) (k : List ℕ) (t : ℕ) (v : Value) → h ≡ before ++ e ∷ after → e.call ≡ Get k → e.reply ≡ Found t v → IsCommitted before k t v
 
--- The records are a run whose accesses replay; its history is legal and in each client's order, and no value is torn. At every moment each named key has a chain with a tail, and a call that runs alone is answered at exactly its cost.
+-- The records are a run whose accesses replay; its history is legal from what was before it, and in each client's order. At every moment each named key has a chain with a tail, and a call that runs alone is answered at exactly its cost.
 pub record IsLawful (o : Opening) (records : List Record) : Type 0 where
   pub run : IsRun o records
   pub replays : Replays o.setup.pool o.words (accesses_in records)
-  pub legal : Legal empty [] (entries_in records)
+  pub legal : Legal o.first o.used (entries_in records)
   pub numbered : IsNumberedByClient (entries_in records)
-  pub whole : AllCommitted (entries_in records)
   pub found : AllFound o records
   pub alone : AllAlone o records
 
--- Out is the text of a run of the lines.
+-- Out is the text of a run of the lines, in which no value is torn.
 pub record IsPerformed (o : Opening) (lines : List Line) (t : Bool) (out : List ℕ) : Type 0 where
   pub records : List Record
   pub covers : Covers lines [] records
   pub lawful : IsLawful o records
-  pub printed : out ≡ text t records
+  pub whole : AllCommitted (entries_in records)
+  pub printed : out ≡ text t o.made records
 
--- Out is what the beginning of a run of the lines prints.
+-- Out is what the beginning of a run of the lines prints, in which no value is torn.
 pub record IsBeginning (o : Opening) (lines : List Line) (t : Bool) (out : List ℕ) : Type 0 where
   pub records : List Record
   pub covers : CoversFront lines records
   pub lawful : IsLawful o records
+  pub whole : AllCommitted (entries_in records)
   pub printed : out ≡ flat_map (said t) records
 
 -- the text of a run, or what the beginning of one prints

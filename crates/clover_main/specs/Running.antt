@@ -4,7 +4,7 @@ use Rattle.std.specs.Prelude.{◌≡◌, ◌⊎◌, ℕ, Bool, List, [], ◌++�
 use Rattle.std.specs.Io.KnownBytes.{Appends}
 use Rattle.clover_script.specs.Line.{IsLineOf, IsNoLine}
 use Rattle.clover_script.specs.declared.line.Line.{Line}
-use Rattle.clover_sched.specs.Lines.{Stands, Covers}
+use Rattle.clover_sched.specs.Lines.{CoversLine, Covers}
 use Rattle.clover_sched.specs.Machine.{Parts, IsAt}
 use Rattle.clover_sched.specs.Record.{Record}
 use Rattle.clover_sched.specs.Run.{Opening}
@@ -55,13 +55,13 @@ pub record Continues (m n : Parts) : Type 0 where
   pub traced : n.pool.traced ≡ m.pool.traced
 
 -- The machine went on so: behind any records behind which it stood more were made, which with those before are of this kind, and what they print was said.
-pub record Runs (t : Bool) (m n : Parts) (taken now : Option (List ℕ)) (wait waits : List ℕ) (Is : List Record → List Record → Type 0) : Type 0 where
+pub record Runs (m n : Parts) (taken now : Option (List ℕ)) (wait waits : List ℕ) (Is : List Record → List Record → Type 0) : Type 0 where
   pub goes_on : Continues m n
-  pub ran : (o : Opening) (rs : List Record) → IsAt o m rs → Ran o t rs n taken now wait waits (Is rs)
+  pub ran : (o : Opening) (rs : List Record) → IsAt o m rs → Ran o m.pool.traced rs n taken now wait waits (Is rs)
 
 -- the machine stopped so, behind any records behind which it stood
-abbrev pub Stops : Bool → Parts → Stop → Option (List ℕ) → Option (List ℕ) → List ℕ → (List Record → List Record → Type 0) → Type 0
-Stops t m stop taken now wait Is = (o : Opening) (rs : List Record) → IsAt o m rs → Fails o t rs stop taken now wait (Is rs)
+abbrev pub Stops : Parts → Stop → Option (List ℕ) → Option (List ℕ) → List ℕ → (List Record → List Record → Type 0) → Type 0
+Stops m stop taken now wait Is = (o : Opening) (rs : List Record) → IsAt o m rs → Fails o m.pool.traced rs stop taken now wait (Is rs)
 
 -- the steps that an event left, if there was one
 abbrev pub left_of : Option Advance → Option Work
@@ -75,7 +75,7 @@ most_steps m (Some w) = suc (steps_left m w)
 
 -- a text that is no line of a client stands for no records, and one that is for those of its line
 abbrev pub IsSaidBy : List ℕ → List Record → List Record → Type 0
-IsSaidBy text before more = (IsNoLine text × (more ≡ [])) ⊎ ((line : Line) × IsLineOf text line × Stands line before more)
+IsSaidBy text before more = (IsNoLine text × (more ≡ [])) ⊎ ((line : Line) × IsLineOf text line × CoversLine line before more)
 
 -- no records, or a part or all of those of the text's line
 abbrev pub IsPartOfSaid : List ℕ → List Record → List Record → Type 0

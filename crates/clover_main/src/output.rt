@@ -1,7 +1,7 @@
 // What waits to be put into the sink. It is put in large pieces, and what one event prints stays together.
 ghost use Rattle.std.specs.Prelude.{◌≡◌, ◌≤◌, ◌++◌, ◌∷◌, List, [], length, true, OnOk, OnErr, IfErr, slice_get};
 ghost use Rattle.std.specs.Io.KnownBytes.{Appends};
-ghost use Rattle.clover_sched.specs.Folds.{accesses_in, entries_in, made_in};
+ghost use Rattle.clover_sched.specs.Folds.{entries_in, made_after, traced_in};
 ghost use Rattle.clover_sched.specs.Machine.{IsAt};
 ghost use Rattle.clover_sched.specs.Record.{Record};
 ghost use Rattle.clover_sched.specs.Run.{Opening};
@@ -72,20 +72,13 @@ impl Output {
     /// behind those that the machine listed before, and then the line of what it came to.
     ///
     /// Err for want of memory, and then what waits is as it was.
-    pub fn say(
-        &mut self,
-        machine: &Machine,
-        listed: usize,
-        note: &Note,
-        trace: bool,
-    ) -> Result<(), AllocError>
-        requires traced { machine.now.pool.traced ≡ trace }
-        ensures ok { OnOk result ((o : Opening) (rs : List Record) (r : Record) → IsAt o machine.now (rs ++ r ∷ []) → r.note ≡ note.now → (trace ≡ true → listed ≡ length (accesses_in rs))
-            → self.new.waiting.items ≡ self.old.waiting.items ++ said trace r) }
+    pub fn say(&mut self, machine: &Machine, listed: usize, note: &Note) -> Result<(), AllocError>
+        ensures ok { OnOk result ((o : Opening) (rs : List Record) (r : Record) → IsAt o machine.now (rs ++ r ∷ []) → r.note ≡ note.now → listed ≡ length (traced_in machine.now.pool.traced rs)
+            → self.new.waiting.items ≡ self.old.waiting.items ++ said machine.now.pool.traced r) }
         ensures err { OnErr result (self.new.waiting.items ≡ self.old.waiting.items) }
     {
         self.piece.clear();
-        push_said(&mut self.piece, machine, listed, note, trace)?;
+        push_said(&mut self.piece, machine, listed, note)?;
         self.waiting.extend_from_slice(&self.piece)
     }
 
@@ -118,8 +111,8 @@ impl Output {
 
     /// Puts all that waits, and behind it the history and the number of accesses.
     pub fn close<K: Sink>(mut self, machine: &Machine, sink: &mut K) -> Result<(), Stop>
-        ensures ok { OnOk result ((o : Opening) (rs : List Record) → IsAt o machine.now rs → Appends (K.taken sink.old) (K.taken sink.new) (self.waiting.items ++ ending (entries_in rs) (made_in rs))) }
-        ensures err { IfErr result (λ stop. (o : Opening) (rs : List Record) → IsAt o machine.now rs → PutsEnding stop (K.taken sink.old) (K.taken sink.new) self.waiting.items (ending (entries_in rs) (made_in rs))) }
+        ensures ok { OnOk result ((o : Opening) (rs : List Record) → IsAt o machine.now rs → Appends (K.taken sink.old) (K.taken sink.new) (self.waiting.items ++ ending (entries_in rs) (made_after o.made rs))) }
+        ensures err { IfErr result (λ stop. (o : Opening) (rs : List Record) → IsAt o machine.now rs → PutsEnding stop (K.taken sink.old) (K.taken sink.new) self.waiting.items (ending (entries_in rs) (made_after o.made rs))) }
         ensures cause { HasStopCause (K.faults sink.old) (K.faults sink.new) result }
     {
         self.piece.clear();
@@ -136,32 +129,12 @@ fn push_said(
     machine: &Machine,
     listed: usize,
     note: &Note,
-    trace: bool,
 ) -> Result<(), AllocError>
-    requires traced { machine.now.pool.traced ≡ trace }
-    ensures ok { OnOk result ((o : Opening) (rs : List Record) (r : Record) → IsAt o machine.now (rs ++ r ∷ []) → r.note ≡ note.now → (trace ≡ true → listed ≡ length (accesses_in rs))
-        → piece.new.items ≡ piece.old.items ++ said trace r) }
+    ensures ok { OnOk result ((o : Opening) (rs : List Record) (r : Record) → IsAt o machine.now (rs ++ r ∷ []) → r.note ≡ note.now → listed ≡ length (traced_in machine.now.pool.traced rs)
+        → piece.new.items ≡ piece.old.items ++ said machine.now.pool.traced r) }
 {
-    push_traced(piece, machine, listed, trace)?;
+    push_listed(piece, machine.accesses(), listed)?;
     push_note(piece, note)?;
-    Ok(())
-}
-
-/// Builds, with a trace, the line of the access with this number in the machine's list.
-fn push_traced(
-    piece: &mut Vec<u8>,
-    machine: &Machine,
-    listed: usize,
-    trace: bool,
-) -> Result<(), AllocError>
-    requires traced { machine.now.pool.traced ≡ trace }
-    ensures ok { OnOk result ((o : Opening) (rs : List Record) (r : Record) → IsAt o machine.now (rs ++ r ∷ []) → (trace ≡ true → listed ≡ length (accesses_in rs))
-        → piece.new.items ≡ piece.old.items ++ traced trace r.access) }
-{
-    if trace {
-        push_listed(piece, machine.accesses(), listed)?;
-        return Ok(());
-    }
     Ok(())
 }
 

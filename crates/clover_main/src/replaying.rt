@@ -104,6 +104,6 @@ fn run_script<K: Sink>(
     let Outline { setup, names } = outline;
     let mut machine = Machine::make(alloc, setup, names, trace)?;
     let mut out = Output::new(alloc);
-    run_lines(alloc, &mut machine, text, &mut out, sink, trace)?;
+    run_lines(alloc, &mut machine, text, &mut out, sink)?;
     out.close(&machine, sink)
 }

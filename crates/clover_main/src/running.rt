@@ -1,10 +1,10 @@
 // Running the lines of a script: each is read, run over the machine one event at a time, and what its events print
 // goes to the sink in pieces. Nothing is kept of a line.
-ghost use Rattle.std.specs.Prelude.{◌≡◌, ◌≤◌, ◌<◌, ◌++◌, List, [], length, true, OnOk, IfOk, IfErr, IfSome};
+ghost use Rattle.std.specs.Prelude.{◌≡◌, ◌≤◌, ◌<◌, ◌++◌, List, [], length, OnOk, IfOk, IfErr, IfSome};
 ghost use Rattle.clover_script.specs.Line.{lines_of, IsLineOf};
 ghost use Rattle.clover_script.specs.declared.line.Line.{Line as LineData};
-ghost use Rattle.clover_sched.specs.Folds.{accesses_in};
-ghost use Rattle.clover_sched.specs.Lines.{Stands, Covers};
+ghost use Rattle.clover_sched.specs.Folds.{traced_in};
+ghost use Rattle.clover_sched.specs.Lines.{CoversLine, Covers};
 ghost use Rattle.clover_sched.specs.Machine.{IsAt};
 ghost use Rattle.clover_sched.specs.Record.{Record};
 ghost use Rattle.clover_sched.specs.Run.{Opening};
@@ -30,20 +30,18 @@ fn tell<K: Sink>(
     came: Option<Advance>,
     out: &mut Output,
     sink: &mut K,
-    trace: bool,
 ) -> Result<Option<Work>, Stop>
-    requires traced { machine.now.pool.traced ≡ trace }
-    ensures ok { IfOk result (λ left. (o : Opening) (rs more : List Record) (line : LineData) → IsAt o machine.now (rs ++ more) → Comes line came rs more → (trace ≡ true → listed ≡ length (accesses_in rs))
-        → Ran o trace rs machine.now (K.taken sink.old) (K.taken sink.new) out.old.waiting.items out.new.waiting.items (IsLeft line left rs)) }
+    ensures ok { IfOk result (λ left. (o : Opening) (rs more : List Record) (line : LineData) → IsAt o machine.now (rs ++ more) → Comes line came rs more → listed ≡ length (traced_in machine.now.pool.traced rs)
+        → Ran o machine.now.pool.traced rs machine.now (K.taken sink.old) (K.taken sink.new) out.old.waiting.items out.new.waiting.items (IsLeft line left rs)) }
     ensures left { IfOk result (λ left. left ≡ left_of came) }
-    ensures err { IfErr result (λ stop. (o : Opening) (rs more : List Record) (line : LineData) → IsLawful o rs → IsAt o machine.now (rs ++ more) → Comes line came rs more → (trace ≡ true → listed ≡ length (accesses_in rs))
-        → Fails o trace rs stop (K.taken sink.old) (K.taken sink.new) out.old.waiting.items (IsPartOrAll line rs)) }
+    ensures err { IfErr result (λ stop. (o : Opening) (rs more : List Record) (line : LineData) → IsLawful o rs → IsAt o machine.now (rs ++ more) → Comes line came rs more → listed ≡ length (traced_in machine.now.pool.traced rs)
+        → Fails o machine.now.pool.traced rs stop (K.taken sink.old) (K.taken sink.new) out.old.waiting.items (IsPartOrAll line rs)) }
     ensures cause { HasStopCause (K.faults sink.old) (K.faults sink.new) result }
 {
     let Some(Advance { note, left }) = came else {
         return Ok(None);
     };
-    match out.say(machine, listed, &note, trace) {
+    match out.say(machine, listed, &note) {
         Ok(()) => {}
         Err(_) => return Err(out.give_up(sink)),
     }
@@ -57,18 +55,16 @@ fn begin<K: Sink>(
     line: Line,
     out: &mut Output,
     sink: &mut K,
-    trace: bool,
 ) -> Result<Option<Work>, Stop>
     requires may { MayRun machine.old line }
-    requires traced { machine.old.pool.traced ≡ trace }
-    ensures ok { IfOk result (λ left. Runs trace machine.old machine.new (K.taken sink.old) (K.taken sink.new) out.old.waiting.items out.new.waiting.items (IsLeft line left)) }
+    ensures ok { IfOk result (λ left. Runs machine.old machine.new (K.taken sink.old) (K.taken sink.new) out.old.waiting.items out.new.waiting.items (IsLeft line left)) }
     ensures actor { IfOk result (λ left. IfSome left (λ work. 1 ≤ actor_in work)) }
-    ensures err { IfErr result (λ stop. Stops trace machine.old stop (K.taken sink.old) (K.taken sink.new) out.old.waiting.items (IsPartOrAll line)) }
+    ensures err { IfErr result (λ stop. Stops machine.old stop (K.taken sink.old) (K.taken sink.new) out.old.waiting.items (IsPartOrAll line)) }
     ensures cause { HasStopCause (K.faults sink.old) (K.faults sink.new) result }
 {
     let listed = machine.accesses().len();
     match begin_line(machine, line) {
-        Ok(came) => tell(machine, listed, came, out, sink, trace),
+        Ok(came) => tell(machine, listed, came, out, sink),
         Err(_) => Err(out.give_up(sink)),
     }
 }
@@ -80,19 +76,17 @@ fn go_on<K: Sink>(
     work: Work,
     out: &mut Output,
     sink: &mut K,
-    trace: bool,
 ) -> Result<Option<Work>, Stop>
     requires actor { 1 ≤ actor_in work }
-    requires traced { machine.old.pool.traced ≡ trace }
-    ensures ok { IfOk result (λ left. Runs trace machine.old machine.new (K.taken sink.old) (K.taken sink.new) out.old.waiting.items out.new.waiting.items (IsLeft (steps_line work) left)) }
+    ensures ok { IfOk result (λ left. Runs machine.old machine.new (K.taken sink.old) (K.taken sink.new) out.old.waiting.items out.new.waiting.items (IsLeft (steps_line work) left)) }
     ensures actor { IfOk result (λ left. IfSome left (λ work. 1 ≤ actor_in work)) }
     ensures less { IfOk result (λ left. most_steps machine.new left < most_steps machine.old (Some work)) }
-    ensures err { IfErr result (λ stop. Stops trace machine.old stop (K.taken sink.old) (K.taken sink.new) out.old.waiting.items (IsPartOrAll (steps_line work))) }
+    ensures err { IfErr result (λ stop. Stops machine.old stop (K.taken sink.old) (K.taken sink.new) out.old.waiting.items (IsPartOrAll (steps_line work))) }
     ensures cause { HasStopCause (K.faults sink.old) (K.faults sink.new) result }
 {
     let listed = machine.accesses().len();
     match work_on(machine, work) {
-        Ok(came) => tell(machine, listed, came, out, sink, trace),
+        Ok(came) => tell(machine, listed, came, out, sink),
         Err(_) => Err(out.give_up(sink)),
     }
 }
@@ -103,17 +97,15 @@ fn run_line<K: Sink>(
     line: Line,
     out: &mut Output,
     sink: &mut K,
-    trace: bool,
 ) -> Result<(), Stop>
     requires may { MayRun machine.old line }
-    requires traced { machine.old.pool.traced ≡ trace }
-    ensures ok { OnOk result (Runs trace machine.old machine.new (K.taken sink.old) (K.taken sink.new) out.old.waiting.items out.new.waiting.items (Stands line)) }
-    ensures err { IfErr result (λ stop. Stops trace machine.old stop (K.taken sink.old) (K.taken sink.new) out.old.waiting.items (IsPartOrAll line)) }
+    ensures ok { OnOk result (Runs machine.old machine.new (K.taken sink.old) (K.taken sink.new) out.old.waiting.items out.new.waiting.items (CoversLine line)) }
+    ensures err { IfErr result (λ stop. Stops machine.old stop (K.taken sink.old) (K.taken sink.new) out.old.waiting.items (IsPartOrAll line)) }
     ensures cause { HasStopCause (K.faults sink.old) (K.faults sink.new) result }
 {
-    let mut left = begin(machine, line, out, sink, trace)?;
+    let mut left = begin(machine, line, out, sink)?;
     while let Some(work) = left {
-        left = go_on(machine, work, out, sink, trace)?;
+        left = go_on(machine, work, out, sink)?;
     }
     Ok(())
 }
@@ -125,16 +117,14 @@ fn run_text<K: Sink>(
     text: &[u8],
     out: &mut Output,
     sink: &mut K,
-    trace: bool,
 ) -> Result<(), Stop>
     requires may { (line : LineData) → IsLineOf text.now line → MayRun machine.old line }
-    requires traced { machine.old.pool.traced ≡ trace }
-    ensures ok { OnOk result (Runs trace machine.old machine.new (K.taken sink.old) (K.taken sink.new) out.old.waiting.items out.new.waiting.items (IsSaidBy text.now)) }
-    ensures err { IfErr result (λ stop. Stops trace machine.old stop (K.taken sink.old) (K.taken sink.new) out.old.waiting.items (IsPartOfSaid text.now)) }
+    ensures ok { OnOk result (Runs machine.old machine.new (K.taken sink.old) (K.taken sink.new) out.old.waiting.items out.new.waiting.items (IsSaidBy text.now)) }
+    ensures err { IfErr result (λ stop. Stops machine.old stop (K.taken sink.old) (K.taken sink.new) out.old.waiting.items (IsPartOfSaid text.now)) }
     ensures cause { HasStopCause (K.faults sink.old) (K.faults sink.new) result }
 {
     match line_of(alloc, text) {
-        Ok(Some(line)) => run_line(machine, line, out, sink, trace),
+        Ok(Some(line)) => run_line(machine, line, out, sink),
         Ok(None) => Ok(()),
         Err(_) => Err(out.give_up(sink)),
     }
@@ -147,18 +137,16 @@ pub fn run_lines<K: Sink>(
     text: &[u8],
     out: &mut Output,
     sink: &mut K,
-    trace: bool,
 ) -> Result<(), Stop>
     requires ready { (lines : List LineData) × Heard (lines_of text.now) lines × IsReady machine.old lines }
-    requires traced { machine.old.pool.traced ≡ trace }
-    ensures ok { OnOk result ((o : Opening) (lines : List LineData) → IsAt o machine.old [] → Heard (lines_of text.now) lines → Ran o trace [] machine.new (K.taken sink.old) (K.taken sink.new) out.old.waiting.items out.new.waiting.items (Covers lines [])) }
-    ensures err { IfErr result (λ stop. (o : Opening) (lines : List LineData) → IsAt o machine.old [] → Heard (lines_of text.now) lines → Fails o trace [] stop (K.taken sink.old) (K.taken sink.new) out.old.waiting.items (CoversFront lines)) }
+    ensures ok { OnOk result ((o : Opening) (lines : List LineData) → IsAt o machine.old [] → Heard (lines_of text.now) lines → Ran o machine.old.pool.traced [] machine.new (K.taken sink.old) (K.taken sink.new) out.old.waiting.items out.new.waiting.items (Covers lines [])) }
+    ensures err { IfErr result (λ stop. (o : Opening) (lines : List LineData) → IsAt o machine.old [] → Heard (lines_of text.now) lines → Fails o machine.old.pool.traced [] stop (K.taken sink.old) (K.taken sink.new) out.old.waiting.items (CoversFront lines)) }
     ensures cause { HasStopCause (K.faults sink.old) (K.faults sink.new) result }
 {
     let mut rest = text;
     while !rest.is_empty() {
         let (line, after) = first_line(rest);
-        run_text(alloc, machine, line, out, sink, trace)?;
+        run_text(alloc, machine, line, out, sink)?;
         rest = after;
     }
     Ok(())

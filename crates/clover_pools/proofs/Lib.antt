@@ -4,3 +4,4 @@ pub mod Quiet
 pub mod Calling
 pub mod Serving
 pub mod RecyclingSteps
+pub mod ServerSteps

@@ -37,7 +37,7 @@ may_recycle p t e small has = subst (λ (z : TagParts). RecycleHolds p.setup.poo
     low s = let a = age_third in let w = s.pool.some_wear in omega arith
 
 -- a recycling adds no entry
-quiet_at : (c : RecycleState) (at : Stage) (h : List Entry) (v : View) (x : ℕ) → next_history (recycle_step (record c { stage = at })) h v x ≡ h
+pub quiet_at : (c : RecycleState) (at : Stage) (h : List Entry) (v : View) (x : ℕ) → next_history (recycle_step (record c { stage = at })) h v x ≡ h
 quiet_at c AtVersion h v x = refl
 quiet_at c (AtLink t) h v x = refl
 quiet_at c (AtRoot t) h v x = refl

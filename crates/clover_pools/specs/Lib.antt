@@ -3,3 +3,4 @@ pub mod Small
 pub mod Calls
 pub mod Grants
 pub mod Turns
+pub mod Server

@@ -13,3 +13,5 @@ mod recycling;
 #[cfg(test)]
 mod served;
 mod turns;
+#[cfg(test)]
+mod whole_calls;

@@ -120,7 +120,7 @@ module _ (l : Pool) (m0 : Tagged) (used : List ℕ) (m : Mem) (vs : List View) (
       p.ranged.tags s (suc a.0) t (⊎_elim (λ g. sym (ap link (ap m.next (sym a.4) ∙ x.now)) ∙ g) (λ g. only_some (ltb (suc a.0) (st.sure s)) (tag_at st s (suc a.0)) t (sym (ap link (ap m.fnext (sym a.4) ∙ x.safe)) ∙ g)) f)
   place_cases b t Taken e f = by_held l m st (λ T. InRange l t) st.task b p.stage.here (p.stage.holds b e) (λ bind n q a. ⊎_elim (λ g1. absurd (cc (ap m.next q, ap link a.now, ap link (ap m.next q), g1))) (λ g1. absurd (cc (ap link (ap m.fnext q), ap link a.safe, g1))) f)
       (λ cycle q a. ⊎_elim (λ g1. absurd (cc (ap link (ap m.next q), ap link a.now, g1)))
-          (λ g1. let u : cycle.next ≡ t = let u1 : Some cycle.next ≡ Some t = sym (ap link a.safe) ∙ ap link (ap m.fnext q) ∙ g1 in cc in p.ranged.tags cycle.slot (st.gone cycle.slot) t (a.root ∙ ap Some u)) f)
+      (λ g1. let u : cycle.next ≡ t = let u1 : Some cycle.next ≡ Some t = sym (ap link a.safe) ∙ ap link (ap m.fnext q) ∙ g1 in cc in p.ranged.tags cycle.slot (st.gone cycle.slot) t (a.root ∙ ap Some u)) f)
   place_cases b t (Stocked i) e f = absurd (let o = c.loose b (subst Loose (sym e) tt) in ⊎_elim (λ g. cc (o.0, g)) (λ g. cc (o.0, ap link o.1, g)) f)
   place_cases b t Free e f = absurd (let o = c.loose b (subst Loose (sym e) tt) in ⊎_elim (λ g. cc (o.0, g)) (λ g. cc (o.0, ap link o.1, g)) f)
   place_cases b t Worn e f = absurd (let o = c.loose b (subst Loose (sym e) tt) in ⊎_elim (λ g. cc (o.0, g)) (λ g. cc (o.0, ap link o.1, g)) f)

@@ -9,7 +9,6 @@ use Rattle.clover_map.specs.declared.call.Call.{Call}
 use Rattle.clover_rule.specs.Memory.{Next, word}
 use Rattle.clover_rule.specs.Steps.{Step}
 use Rattle.clover_rule.specs.Words.{next_of, root_of}
-use Rattle.clover_rule.specs.declared.access.Access.{Access}
 use Rattle.clover_rule.specs.declared.access.Act.{Act}
 use Rattle.clover_rule.specs.declared.view.View.{View}
 use Rattle.clover_walk.specs.declared.start.Start.{Start}
@@ -19,9 +18,8 @@ use Rattle.clover_words.specs.declared.bytes.ValueBuf.{ValueBuf}
 use Rattle.clover_call.specs.Caller.{CallHolds}
 use Rattle.clover_sched.specs.Client.{since_of}
 use Rattle.clover_sched.specs.Folds.{Doing}
-use Rattle.clover_sched.specs.Machine.{GoesSoFar}
-use Rattle.clover_sched.specs.Record.{Record}
-use Rattle.clover_sched.specs.Run.{Opening, AllDue, IsCalling, most_made, own_of}
+use Rattle.clover_sched.specs.Machine.{GoesSoFar, most_made}
+use Rattle.clover_sched.specs.Run.{Opening, IsCalling, own_of}
 use Rattle.clover_call.specs.declared.under.Underway.{Underway}
 use Rattle.clover_call.specs.declared.under.Underway.TheVariants.{Nothing}
 use Rattle.clover_sched.proofs.Dues.{stands_turns, under_within, more_allow}
@@ -117,14 +115,6 @@ calling_most o a d h acts n c =
     let own = own_of o.setup a d.taken in
     let within = leads_within p c.call own (begun_call p c.slot c.cursor own c.call) n acts c.leads (begun_within p c.slot c.cursor) in
     more_allow n.walk.turns (budget p) p.words (subst (λ (q : Pool). n.walk.turns ≤ budget q) within.pool within.most)
-
--- no access is made of a call that has made as many as a call makes at most, so a step of a run need not say it
-pub few_law : (o : Opening) (a : ℕ) (d : Doing) (h : List (List ℕ × ℕ)) (r : Record) → AllDue o a d h r → (x : Access) → r.access ≡ Some x → x.refused ≡ false → length d.since < most_made o.setup.pool
-few_law o a d h r dues x is free =
-    let z = dues x is free in
-    let few = z.few in
-    let most = calling_most o a d h _ z.stands z.calling in
-    omega arith
 
 -- what is under way has made fewer accesses than a call makes at most
 pub since_few : (o : Opening) (a : ℕ) (d : Doing) (h : List (List ℕ × ℕ)) (v : View) (u : Underway) (room : ValueBuf) → u ≢ Nothing → CallHolds o.setup.pool u v room → GoesSoFar o a d h u room → length (since_of u v) < most_made o.setup.pool

@@ -6,7 +6,7 @@ use Rattle.std.proofs.lemmas.Option.{same_Some}
 use Rattle.clover_words.specs.declared.pool.Pool.{Pool}
 use Rattle.clover_words.specs.Tag.{tag_number}
 use Rattle.clover_words.specs.Version.{unlinked}
-use Rattle.clover_map.specs.History.{own}
+use Rattle.clover_map.specs.History.{own, is_commit}
 use Rattle.clover_map.specs.declared.call.Call.{Call}
 use Rattle.clover_map.specs.declared.call.Entry.{Entry}
 use Rattle.clover_map.specs.declared.call.Reply.{Reply}
@@ -34,7 +34,7 @@ use Rattle.clover_sched.specs.Client.{access, Stands, Moved, Matches, IsDoing, W
 use Rattle.clover_sched.specs.Alone.{Advances}
 use Rattle.clover_sched.specs.Ends.{end_tag, seen_tag}
 use Rattle.clover_sched.specs.Folds.{Doing, stepped}
-use Rattle.clover_sched.specs.Run.{Opening, IsAnswer, IsCause, IsCommit, IsStep, Wrote}
+use Rattle.clover_sched.specs.Run.{Opening, IsAnswer, IsCause, IsStep, Wrote}
 use Rattle.clover_sched.specs.Stepping.{Accesses, Enters, next_entry}
 use Rattle.clover_sched.proofs.Accessing.{matches_rested, due_so, held, stands_by, stands_over, so, came_so, alone_so, moved_so, number_so}
 use Rattle.clover_sched.proofs.Advancing.{goes_on, answers}
@@ -193,7 +193,7 @@ module _ (o : Opening) (i : ℕ) (x : ClientState) (p q : Plain) (st : Stands o 
               let g = h.busy busy in let b = g.before before in (
                 step_in n made acc reply adds t more e.2 d Quiet g b.0 (sym h.refusing ∙ f.asked) busy
                     (subst (λ (r : Reply). Decides o.setup.pool p.words o.names w.pass.since call r) (sym f.went.decided.1) (decides_so f.went.decided.0.made.now.words (reply_of (new_tag u) call) (ap (λ (k : Open). k.words) (sym f.went.decided.0.made.tells.0)) f.went.decided.0.decides))
-                    (ap IsCommit f.went.decided.1 ∙ commits_always (new_tag u) call, link_act o.setup.pool u y.node.under v w x.room y.room n u a go behind),
+                    (ap is_commit f.went.decided.1 ∙ commits_always (new_tag u) call, link_act o.setup.pool u y.node.under v w x.room y.room n u a go behind),
                 subst (λ (k : View). Matches new k (stepped d (Some (access i act false)) (Some (next_entry (suc i) x.number call reply)) Quiet)) (sym to) (record {
                   refusing = ap (λ (k : ClientState). k.refusing) f.rest;
                   idle = λ none. absurd (goes none);

@@ -1,7 +1,6 @@
 -- What an event of an actor comes to, by what the machine's client of that number does.
 use Rattle.std.proofs.Common.{◌≡◌, ◌≢◌, ℕ, ◌-◌, ◌≤◌, ◌<◌, suc, length, set, get_or, List, [], ◌∷◌, ◌++◌, Bool, true, refl, sym, ap, ◌∙◌, subst, arith}
 use Rattle.std.specs.Prelude.{Option, Some, None, Result, Ok, Err, IfOk, OnErr, slice_get, if◌then◌else◌}
-use Rattle.std.specs.FinMap as finite
 use Rattle.std.proofs.lemmas.Result.{IfOk-weaker}
 use Rattle.std.proofs.lemmas.Option.{same_Some}
 use Rattle.clover_map.specs.Legal.{Legal}
@@ -30,9 +29,9 @@ use Rattle.clover_sched.specs.Alone.{AloneSoFar}
 use Rattle.clover_sched.specs.Client.{Stands, Matches, Went, Begins, IsLast, spent, spent_by, since_of, step_record}
 use Rattle.clover_sched.specs.Ends.{ended}
 use Rattle.clover_sched.specs.Folds.{accesses_in, doing}
-use Rattle.clover_sched.specs.Machine.{Parts, IsAt, IsBehind, IsSame, IsBusy, HasCall, MayCome, Happens, IsTold, left, left_of, left_by}
+use Rattle.clover_sched.specs.Machine.{Parts, IsAt, IsBehind, IsSame, IsBusy, HasCall, MayCome, Happens, IsTold, left, left_of, left_by, most_made}
 use Rattle.clover_sched.specs.Record.{Record}
-use Rattle.clover_sched.specs.Run.{Opening, most_made}
+use Rattle.clover_sched.specs.Run.{Opening}
 use Rattle.clover_sched.specs.declared.client.ClientState.{ClientState}
 use Rattle.clover_call.specs.declared.under.Underway.{Underway}
 use Rattle.clover_call.specs.declared.under.Underway.TheVariants.{Nothing}
@@ -46,7 +45,8 @@ use Rattle.clover_sched.proofs.Turns.{not_busy}
 use Rattle.clover_sched.proofs.Busies.{busy_within, busy_here}
 use Rattle.clover_sched.proofs.Budget.{since_few}
 use Rattle.clover_sched.proofs.Lefts.{left_less}
-use Rattle.clover_sched.proofs.Onward.{with_client, with_pool, refusing, begun_missing, begun_busy, begun_client, idled_far, idled_client, refused_client, refused_far, stepped_client}
+use Rattle.clover_sched.proofs.NoAccess.{refusing, begun_missing, begun_busy, begun_client, idled_far, idled_client, refused_client, refused_far}
+use Rattle.clover_sched.proofs.Onward.{with_client, with_pool, stepped_client}
 use Rattle.clover_sched.proofs.Bound.{bound_within, bound_key}
 use Rattle.clover_sched.proofs.Places.{nth_here, nth_get, set_same}
 
@@ -104,8 +104,8 @@ module _ (m : Parts) (a : ℕ) (one : 1 ≤ a) where
   step_happens x y q note here went running o rs at =
       let w = went o (a - 1) same_actor (at.each (a - 1) x here).stands in
       let runs : Running q = running (w.moved.opened ∙ at.pool.opened) in
-      let legal : Legal finite.empty [] (history q) = subst (λ (f : Tagged). Legal f [] (history q)) (w.moved.first ∙ at.pool.first) (subst (λ (u : List ℕ). Legal q.first u (history q)) (w.moved.used ∙ at.pool.used) runs.rule.history_and_map.legal) in
-      (_, ap Step same_actor, refl, stepped_client o m rs at (a - 1) x y q note here w runs (subst (λ (h : List Entry). Legal finite.empty [] h) (sym w.moved.entered) legal), went_told o m (a - 1) x y q note w)
+      let legal : Legal o.first o.used (history q) = subst (λ (f : Tagged). Legal f o.used (history q)) (w.moved.first ∙ at.pool.first) (subst (λ (u : List ℕ). Legal q.first u (history q)) (w.moved.used ∙ at.pool.used) runs.rule.history_and_map.legal) in
+      (_, ap Step same_actor, refl, stepped_client o m rs at (a - 1) x y q note here w runs (subst (λ (h : List Entry). Legal o.first o.used h) (sym w.moved.entered) legal), went_told o m (a - 1) x y q note w)
 
 pub kept_at : (o : Opening) (m n : Parts) (rs : List Record) → IsSame m n → IsAt o m rs → IsAt o n rs
 kept_at o m n rs same at =

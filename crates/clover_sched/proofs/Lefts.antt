@@ -8,8 +8,7 @@ use Rattle.clover_walk.proofs.Calling.{since_few as walk_few}
 use Rattle.clover_get.specs.Getting.{Stage as GetStage, Seeking as GetSeeking, AtMeta as GetMeta, AtValue, AtFound, AtDead as GetDead, AtBad as GetBad, Over as GetOver}
 use Rattle.clover_get.specs.Holding.{StandsOn, copied}
 use Rattle.clover_sched.specs.Client.{since_of}
-use Rattle.clover_sched.specs.Machine.{left_by}
-use Rattle.clover_sched.specs.Run.{most_made}
+use Rattle.clover_sched.specs.Machine.{left_by, most_made}
 use Rattle.clover_call.specs.declared.under.Underway.{Underway}
 use Rattle.clover_call.specs.declared.under.Underway.TheVariants.{Nothing, Get, Write}
 

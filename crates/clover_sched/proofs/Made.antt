@@ -56,11 +56,11 @@ pub record IsFresh (s : Setup) (keys : List (List ℕ)) (p : Plain) : Type 0 whe
   pub whole : p.whole ≡ true
 
 pub opening : Setup → List (List ℕ) → Plain → Opening
-opening s keys p = record { setup = s; words = p.words; names = bindings_from 0 keys }
+opening s keys p = record { setup = s; words = p.words; names = bindings_from 0 keys; first = finite.empty; used = []; made = 0 }
 
 pub is_opening : (s : Setup) (keys : List (List ℕ)) (p : Plain) → IsFresh s keys p → Running p → IsOpening s keys (opening s keys p)
 unfolding opening
-is_opening s keys p fresh running = record { setup = refl; names = refl; sized = running.rule.helped.sized ∙ ap (λ (z : Setup). pool_words z.pool) fresh.setup; words = fresh.preset }
+is_opening s keys p fresh running = record { setup = refl; names = refl; sized = running.rule.helped.sized ∙ ap (λ (z : Setup). pool_words z.pool) fresh.setup; words = fresh.preset; first = refl; used = refl; made = refl }
 
 pub made_at : (m : Parts) (s : Setup) (keys : List (List ℕ)) → m.setup ≡ s → m.names ≡ keys → length keys ≤ s.pool.slots → AreDistinct keys → (m.pool.opened ≡ true → Running m.pool) → IsFresh s keys m.pool → (length m.clients ≡ s.clients) × All (IsIdle s.pool) m.clients → IsAt (opening s keys m.pool) m []
 unfolding opening
@@ -89,7 +89,7 @@ made_at m s keys setup names slots apart running fresh clients = record {
   far = λ a above. refl;
   legal = tt;
   found = found;
-  alone = alone_first (record { setup = s; words = m.pool.words; names = bindings_from 0 keys }) m.pool.words m.clients;
+  alone = alone_first (opening s keys m.pool) m.pool.words m.clients;
 }
   where
     none : (b : Bool) → ◌≡◌ {A = List Access} [] (if b then [] else [])
@@ -99,7 +99,7 @@ made_at m s keys setup names slots apart running fresh clients = record {
     view : (i : ℕ) → i < s.clients → view_at m.pool i ≡ start_view s keys i
     view i below = fresh.views i (view_at m.pool i) (nth_default m.pool.views i nobody (omega (arith, below, fresh.seats)))
 
-    stands : (i : ℕ) (x : ClientState) → IsIdle s.pool x → i < s.clients → Stands (record { setup = s; words = m.pool.words; names = bindings_from 0 keys }) m.pool i x
+    stands : (i : ℕ) (x : ClientState) → IsIdle s.pool x → i < s.clients → Stands (opening s keys m.pool) m.pool i x
     stands i x idle below =
         let role = ap (λ (v : View). v.pass.role) (view i below) in
         record {
@@ -133,7 +133,7 @@ made_at m s keys setup names slots apart running fresh clients = record {
     below_so : (i : ℕ) (x : ClientState) → nth m.clients i ≡ Some x → i < s.clients
     below_so i x here = subst (λ (n : ℕ). i < n) clients.0 (nth_within m.clients i x here)
 
-    found : AllFound (record { setup = s; words = m.pool.words; names = bindings_from 0 keys }) []
+    found : AllFound (opening s keys m.pool) []
     found before after call slot whole named =
         let none : [] ≡ before = nothing before after whole in
         subst (λ (l : List Record). HasChain s.pool (words_after s.pool m.pool.words l) slot) none
@@ -141,13 +141,13 @@ made_at m s keys setup names slots apart running fresh clients = record {
       where
         client : (z : Option ClientState) → nth m.clients 0 ≡ z → HasChain s.pool m.pool.words slot
         client None e = absurd (let past = nth_past m.clients 0 e in let some = s.some_client in let all = clients.0 in omega arith)
-        client (Some x) e = chain_here (record { setup = s; words = m.pool.words; names = bindings_from 0 keys }) [] m.pool 0 x (stands 0 x (is_idle 0 x e) (below_so 0 x e)) (running fresh.opened) refl call slot named None tt
+        client (Some x) e = chain_here (opening s keys m.pool) [] m.pool 0 x (stands 0 x (is_idle 0 x e) (below_so 0 x e)) (running fresh.opened) refl call slot named None tt
 
         nothing : (xs ys : List Record) → [] ≡ xs ++ ys → [] ≡ xs
         nothing [] ys e = refl
         nothing (x ∷ xs) ys e = absurd (let q : 0 ≡ suc (length (xs ++ ys)) = ap length e in omega arith)
 
-    each : (i : ℕ) (x : ClientState) → nth m.clients i ≡ Some x → IsClientAt (record { setup = s; words = m.pool.words; names = bindings_from 0 keys }) m.pool i x []
+    each : (i : ℕ) (x : ClientState) → nth m.clients i ≡ Some x → IsClientAt (opening s keys m.pool) m.pool i x []
     each i x here =
         let idle = is_idle i x here in
         let under : x.node.under ≡ Nothing = ap (λ (n : CallerState). n.under) idle.node in

@@ -1,11 +1,11 @@
 -- What one access of a client is in a run, and where the client stands behind it.
-use Rattle.std.proofs.Common.{◌≡◌, ℕ, suc, ◌+◌, ◌==◌, List, [], ◌∷◌, ◌++◌, length, get_or, Bool, true, false, cond, if◌then◌else◌, refl, sym, ap, ◌∙◌, subst, arith, eq-eqb}
+use Rattle.std.proofs.Common.{◌≡◌, ℕ, suc, ◌+◌, ◌==◌, List, [], ◌∷◌, ◌++◌, length, get_or, Bool, true, false, cond, if◌then◌else◌, refl, sym, ap, ◌∙◌, subst, arith, eq-eqb, option_to_list}
 use Rattle.std.specs.Prelude.{Option, Some, None, IfSome, IsSome}
 use Rattle.std.proofs.lemmas.List.Elements.{filter-append}
 use Rattle.std.proofs.lemmas.Option.{same_Some}
 use Rattle.std.proofs.Math.ListN.{length-append}
 use Rattle.clover_words.specs.declared.pool.Pool.{Pool}
-use Rattle.clover_map.specs.History.{own}
+use Rattle.clover_map.specs.History.{own, is_commit}
 use Rattle.clover_map.specs.declared.call.Call.{Call}
 use Rattle.clover_map.specs.declared.call.Call.TheVariants.{Get as GetOf, Put as PutOf, Delete as DeleteOf, Swap as SwapOf}
 use Rattle.clover_map.specs.declared.call.Entry.{Entry}
@@ -25,8 +25,8 @@ use Rattle.clover_sched.specs.declared.event.Note.{Note}
 use Rattle.clover_sched.specs.Alone.{EndsIn}
 use Rattle.clover_call.specs.Caller.{CallerHolds, AreCursors, CallHolds, call_under}
 use Rattle.clover_sched.specs.Client.{access, Stands, Moved, Went, Matches, HasLinked, since_of, step_record}
-use Rattle.clover_sched.specs.Folds.{Doing, listed, words_by, made_by, takes_by}
-use Rattle.clover_sched.specs.Run.{Opening, IsStep, IsEntry, IsCause, IsCommit, Wrote}
+use Rattle.clover_sched.specs.Folds.{Doing, words_by, made_by, takes_by}
+use Rattle.clover_sched.specs.Run.{Opening, IsStep, IsEntry, IsCause, Wrote}
 
 -- a call under way is none at rest
 pub task_there : (o : Option Task) (t : Task) → o ≡ Some t → o ≡ None → ⊥
@@ -36,7 +36,7 @@ task_there o t e f = let g : Some t ≡ None = sym e ∙ f in cc
 pub none_taken : (n : ℕ) (o : Option Reply) → o ≡ None → n ≡ n + takes_by o
 none_taken n o none = let e : takes_by o ≡ 0 = ap takes_by none in omega arith
 
-pub plain_taken : (n : ℕ) (r : Reply) → IsCommit r ≡ false → n ≡ n + takes_by (Some r)
+pub plain_taken : (n : ℕ) (r : Reply) → is_commit r ≡ false → n ≡ n + takes_by (Some r)
 plain_taken n (Stored t) h = absurd cc
 plain_taken n (Deleted t) h = absurd cc
 plain_taken n (Found t x) h = omega arith
@@ -92,7 +92,7 @@ moved_kept i a e p p1 q k m = record {
   last = m.last;
   others = λ j ne. m.others j ne ∙ kept_view j p p1 k;
   seats = m.seats ∙ ap length k.views;
-  entries = m.entries ∙ ap (λ (l : List Entry). l ++ listed e) k.entries;
+  entries = m.entries ∙ ap (λ (l : List Entry). l ++ option_to_list e) k.entries;
   entered = m.entered;
   accesses = m.accesses ∙ (λ z. if k.traced z then k.accesses z ++ a ∷ [] else k.accesses z);
   made = m.made ∙ ap (λ (n : ℕ). made_by n (Some a)) k.made;

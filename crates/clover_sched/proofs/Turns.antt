@@ -1,6 +1,7 @@
 -- What each turn of a node tells of its client's call: whether it had committed and has, what its step did, and the acts since its start.
 use Prim.Native.Nat.{zero, suc}
 use Rattle.std.proofs.Common.{◌≡◌, ◌≢◌, ℕ, ◌/◌, ◌%◌, ◌≤◌, List, [], ◌∷◌, ◌++◌, Bool, true, false, cond, refl, sym, ap, ◌∙◌, inl, inr, subst, arith, eq-eqb}
+use Rattle.clover_map.specs.History.{is_commit}
 use Rattle.clover_words.specs.declared.bytes.ValueBuf.{ValueBuf}
 use Rattle.clover_words.specs.declared.word.Side.{Side}
 use Rattle.clover_words.specs.declared.word.Side.TheVariants.{Current, Flushed}
@@ -34,7 +35,7 @@ use Rattle.clover_call.specs.declared.under.Underway.TheVariants.{Nothing, Get, 
 use Rattle.clover_call.proofs.PutStep.{both}
 use Rattle.clover_sched.specs.Client.{since_of, spent_at, spent_by}
 use Rattle.clover_sched.specs.Ends.{end_tag, seen_tag}
-use Rattle.clover_sched.specs.Run.{IsCommit, Shortens, Wrote}
+use Rattle.clover_sched.specs.Run.{Shortens, Wrote}
 
 -- a quiet step adds no entry
 pub quiet_history : (a : Step) (h : List Entry) (v : View) (x : ℕ) → IsQuiet a x → next_history a h v x ≡ h
@@ -175,13 +176,13 @@ seen_dead t =
     ap (λ (n : Next). tag_number (record { node = home t / 65536; index = home t % 65536; generation = gen n })) e ∙ (omega arith)
 
 -- whether a reply is a commit's
-pub commits_always : (t : ℕ) (call : Call) → IsCommit (reply_of t call) ≡ true
+pub commits_always : (t : ℕ) (call : Call) → is_commit (reply_of t call) ≡ true
 commits_always t (GetOf key) = refl
 commits_always t (PutOf key x) = refl
 commits_always t (DeleteOf key) = refl
 commits_always t (SwapOf key e x) = refl
 
-pub commits_nothing : (a : Answer) (room : ValueBuf) → CommitsNothing a → IsCommit (reply_in a room) ≡ false
+pub commits_nothing : (a : Answer) (room : ValueBuf) → CommitsNothing a → is_commit (reply_in a room) ≡ false
 commits_nothing (Stored u) room h = absurd h
 commits_nothing (Found u f) room h = refl
 commits_nothing Absent room h = refl

@@ -13,7 +13,7 @@ use Rattle.clover_sched.specs.declared.runner.Advance.{Advance}
 use Rattle.clover_sched.specs.declared.runner.Work.{Work}
 use Rattle.clover_sched.specs.declared.runner.Work.TheVariants.{Steps, Finish}
 use Rattle.clover_sched.specs.Folds.{doing}
-use Rattle.clover_sched.specs.Lines.{Calls, IsTurnedAway, Stands}
+use Rattle.clover_sched.specs.Lines.{Calls, IsTurnedAway, CoversLine}
 use Rattle.clover_sched.specs.Machine.{Parts, IsAt, IsBusy, Happens}
 use Rattle.clover_sched.specs.Record.{Record}
 use Rattle.clover_sched.specs.Run.{Opening, Still, Fits, Goes}
@@ -26,14 +26,14 @@ none_long [] few = refl
 none_long (r ∷ rs) few = absurd (omega arith)
 
 -- nothing is left
-pub leaves_nothing : (l : Line) (a : ℕ) (before more : List Record) → Stands l before more → Leaves l (Steps a 0) before more
+pub leaves_nothing : (l : Line) (a : ℕ) (before more : List Record) → CoversLine l before more → Leaves l (Steps a 0) before more
 leaves_nothing l a before more all = record {
   all = λ rs k. nothing rs (omega (arith, k.1));
   part = λ rs k. inr (nothing rs k.1);
 }
   where
-    nothing : (rs : List Record) → length rs ≤ 0 → Stands l before (more ++ rs)
-    nothing rs few = subst (λ qs. Stands l before qs) (sym (ap (λ qs. more ++ qs) (none_long rs few) ∙ append-nil more)) all
+    nothing : (rs : List Record) → length rs ≤ 0 → CoversLine l before (more ++ rs)
+    nothing rs few = subst (λ qs. CoversLine l before qs) (sym (ap (λ qs. more ++ qs) (none_long rs few) ∙ append-nil more)) all
 
 module _ (a : ℕ) (before : List Record) (r : Record) where
   pub turned_away : (t : Task) → r.event ≡ Begin a t → IsTurnedAway r.note → Calls a t before (r ∷ [])
@@ -101,7 +101,7 @@ module _ (m n : Parts) (l k : Line) (e : Event) (note : Note) (is : l ≡ k) (ha
   })
 
   -- and nothing is left of it
-  pub advances_last : (x : Advance) (a : ℕ) → x.note ≡ note → x.left ≡ Steps a 0 → 1 ≤ a → ((rs : List Record) (r : Record) → r.event ≡ e → r.note ≡ note → Stands k rs (r ∷ [])) → Advances m n l (Some x)
+  pub advances_last : (x : Advance) (a : ℕ) → x.note ≡ note → x.left ≡ Steps a 0 → 1 ≤ a → ((rs : List Record) (r : Record) → r.event ≡ e → r.note ≡ note → CoversLine k rs (r ∷ [])) → Advances m n l (Some x)
   advances_last x a says left one stands = advances_on x says (subst (λ (w : Work). 1 ≤ actor_in w) (sym left) one)
       (λ o rs r at is_event is_note. subst (λ (w : Work). Leaves k w rs (r ∷ [])) (sym left) (leaves_nothing k a rs (r ∷ []) (stands rs r is_event is_note)))
 
@@ -126,6 +126,6 @@ part_here l w before more x = subst (λ qs. IsPartOrAll l before qs) (append-nil
 pub left_then : (l : Line) (w : Work) (left : Option Work) (before more next : List Record) → Leaves l w before more → IsLeft (steps_line w) left (before ++ more) next → IsLeft l left before (more ++ next)
 left_then l w None before more next x all = x.all next all
 left_then l w (Some v) before more next x y = record {
-  all = λ rs k. subst (λ qs. Stands l before qs) (sym (append_assoc more next rs)) (x.all (next ++ rs) (y.all rs (subst (λ qs. Stands (steps_line v) qs rs) (sym (append_assoc before more next)) k)));
+  all = λ rs k. subst (λ qs. CoversLine l before qs) (sym (append_assoc more next rs)) (x.all (next ++ rs) (y.all rs (subst (λ qs. CoversLine (steps_line v) qs rs) (sym (append_assoc before more next)) k)));
   part = λ rs k. subst (λ qs. IsPartOrAll l before qs) (sym (append_assoc more next rs)) (part_then l w before more (next ++ rs) x (y.part rs (subst (λ qs. IsPartOf (steps_line v) qs rs) (sym (append_assoc before more next)) k)));
 }

@@ -1,6 +1,6 @@
 -- A client of the machine: what it has under way and what it knows, that this is what the records say of it, and what one step of it does.
 use Prim.Native.Nat.{suc}
-use Rattle.std.specs.Prelude.{◌≡◌, ◌≢◌, ℕ, ◌+◌, ◌-◌, ◌≤◌, min, List, [], ◌∷◌, ◌++◌, length, Bool, true, false, cond, if◌then◌else◌, Option, Some, None}
+use Rattle.std.specs.Prelude.{◌≡◌, ◌≢◌, ℕ, ◌+◌, ◌-◌, ◌≤◌, min, List, [], ◌∷◌, ◌++◌, length, Bool, true, false, cond, if◌then◌else◌, Option, Some, None, option_to_list}
 use Rattle.clover_words.specs.declared.pool.Pool.{Pool}
 use Rattle.clover_words.specs.declared.setup.Setup.{Setup}
 use Rattle.clover_words.specs.Preset.{buffers_total, HasDealt}
@@ -38,7 +38,7 @@ use Rattle.clover_sched.specs.Alone.{EndsIn, Advances}
 use Rattle.clover_call.specs.Calling.{Calling, due, after}
 use Rattle.clover_call.specs.Mirroring.{Mirrors}
 use Rattle.clover_sched.specs.Ends.{end_tag}
-use Rattle.clover_sched.specs.Folds.{Doing, listed, words_by, made_by, begun, stepped}
+use Rattle.clover_sched.specs.Folds.{Doing, words_by, made_by, begun, stepped}
 use Rattle.clover_sched.specs.Record.{Record}
 use Rattle.clover_sched.specs.Run.{Opening, Flushes, IsStep, Tells, begin_note, own_of, room}
 
@@ -125,7 +125,7 @@ pub record Moved (i : ℕ) (x : Access) (e : Option Entry) (p q : Plain) : Type 
   pub last : x.refused ≡ false → IsLast x.act (view_at q i).pass.since
   pub others : (j : ℕ) → j ≢ i → view_at q j ≡ view_at p j
   pub seats : length q.views ≡ length p.views
-  pub entries : q.entries ≡ p.entries ++ listed e
+  pub entries : q.entries ≡ p.entries ++ option_to_list e
   pub entered : q.entries ≡ history q
   pub accesses : q.accesses ≡ (if p.traced then p.accesses ++ x ∷ [] else p.accesses)
   pub made : q.made ≡ made_by p.made (Some x)

@@ -1,6 +1,6 @@
 -- What some records lead to, each thing as a fold of its own: the accesses, the entries, the words, and what each client has under way.
 use Prim.Native.Nat.{suc}
-use Rattle.std.specs.Prelude.{ℕ, ◌+◌, ◌==◌, List, [], ◌∷◌, ◌++◌, Bool, true, false, if◌then◌else◌, Option, Some, None}
+use Rattle.std.specs.Prelude.{ℕ, ◌+◌, ◌==◌, List, [], ◌∷◌, ◌++◌, Bool, true, false, if◌then◌else◌, Option, Some, None, option_to_list, fold}
 use Rattle.clover_words.specs.declared.pool.Pool.{Pool}
 use Rattle.clover_map.specs.declared.call.Entry.{Entry}
 use Rattle.clover_map.specs.declared.call.Reply.{Reply}
@@ -15,23 +15,18 @@ use Rattle.clover_sched.specs.declared.event.Note.{Note}
 use Rattle.clover_sched.specs.declared.event.Note.TheVariants.{Quiet, Answered, Refused, Busy, Missing}
 use Rattle.clover_sched.specs.Record.{Record}
 
--- none or one
-abbrev pub listed : {A : Type 0} → Option A → List A
-listed None = []
-listed (Some x) = x ∷ []
-
-abbrev pub along : {A X : Type 0} → (A → X → A) → A → List X → A
-along f a [] = a
-along f a (x ∷ xs) = along f (f a x) xs
-
 -- the accesses and the entries of some records, in order
 abbrev pub accesses_in : List Record → List Access
 accesses_in [] = []
-accesses_in (r ∷ rs) = listed r.access ++ accesses_in rs
+accesses_in (r ∷ rs) = option_to_list r.access ++ accesses_in rs
+
+-- the accesses that are listed: with a trace all, and without one none
+abbrev pub traced_in : Bool → List Record → List Access
+traced_in traced rs = if traced then accesses_in rs else []
 
 abbrev pub entries_in : List Record → List Entry
 entries_in [] = []
-entries_in (r ∷ rs) = listed r.entry ++ entries_in rs
+entries_in (r ∷ rs) = option_to_list r.entry ++ entries_in rs
 
 -- the words after some records
 abbrev pub words_by : Pool → List ℕ → Option Access → List ℕ
@@ -39,15 +34,15 @@ words_by p ws None = ws
 words_by p ws (Some x) = if x.refused then ws else words_after_act p ws x.act
 
 abbrev pub words_after : Pool → List ℕ → List Record → List ℕ
-words_after p ws rs = along (λ (w : List ℕ) (r : Record). words_by p w r.access) ws rs
+words_after p ws rs = fold (λ (w : List ℕ) (r : Record). words_by p w r.access) ws rs
 
--- how many accesses were made; a refused one was not
+-- how many accesses were made behind so many before them; a refused one was not
 abbrev pub made_by : ℕ → Option Access → ℕ
 made_by n None = n
 made_by n (Some x) = if x.refused then n else suc n
 
-abbrev pub made_in : List Record → ℕ
-made_in rs = along (λ (n : ℕ) (r : Record). made_by n r.access) 0 rs
+abbrev pub made_after : ℕ → List Record → ℕ
+made_after n rs = fold (λ (m : ℕ) (r : Record). made_by m r.access) n rs
 
 -- What an actor has under way: its task, its reply from the deciding access on, the acts that were made since its begin, whether its next access is refused, and how many buffers of its stock its calls before have committed.
 pub record Doing : Type 0 where
@@ -105,4 +100,4 @@ abbrev pub does_of : ℕ → Doing → Record → Doing
 does_of a d r = if actor_of r.event == a then does d r r.event else d
 
 abbrev pub doing : ℕ → List Record → Doing
-doing a rs = along (does_of a) nothing rs
+doing a rs = fold (does_of a) nothing rs

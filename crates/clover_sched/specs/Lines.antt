@@ -35,14 +35,14 @@ pub record Calls (a : ℕ) (t : Task) (before rs : List Record) : Type 0 where
   pub on : (IsTurnedAway first.note → ⊥) → Finishes a (before ++ first ∷ []) more
 
 -- the line stands for these records, behind those before
-abbrev pub Stands : Line → List Record → List Record → Type 0
-Stands (line.Begin a t) before rs = (r : Record) × (rs ≡ r ∷ []) × (r.event ≡ Begin a t)
-Stands (line.Step a n) before rs = All (λ (r : Record). r.event ≡ Step a) rs × (length rs ≡ n)
-Stands (line.Finish a) before rs = Finishes a before rs
-Stands (line.Call a t) before rs = Calls a t before rs
-Stands (line.Refuse a) before rs = (r : Record) × (rs ≡ r ∷ []) × (r.event ≡ Refuse a)
+abbrev pub CoversLine : Line → List Record → List Record → Type 0
+CoversLine (line.Begin a t) before rs = (r : Record) × (rs ≡ r ∷ []) × (r.event ≡ Begin a t)
+CoversLine (line.Step a n) before rs = All (λ (r : Record). r.event ≡ Step a) rs × (length rs ≡ n)
+CoversLine (line.Finish a) before rs = Finishes a before rs
+CoversLine (line.Call a t) before rs = Calls a t before rs
+CoversLine (line.Refuse a) before rs = (r : Record) × (rs ≡ r ∷ []) × (r.event ≡ Refuse a)
 
 -- the lines, in order, stand for these records
 abbrev pub Covers : List Line → List Record → List Record → Type 0
 Covers [] before rs = rs ≡ []
-Covers (l ∷ ls) before rs = (mine rest : List Record) × (rs ≡ mine ++ rest) × Stands l before mine × Covers ls (before ++ mine) rest
+Covers (l ∷ ls) before rs = (mine rest : List Record) × (rs ≡ mine ++ rest) × CoversLine l before mine × Covers ls (before ++ mine) rest

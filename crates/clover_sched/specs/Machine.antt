@@ -1,6 +1,6 @@
 -- What contracts see of a machine, and that it stands where some records lead.
 use Prim.Native.Nat.{suc}
-use Rattle.std.specs.Prelude.{◌≡◌, ◌≢◌, ℕ, ◌+◌, ◌-◌, ◌<◌, ◌≤◌, ◌==◌, List, [], ◌∷◌, ◌++◌, length, Contains, true, false, if◌then◌else◌, All, Option, Some, None, MatchOption}
+use Rattle.std.specs.Prelude.{◌≡◌, ◌≢◌, ℕ, ◌+◌, ◌-◌, ◌<◌, ◌≤◌, ◌==◌, List, [], ◌∷◌, ◌++◌, length, Contains, true, false, if◌then◌else◌, All, Option, Some, None, MatchOption, fold}
 use Rattle.std.specs.FinMap as finite
 use Rattle.clover_words.specs.declared.pool.Pool.{Pool}
 use Rattle.clover_words.specs.declared.setup.Setup.{Setup}
@@ -16,7 +16,7 @@ use Rattle.clover_rule.specs.Lists.{nth, Within}
 use Rattle.clover_rule.specs.Preset.{bindings_from}
 use Rattle.clover_rule.specs.declared.access.Access.{Access}
 use Rattle.clover_rule.specs.declared.view.View.{View}
-use Rattle.clover_walk.specs.Walking.{key_at}
+use Rattle.clover_walk.specs.Walking.{budget, key_at, most_accesses}
 use Rattle.clover_cache.specs.Node.{Known}
 use Rattle.clover_plain.specs.Plain.{Plain, Kept, history, view_at}
 use Rattle.clover_plain.specs.Preset.{IsPreset, AreDistinct}
@@ -32,9 +32,9 @@ use Rattle.clover_call.specs.Calling.{Calling, own_words}
 use Rattle.clover_call.specs.Mirroring.{Mirrors}
 use Rattle.clover_sched.specs.Client.{Stands, Matches, IsLast, IsTask, spent, since_of}
 use Rattle.clover_sched.specs.Ends.{ended, IsLatest}
-use Rattle.clover_sched.specs.Folds.{Doing, entries_in, accesses_in, words_after, made_in, doing, along}
+use Rattle.clover_sched.specs.Folds.{Doing, entries_in, traced_in, words_after, made_after, doing}
 use Rattle.clover_sched.specs.Record.{Record}
-use Rattle.clover_sched.specs.Run.{Opening, IsRun, IsCalling, own_of, most_made}
+use Rattle.clover_sched.specs.Run.{Opening, IsRun, IsCalling, own_of}
 
 pub record Parts : Type 0 where
   pub setup : Setup
@@ -51,21 +51,21 @@ asks a n (Step b) = n
 asks a n (Refuse b) = n
 
 abbrev pub asked : ℕ → List Record → ℕ
-asked a rs = along (λ (n : ℕ) (r : Record). asks a n r.event) 0 rs
+asked a rs = fold (λ (n : ℕ) (r : Record). asks a n r.event) 0 rs
 
 -- The pool is as these records left it.
 pub record IsPoolAt (o : Opening) (p : Plain) (rs : List Record) : Type 0 where
   pub setup : p.setup ≡ o.setup
   pub start : p.start ≡ o.words
-  pub first : p.first ≡ finite.empty
-  pub used : p.used ≡ []
+  pub first : p.first ≡ o.first
+  pub used : p.used ≡ o.used
   pub opened : p.opened ≡ true
   pub whole : p.whole ≡ true
   pub words : p.words ≡ words_after o.setup.pool o.words rs
   pub entries : p.entries ≡ entries_in rs
   pub entered : p.entries ≡ history p
-  pub accesses : p.accesses ≡ (if p.traced then accesses_in rs else [])
-  pub made : p.made ≡ made_in rs
+  pub accesses : p.accesses ≡ traced_in p.traced rs
+  pub made : p.made ≡ made_after o.made rs
   pub seats : length p.views ≡ o.setup.clients
 
 -- A client's cursors are tags at which its answered calls ended, of keys that have slots: the one set last that of the latest call of all, and each of the list that of the latest one on its key.
@@ -100,19 +100,22 @@ pub record IsAt (o : Opening) (m : Parts) (rs : List Record) : Type 0 where
   pub each : (i : ℕ) (x : ClientState) → nth m.clients i ≡ Some x → IsClientAt o m.pool i x rs
   -- a client that there is not has no task
   pub far : (a : ℕ) → o.setup.clients < a → (doing a rs).task ≡ None
-  pub legal : Legal finite.empty [] (entries_in rs)
+  pub legal : Legal o.first o.used (entries_in rs)
   pub found : AllFound o rs
   pub alone : AloneSoFar o m.pool.words m.clients rs
 
 abbrev pub IsBehind : Parts → Type 0
 IsBehind m = (o : Opening) × (rs : List Record) × IsAt o m rs
 
--- where the run of a setup and of these keys begins: the words of the preset pool, no more and no less
+-- where the first run of a setup and of these keys begins: the words of the preset pool, no more and no less, and nothing before them
 pub record IsOpening (s : Setup) (keys : List (List ℕ)) (o : Opening) : Type 0 where
   pub setup : o.setup ≡ s
   pub names : o.names ≡ bindings_from 0 keys
   pub sized : length o.words ≡ pool_words s.pool
   pub words : IsPreset s keys o.words
+  pub first : o.first ≡ finite.empty
+  pub used : o.used ≡ []
+  pub made : o.made ≡ 0
 
 -- what a client has that asks for a call: a slot with its key, and for a call that writes a buffer
 pub record HasFor (m : Parts) (a : ℕ) (call : Call) : Type 0 where
@@ -139,6 +142,10 @@ pub record IsSame (m n : Parts) : Type 0 where
   pub names : n.names ≡ m.names
   pub pool : Kept m.pool n.pool
   pub clients : n.clients ≡ m.clients
+
+-- the most accesses of one call, which ends once its turns reach the budget
+abbrev pub most_made : Pool → ℕ
+most_made p = most_accesses p (budget p)
 
 -- how many accesses a call may still make
 abbrev pub left_by : Pool → Underway → View → ℕ

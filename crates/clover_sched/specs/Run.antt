@@ -1,6 +1,6 @@
 -- What a run is: a list of records of which each follows those before it.
 use Prim.Native.Nat.{suc}
-use Rattle.std.specs.Prelude.{◌≡◌, ℕ, ◌*◌, ◌<◌, ltb, List, [], ◌∷◌, ◌++◌, length, Bool, true, false, if◌then◌else◌, Option, Some, None, IfSome, IsSome}
+use Rattle.std.specs.Prelude.{◌≡◌, ℕ, ◌*◌, ◌<◌, ltb, List, [], ◌∷◌, ◌++◌, length, true, false, if◌then◌else◌, Option, Some, None, IfSome, IsSome}
 use Rattle.clover_words.specs.declared.pool.Pool.{Pool}
 use Rattle.clover_words.specs.declared.setup.Setup.{Setup}
 use Rattle.clover_words.specs.declared.word.Word.TheVariants.{Next as NextOf, Short}
@@ -9,7 +9,8 @@ use Rattle.clover_words.specs.Next.{root_code}
 use Rattle.clover_words.specs.Preset.{dealt_number}
 use Rattle.clover_words.specs.Tag.{home}
 use Rattle.clover_words.specs.Version.{linked, buffer_at}
-use Rattle.clover_map.specs.History.{own, key_of}
+use Rattle.clover_map.specs.History.{own, key_of, is_commit}
+use Rattle.clover_map.specs.Tagged.{Tagged}
 use Rattle.clover_map.specs.declared.call.Call.{Call}
 use Rattle.clover_map.specs.declared.call.Entry.{Entry}
 use Rattle.clover_map.specs.declared.call.Reply.{Reply}
@@ -35,11 +36,14 @@ use Rattle.clover_sched.specs.Ends.{ended, MayBegin}
 use Rattle.clover_sched.specs.Folds.{Doing, entries_in, words_after, doing}
 use Rattle.clover_sched.specs.Record.{Record}
 
--- where a run begins: the setup, the words of its pool, and the bindings, each a slot and its key
+-- where a run begins: the setup, the words of its pool, the bindings, each a slot and its key, and what was before it: its map, the used tags, and how many accesses were made
 pub record Opening : Type 0 where
   pub setup : Setup
   pub words : List ℕ
   pub names : List (ℕ × List ℕ)
+  pub first : Tagged
+  pub used : List ℕ
+  pub made : ℕ
 
 -- how many bytes of a value a buffer has room for
 abbrev pub room : Setup → ℕ
@@ -70,12 +74,6 @@ pub record IsAccess (p : Pool) (a : ℕ) (d : Doing) (ws : List ℕ) (x : Access
   pub refused : x.refused ≡ d.refusing
   pub blank : x.refused ≡ true → IsBlank x.act
   pub replays : x.refused ≡ false → CameBack p ws x.act
-
--- a reply to a call that committed
-abbrev pub IsCommit : Reply → Bool
-IsCommit (Stored t) = true
-IsCommit (Deleted t) = true
-IsCommit r = false
 
 -- The entry stands at the access that decides it: it is of the call under way, which had none, of this client with its next number, and the call's acts decide its reply.
 pub record IsEntry (o : Opening) (a : ℕ) (d : Doing) (ws : List ℕ) (n : ℕ) (r : Record) (e : Entry) : Type 0 where
@@ -128,18 +126,14 @@ abbrev pub IsAnswer : Opening → Doing → Option Entry → Act → Reply → T
 IsAnswer o d None act (Stored t) = (d.decided ≡ Some (Stored t)) × EndsCommit o d act t
 IsAnswer o d None act (Deleted t) = (d.decided ≡ Some (Deleted t)) × EndsCommit o d act t
 IsAnswer o d None act r = ⊥
-IsAnswer o d (Some e) act r = (IsCommit r ≡ false) × (e.reply ≡ r)
+IsAnswer o d (Some e) act r = (is_commit r ≡ false) × (e.reply ≡ r)
 
 -- the cause of a note of a step whose access was made; each store of a shortcut answers
 abbrev pub IsCause : Opening → ℕ → Doing → Option Entry → Act → Note → Type 0
-IsCause o a d e act Quiet = IfSome e (λ (x : Entry). IsCommit x.reply ≡ true) × (Shortens act → ⊥)
+IsCause o a d e act Quiet = IfSome e (λ (x : Entry). is_commit x.reply ≡ true) × (Shortens act → ⊥)
 IsCause o a d e act (Answered c r) = (c ≡ a) × IsAnswer o d e act r
 IsCause o a d e act (Refused c (Behind n)) = (c ≡ a) × (n ≡ budget o.setup.pool) × (e ≡ None) × (d.decided ≡ None) × (Shortens act → ⊥)
 IsCause o a d e act note = ⊥
-
--- the most accesses of one call, which ends once its turns reach the budget
-abbrev pub most_made : Pool → ℕ
-most_made p = most_accesses p (budget p)
 
 -- A step: an actor without a task does nothing; one with a task makes one access, and no exchange writes but a commit's.
 pub record IsStep (o : Opening) (a : ℕ) (d : Doing) (ws : List ℕ) (n : ℕ) (r : Record) : Type 0 where

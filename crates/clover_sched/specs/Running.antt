@@ -8,7 +8,7 @@ use Rattle.clover_sched.specs.declared.event.Note.TheVariants.{Quiet}
 use Rattle.clover_sched.specs.declared.runner.Advance.{Advance}
 use Rattle.clover_sched.specs.declared.runner.Work.{Work}
 use Rattle.clover_sched.specs.declared.runner.Work.TheVariants.{Steps, Finish}
-use Rattle.clover_sched.specs.Lines.{Works, Stands}
+use Rattle.clover_sched.specs.Lines.{Works, CoversLine}
 use Rattle.clover_sched.specs.Machine.{Parts, MayCome, IsAt, left}
 use Rattle.clover_sched.specs.Record.{Record}
 use Rattle.clover_sched.specs.Run.{Opening, Still}
@@ -26,7 +26,7 @@ IsPartOf (line.Call a t) before rs = BeginsCall a t before rs
 IsPartOf (line.Refuse a) before rs = rs ≡ []
 
 abbrev pub IsPartOrAll : Line → List Record → List Record → Type 0
-IsPartOrAll l before rs = IsPartOf l before rs ⊎ Stands l before rs
+IsPartOrAll l before rs = IsPartOf l before rs ⊎ CoversLine l before rs
 
 -- the line that asks for these steps
 abbrev pub steps_line : Work → Line
@@ -44,17 +44,17 @@ steps_left m (Finish a) = left m a
 
 -- Behind these records this is left of the line: with what that stands for, or with a part of it, they are what the line stands for, or a part.
 pub record Leaves (l : Line) (w : Work) (before more : List Record) : Type 0 where
-  pub all : (rs : List Record) → Stands (steps_line w) (before ++ more) rs → Stands l before (more ++ rs)
+  pub all : (rs : List Record) → CoversLine (steps_line w) (before ++ more) rs → CoversLine l before (more ++ rs)
   pub part : (rs : List Record) → IsPartOf (steps_line w) (before ++ more) rs → IsPartOrAll l before (more ++ rs)
 
 -- these steps of the line are left, or nothing
 abbrev pub IsLeft : Line → Option Work → List Record → List Record → Type 0
-IsLeft l None before more = Stands l before more
+IsLeft l None before more = CoversLine l before more
 IsLeft l (Some w) before more = Leaves l w before more
 
 -- an event that came to this note, behind which these steps of the line are left; or all that was left of it, without an access or a line to print
 abbrev pub Comes : Line → Option Advance → List Record → List Record → Type 0
-Comes l None before more = Stands l before more × All (λ (r : Record). Still r Quiet) more
+Comes l None before more = CoversLine l before more × All (λ (r : Record). Still r Quiet) more
 Comes l (Some x) before more = (r : Record) × (more ≡ r ∷ []) × (r.note ≡ x.note) × Leaves l x.left before more
 
 -- the first event of the line may come

@@ -77,6 +77,7 @@ impl ClientState {
 
     /// Begins a task on the slot of its key, and answers what that comes to: nothing that is printed, or that the value
     /// is longer than the room of a buffer.
+    #[inline(always)]
     pub(crate) fn begin(&mut self, setup: &Setup, slot: u32, client: u32, task: Task) -> Note
         requires idle { self.old.node.under ≡ IsNothing }
         requires client { 1 ≤ client }
@@ -108,6 +109,7 @@ impl ClientState {
     /// Makes the next access of the call under way, and answers what it came to.
     ///
     /// `OutOfMemory` for want of memory, and then nothing has changed.
+    #[inline(always)]
     pub(crate) fn step(
         &mut self,
         alloc: Global,

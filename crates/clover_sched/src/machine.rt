@@ -1,10 +1,10 @@
 // The machine: a pool and its clients, one event at a time.
-ghost use Rattle.std.specs.Prelude.{◌≡◌, ◌<◌, ◌≤◌, ◌++◌, ◌∷◌, [], ◌↔◌, ℕ, List, length, All, true, IsTrue, IfOk, OnErr};
+ghost use Rattle.std.specs.Prelude.{◌≡◌, ◌<◌, ◌≤◌, [], ◌↔◌, ℕ, List, length, All, IsTrue, IfOk, OnErr};
 ghost use Rattle.clover_words.specs.Preset.{buffers_total};
 ghost use Rattle.clover_map.specs.History.{key_of};
 ghost use Rattle.clover_script.specs.Form.{call_in};
 ghost use Rattle.clover_sched.specs.Client.{IsIdle};
-ghost use Rattle.clover_sched.specs.Folds.{entries_in, accesses_in, made_in};
+ghost use Rattle.clover_sched.specs.Folds.{entries_in, traced_in, made_after};
 ghost use Rattle.clover_sched.specs.Machine.{IsAt, IsOpening, Happens, IsSame, MayCome, IsBusy, left};
 ghost use Rattle.clover_sched.specs.Record.{Record};
 ghost use Rattle.clover_sched.specs.Run.{Opening};
@@ -113,8 +113,9 @@ impl Machine {
         }
     }
 
-    // Begins a task of an actor.
-    fn begin(&mut self, actor: u32, task: Task) -> Note
+    /// Begins a task of an actor.
+    #[inline(always)]
+    pub(crate) fn begin(&mut self, actor: u32, task: Task) -> Note
         requires may { MayCome self.old (BeginOf actor task) }
         ensures happened { Happens self.old self.new (BeginOf actor task) result }
         ensures parts { (self.new.setup ≡ self.old.setup) × (self.new.names ≡ self.old.names) × (self.new.pool.traced ≡ self.old.pool.traced) }
@@ -136,6 +137,7 @@ impl Machine {
     /// Makes the next access of an actor's call; nothing happens where it has none.
     ///
     /// `OutOfMemory` for want of memory, before anything has changed.
+    #[inline(always)]
     pub(crate) fn step(&mut self, actor: u32) -> Result<Note, OutOfMemory>
         requires { 1 ≤ actor }
         ensures happened { IfOk result (Happens self.old self.new (StepOf actor)) }
@@ -153,8 +155,8 @@ impl Machine {
         done
     }
 
-    // Has the next access of an actor refused.
-    fn refuse(&mut self, actor: u32)
+    /// Has the next access of an actor refused.
+    pub(crate) fn refuse(&mut self, actor: u32)
         requires { 1 ≤ actor }
         ensures happened { Happens self.old self.new (RefuseOf actor) IsQuiet }
         ensures parts { (self.new.setup ≡ self.old.setup) × (self.new.names ≡ self.old.names) × (self.new.pool.traced ≡ self.old.pool.traced) }
@@ -185,14 +187,14 @@ impl Machine {
 
     /// The accesses so far, in order, refused ones among them; none without a trace.
     pub fn accesses(&self) -> &[Access]
-        ensures { (o : Opening) (rs : List Record) → IsAt o self.now rs → self.now.pool.traced ≡ true → result.now ≡ accesses_in rs }
+        ensures { (o : Opening) (rs : List Record) → IsAt o self.now rs → result.now ≡ traced_in self.now.pool.traced rs }
     {
         self.pool.accesses()
     }
 
-    /// How many accesses were made and not refused.
+    /// How many accesses were made and not refused, in this run and before it.
     pub fn made(&self) -> u64
-        ensures { (o : Opening) (rs : List Record) → IsAt o self.now rs → result ≡ made_in rs }
+        ensures { (o : Opening) (rs : List Record) → IsAt o self.now rs → result ≡ made_after o.made rs }
     {
         self.pool.made()
     }

@@ -5,7 +5,7 @@ ghost use Rattle.clover_sched.specs.Lines.{IsTurnedAway};
 ghost use Rattle.clover_sched.specs.Machine.{IsSame};
 ghost use Rattle.clover_sched.specs.Running.{Advances, MayRun, actor_in, steps_line, steps_left};
 
-use crate::event::{Event, Note};
+use crate::event::Note;
 use crate::machine::Machine;
 use clover_list::OutOfMemory;
 use clover_script::Line;
@@ -60,13 +60,13 @@ pub fn begin_line(machine: &mut Machine, line: Line) -> Result<Option<Advance>, 
 {
     match line {
         Line::Begin { actor, task } => {
-            let note = machine.event(Event::Begin { actor, task })?;
+            let note = machine.begin(actor, task);
             Ok(Some(last_of(actor, note)))
         }
         Line::Step { actor, times } => work_on(machine, Work::Steps { actor, times }),
         Line::Finish { actor } => work_on(machine, Work::Finish { actor }),
         Line::Call { actor, task } => {
-            let note = machine.event(Event::Begin { actor, task })?;
+            let note = machine.begin(actor, task);
             if is_turned_away(&note) {
                 return Ok(Some(last_of(actor, note)));
             }
@@ -76,8 +76,8 @@ pub fn begin_line(machine: &mut Machine, line: Line) -> Result<Option<Advance>, 
             }))
         }
         Line::Refuse { actor } => {
-            let note = machine.event(Event::Refuse { actor })?;
-            Ok(Some(last_of(actor, note)))
+            machine.refuse(actor);
+            Ok(Some(last_of(actor, Note::Quiet)))
         }
     }
 }

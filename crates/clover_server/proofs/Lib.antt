@@ -6,3 +6,6 @@ pub mod Onward
 pub mod Wants
 pub mod Steps
 pub mod Granting
+pub mod Left
+pub mod Repeating
+pub mod Recycled

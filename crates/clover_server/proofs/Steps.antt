@@ -44,7 +44,7 @@ made_of NoSlot A B u q f = f q.0 q.1
 made_of Unreached A B u q f = absurd (u refl)
 
 -- a load that showed the root version unlinked
-knows : (p : Pool) (v : View) (o : Option Open) (x : ℕ) (w : View) (o1 : Option Open) (slot : ℕ) (root : TagParts) → Made p (ReadVersion slot (tag_number root)) false v o x w o1 → Unlinked ≡ turn_of (recycle_outcome slot (look_answer (link (next_of x)))) → Within slot w.server.unlinked
+pub knows : (p : Pool) (v : View) (o : Option Open) (x : ℕ) (w : View) (o1 : Option Open) (slot : ℕ) (root : TagParts) → Made p (ReadVersion slot (tag_number root)) false v o x w o1 → Unlinked ≡ turn_of (recycle_outcome slot (look_answer (link (next_of x)))) → Within slot w.server.unlinked
 knows p v o x w o1 slot root m h = by (root_in_word (x % 8796093022208)) refl h
   where
     after : Option ℕ → View

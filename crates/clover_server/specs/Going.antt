@@ -65,6 +65,10 @@ abbrev pub OnRefused : Outcome → Type 0 → Type 0
 OnRefused Unreached A = A
 OnRefused outcome A = Unit {0}
 
+abbrev pub OnBound : Outcome → Type 0 → Type 0
+OnBound (Bound own) A = A
+OnBound outcome A = Unit {0}
+
 -- the books once a tag's buffer is a root version, and once a slot's root is the version behind the old one
 abbrev pub books_bound : Ledger → TagParts → Ledger
 books_bound books own = with_line books (buffer_of_tag own) (line own.generation IsBound)

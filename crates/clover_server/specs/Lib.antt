@@ -5,3 +5,5 @@ pub mod Steps
 pub mod Looking
 pub mod Told
 pub mod Laws
+pub mod Left
+pub mod Whole

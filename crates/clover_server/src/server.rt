@@ -1,31 +1,28 @@
 // The metadata server: its books, its directory, its unfinished task, and the sweep of a want.
-ghost use Rattle.std.specs.Prelude.{◌≡◌, ◌≤◌, ◌<◌, ◌↔◌, ◌+◌, ℕ, true, false, [], ◌∷◌, drop, slice_get, length, take, IsTrue, IsSome, IsNone, IfSome, List, Option, Some, None};
+ghost use Rattle.std.specs.Prelude.{◌≡◌, ◌≤◌, ◌<◌, ◌↔◌, ℕ, false, [], drop, length, IsTrue, IsSome, Option, None};
 ghost use Rattle.clover_words.specs.declared.pool.Pool.{Pool as PoolShape};
-ghost use Rattle.clover_words.specs.Tag.{TagParts, IsTag};
 ghost use Rattle.clover_rule.specs.declared.view.View.{View};
 ghost use Rattle.clover_alloc.specs.Batch.{tags_of};
-ghost use Rattle.clover_alloc.specs.Ledger.{IsLedger, book, count_of, total_of, buffer_of_tag};
-ghost use Rattle.clover_alloc.specs.Lines.{line, number_of, sum_of};
-ghost use Rattle.clover_alloc.specs.Taking.{Takes, AreNew, IsBalanced, with_out};
+ghost use Rattle.clover_alloc.specs.Ledger.{count_of, total_of};
+ghost use Rattle.clover_alloc.specs.Lines.{number_of, sum_of};
+ghost use Rattle.clover_alloc.specs.Taking.{Takes, AreNew};
 ghost use Rattle.clover_alloc.specs.declared.line.Place.{Place};
-ghost use Rattle.clover_alloc.specs.declared.line.Place.TheVariants.{Free, Worn, Bound, Out};
 ghost use Rattle.clover_dir.specs.Bindings.{pairs_of};
-ghost use Rattle.clover_dir.specs.Directory.{IsBound, root_of};
-ghost use Rattle.clover_dir.specs.Holding.{MayEnter};
-ghost use Rattle.clover_dir.specs.Names.{IsNew};
-ghost use Rattle.clover_rule.specs.Lists.{Within};
+ghost use Rattle.clover_dir.specs.Directory.{IsBound};
 ghost use Rattle.clover_server.specs.Steps.{own_turn};
 
+mod task;
+mod want;
+
 use crate::due::Room;
-use crate::outcome::Outcome;
 use crate::turn::ServerTurn;
-use crate::work::{Unfinished, Work, step_work};
+use crate::work::Unfinished;
 use clover_alloc::{Batch, Books, Counts};
-use clover_dir::{BindTask, Binding, Directory};
+use clover_dir::{Binding, Directory};
 use clover_map::Key;
 use clover_port::Port;
-use clover_recycle::{RecycleTask, RecycleTurn, Sweep};
-use clover_words::{Setup, Tag};
+use clover_recycle::Sweep;
+use clover_words::Setup;
 use std::marker::Model;
 
 /// The metadata server. It keeps the books and the directory, and finishes what it began.
@@ -37,6 +34,11 @@ use std::marker::Model;
 ///
 /// A binding or a recycling whose access was refused stays unfinished in the server, and each later step call makes its
 /// next access first.
+///
+/// A step call that is repeated while it answers `More` comes to an end, since each access lowers what is left to do.
+/// One whose access was the last of a binding or a recycling tells what that is of the words that it left: that the
+/// slot's key words, its root and its tombstone are flushed, or that the old version's buffer is flushed at its next
+/// generation, unlinked, and stands on no chain of any image.
 #[derive(Drop)]
 pub struct Server {
     setup: Setup,
@@ -57,11 +59,11 @@ impl Model for Server {
 
 impl Server {
     ghost use Rattle.clover_server.specs.Server.{new_server};
-    ghost use Rattle.clover_server.specs.Going.{server_step, went, answer_of, refused, taken_in, turn_of, OnMade};
     ghost use Rattle.clover_server.specs.Holding.{Agrees};
-    ghost use Rattle.clover_server.specs.Looking.{IsSlotOf, IsLowestFree, room_of, position, free_in, slot_in};
-    ghost use Rattle.clover_server.specs.Steps.{WantStep, RecycleStep, FinishStep, OnAccess, stock_due, named_due, unbound_due, recycle_due, recycling, sweeping, binding, ended, swept_on, swept, swept_turn, full_turn, is_left, all_swept, by_room, Finishes, Sweeps, Binds};
-    ghost use Rattle.clover_server.specs.Told.{IsFull, IfFull, CanTake};
+    ghost use Rattle.clover_server.specs.Looking.{IsSlotOf, IsLowestFree, free_in};
+    ghost use Rattle.clover_server.specs.Steps.{WantStep, RecycleStep, FinishStep, stock_due, named_due, recycle_due, Finishes};
+    ghost use Rattle.clover_server.specs.Left.{work_left, OnMore};
+    ghost use Rattle.clover_server.specs.Told.{IsFull, IfFull, IfReached, IfUnreached, IsWantTurn, IsOwnTurn, EndsTask};
 
     /// The server of a pool, with these books and this directory. It takes no memory.
     pub fn make(setup: Setup, books: Books, directory: Directory) -> Server
@@ -86,6 +88,10 @@ impl Server {
         requires { Agrees (P.pool port.old) [] self.old (P.view port.old) }
         ensures step { WantStep (stock_due self.old) self.old self.new result (λ a x. P.made port.old a false x port.new) (P.failed port.old port.new) (port.new ≡ port.old) }
         ensures full { IfFull result (λ bound worn out. IsFull self.new (P.view port.new) bound worn out) }
+        ensures ends { IfReached result (EndsTask (P.pool port.old) self.old.task (length self.new.directory.list) (P.view port.old) (P.told port.old) (P.view port.new) (P.told port.new)) }
+        ensures lowers { OnMore result (work_left self.new < work_left self.old) }
+        ensures refused { IfUnreached result (P.failed port.old port.new) }
+        ensures answers { IsWantTurn result }
         ensures agrees { Agrees (P.pool port.new) [] self.new (P.view port.new) }
     {
         if self.task.is_some() {
@@ -108,6 +114,10 @@ impl Server {
         ensures finishes { IsSome self.old.task → WantStep Finishes self.old self.new result (λ a x. P.made port.old a false x port.new) (P.failed port.old port.new) (port.new ≡ port.old) }
         ensures step { self.old.task ≡ None → (found free : Option ℕ) × IsSlotOf key.now self.old.directory found × IsLowestFree self.old.directory free × WantStep (named_due self.old key.now found free) self.old self.new result (λ a x. P.made port.old a false x port.new) (P.failed port.old port.new) (port.new ≡ port.old) }
         ensures full { IfFull result (λ bound worn out. IsFull self.new (P.view port.new) bound worn out) }
+        ensures ends { IfReached result (EndsTask (P.pool port.old) self.old.task (length self.new.directory.list) (P.view port.old) (P.told port.old) (P.view port.new) (P.told port.new)) }
+        ensures lowers { OnMore result (work_left self.new < work_left self.old) }
+        ensures refused { IfUnreached result (P.failed port.old port.new) }
+        ensures answers { IsWantTurn result }
         ensures agrees { Agrees (P.pool port.new) [] self.new (P.view port.new) }
     {
         if self.task.is_some() {
@@ -127,6 +137,10 @@ impl Server {
         requires bound { IsBound slot self.old.directory }
         requires agrees { Agrees (P.pool port.old) [] self.old (P.view port.old) }
         ensures step { RecycleStep (recycle_due self.old slot) self.old self.new result (λ a x. P.made port.old a false x port.new) (P.failed port.old port.new) }
+        ensures ends { IfReached result (EndsTask (P.pool port.old) self.old.task (length self.new.directory.list) (P.view port.old) (P.told port.old) (P.view port.new) (P.told port.new)) }
+        ensures lowers { OnMore result (work_left self.new < work_left self.old) }
+        ensures refused { IfUnreached result (P.failed port.old port.new) }
+        ensures answers { IsOwnTurn result }
         ensures agrees { Agrees (P.pool port.new) [] self.new (P.view port.new) }
     {
         match &self.task {
@@ -147,6 +161,10 @@ impl Server {
         requires task { IsSome self.old.task }
         requires agrees { Agrees (P.pool port.old) [] self.old (P.view port.old) }
         ensures step { FinishStep self.old self.new result (λ a x. P.made port.old a false x port.new) (P.failed port.old port.new) }
+        ensures ends { IfReached result (EndsTask (P.pool port.old) self.old.task (length self.new.directory.list) (P.view port.old) (P.told port.old) (P.view port.new) (P.told port.new)) }
+        ensures lowers { OnMore result (work_left self.new < work_left self.old) }
+        ensures refused { IfUnreached result (P.failed port.old port.new) }
+        ensures answers { IsOwnTurn result }
         ensures agrees { Agrees (P.pool port.new) [] self.new (P.view port.new) }
     {
         tell(true, self.go_on(port))
@@ -185,286 +203,6 @@ impl Server {
         ensures { pairs_of result.now ≡ drop known self.now.directory.list }
     {
         &self.directory.list()[known as usize..]
-    }
-
-    // Makes the next access of the unfinished task, and takes in what it came to.
-    fn go_on<P: Port>(&mut self, port: &mut P) -> ServerTurn
-        requires task { IsSome self.old.task }
-        requires agrees { Agrees (P.pool port.old) [] self.old (P.view port.old) }
-        ensures made { OnAccess result (λ x. P.made port.old (server_step self.old) false x port.new × (self.new ≡ went self.old x) × (result ≡ answer_of self.old x)) (P.failed port.old port.new × (self.new ≡ refused self.old)) }
-        ensures agrees { Agrees (P.pool port.new) [] self.new (P.view port.new) }
-    {
-        let outcome = match self.task.as_mut() {
-            Some(unfinished) => step_work(&mut unfinished.work, &mut self.directory, port),
-            None => unreachable!(),
-        };
-        self.take_in(outcome)
-    }
-
-    // Takes in what an access of the task came to.
-    fn take_in(&mut self, outcome: Outcome) -> ServerTurn
-        requires { CanTake self.old outcome }
-        ensures value { self.new ≡ taken_in self.old outcome }
-        ensures whole { IsLedger self.old.books → IsLedger self.new.books }
-        ensures answer { result ≡ turn_of outcome }
-    {
-        match outcome {
-            Outcome::Going => ServerTurn::More,
-            Outcome::Unlinked => {
-                self.task = None;
-                ServerTurn::Unlinked
-            }
-            Outcome::Recycled { slot, old, root } => {
-                self.move_root(slot, old, root);
-                ServerTurn::Recycled { old }
-            }
-            Outcome::Bound { own } => {
-                self.books.bind(own);
-                self.task = None;
-                ServerTurn::More
-            }
-            Outcome::Unreached => {
-                self.leave();
-                ServerTurn::Unreached
-            }
-        }
-    }
-
-    // A recycling has ended: the new root version is bound, the old one's buffer is back, and the slot's root moves.
-    fn move_root(&mut self, slot: u32, old: Tag, root: Tag)
-        requires { CanTake self.old (Outcome.Recycled slot old root) }
-        ensures value { self.new ≡ taken_in self.old (Outcome.Recycled slot old root) }
-        ensures whole { IsLedger self.new.books }
-    {
-        self.books.bind(root);
-        self.books.give_back(old);
-        self.directory.move_root(slot, root);
-        self.task = None;
-    }
-
-    // The task is left to a later call.
-    fn leave(&mut self)
-        ensures { self.new ≡ refused self.old }
-    {
-        if let Some(unfinished) = self.task.as_mut() {
-            unfinished.left = true;
-        }
-    }
-
-    // What a want for so many free buffers finds.
-    fn room(&self, enough: u32) -> Room
-        ensures { result ≡ room_of self.now enough }
-    {
-        let free = self.books.counts().free;
-        let lacks = match self.sweep {
-            Some(_) => free < enough,
-            None => free == 0,
-        };
-        match self.swept_slot() {
-            Some(slot) if lacks => Room::Swept { slot },
-            _ if free == 0 => Room::Full,
-            _ => Room::Free,
-        }
-    }
-
-    // The slot that the sweep is at, or that it begins with. None where it has left all bindings behind.
-    fn swept_slot(&self) -> Option<u32>
-        ensures { result ≡ slot_in (slice_get self.now.directory.list (position self.now.sweep)) }
-    {
-        let bindings = self.directory.list();
-        match self.sweep {
-            Some(sweep) => sweep.slot(bindings),
-            None => Sweep::make().slot(bindings),
-        }
-    }
-
-    // Makes the next access of an unfinished task for a want.
-    fn finish_for_want<P: Port>(&mut self, port: &mut P) -> ServerTurn
-        requires task { IsSome self.old.task }
-        requires agrees { Agrees (P.pool port.old) [] self.old (P.view port.old) }
-        ensures step { WantStep Finishes self.old self.new result (λ a x. P.made port.old a false x port.new) (P.failed port.old port.new) (port.new ≡ port.old) }
-        ensures not_full { IfFull result (λ bound worn out. ⊥) }
-        ensures agrees { Agrees (P.pool port.new) [] self.new (P.view port.new) }
-    {
-        match self.go_on(port) {
-            ServerTurn::Unreached => self.answer(ServerTurn::Unreached),
-            _ => ServerTurn::More,
-        }
-    }
-
-    // Ends the want with this answer.
-    fn answer(&mut self, turn: ServerTurn) -> ServerTurn
-        ensures value { self.new ≡ ended self.old }
-        ensures answer { result ≡ turn }
-    {
-        self.sweep = None;
-        turn
-    }
-
-    // Ends the want: no buffer is free.
-    fn answer_full(&mut self) -> ServerTurn
-        ensures value { self.new ≡ ended self.old }
-        ensures answer { result ≡ full_turn self.old }
-        ensures adds_up { free_in self.old + count_of Bound self.old.books + count_of Worn self.old.books + count_of Out self.old.books ≡ total_of self.old.books }
-    {
-        let counts = self.books.counts();
-        self.answer(ServerTurn::Full {
-            bound: counts.bound,
-            worn: counts.worn,
-            out: counts.out,
-        })
-    }
-
-    // Begins the recycling of a bound slot's root version.
-    fn begin_recycling(&mut self, slot: u32)
-        requires { IsBound slot self.old.directory }
-        ensures begun { IfSome (root_of self.old.directory slot) (λ root. self.new ≡ recycling self.old slot root) }
-        ensures root { IsSome (root_of self.old.directory slot) }
-    {
-        match self.directory.root(slot) {
-            Some(root) => {
-                self.task = Some(Unfinished {
-                    work: Work::Recycling {
-                        slot,
-                        task: RecycleTask::make(slot, root),
-                    },
-                    left: false,
-                })
-            }
-            None => unreachable!(),
-        }
-    }
-
-    // Begins the recycling of the slot that the sweep is at, and makes its load.
-    fn sweep_slot<P: Port>(&mut self, slot: u32, port: &mut P) -> ServerTurn
-        requires idle { self.old.task ≡ None }
-        requires at { (key : List ℕ) × (slice_get self.old.directory.list (position self.old.sweep) ≡ Some (slot, key)) }
-        requires agrees { Agrees (P.pool port.old) [] self.old (P.view port.old) }
-        ensures step { WantStep (Sweeps slot) self.old self.new result (λ a x. P.made port.old a false x port.new) (P.failed port.old port.new) (port.new ≡ port.old) }
-        ensures full { IfFull result (λ bound worn out. IsFull self.new (P.view port.new) bound worn out) }
-        ensures agrees { Agrees (P.pool port.new) [] self.new (P.view port.new) }
-    {
-        self.begin_recycling(slot);
-        self.begin_sweep();
-        match self.go_on(port) {
-            ServerTurn::Unlinked => self.read_unlinked(),
-            ServerTurn::Unreached => self.answer(ServerTurn::Unreached),
-            _ => ServerTurn::More,
-        }
-    }
-
-    // The sweep leaves the slot whose root version it has read unlinked.
-    fn read_unlinked(&mut self) -> ServerTurn
-        requires { IsSome self.old.sweep }
-        ensures value { self.new ≡ swept self.old ServerTurn.Unlinked }
-        ensures answer { result ≡ swept_turn self.old ServerTurn.Unlinked }
-        ensures adds_up { IfFull result (λ bound worn out. bound + worn + out ≡ total_of self.new.books) }
-    {
-        self.pass_on();
-        if self.all_swept() {
-            self.answer_full()
-        } else {
-            ServerTurn::More
-        }
-    }
-
-    // The sweep of a want is under way.
-    fn begin_sweep(&mut self)
-        ensures { self.new ≡ sweeping self.old }
-    {
-        if self.sweep.is_none() {
-            self.sweep = Some(Sweep::make());
-        }
-    }
-
-    // The sweep leaves a binding behind.
-    fn pass_on(&mut self)
-        requires { IsSome self.old.sweep }
-        ensures { self.new ≡ swept_on self.old }
-    {
-        if let Some(sweep) = self.sweep.as_mut() {
-            sweep.turn(&RecycleTurn::Unlinked);
-        }
-    }
-
-    // The sweep has left all bindings behind, and no buffer is free.
-    fn all_swept(&self) -> bool
-        ensures { result ≡ all_swept self.now }
-    {
-        self.swept_slot().is_none() && self.books.counts().free == 0
-    }
-
-    // Makes a step towards the binding of a key that has this slot, where this is the lowest unbound one.
-    fn bind_key<P: Port>(
-        &mut self,
-        key: &Key,
-        found: Option<u32>,
-        free: Option<u32>,
-        port: &mut P,
-    ) -> ServerTurn
-        requires idle { self.old.task ≡ None }
-        requires found { IsSlotOf key.now self.old.directory found }
-        requires free { IsLowestFree self.old.directory free }
-        requires agrees { Agrees (P.pool port.old) [] self.old (P.view port.old) }
-        ensures step { WantStep (named_due self.old key.now found free) self.old self.new result (λ a x. P.made port.old a false x port.new) (P.failed port.old port.new) (port.new ≡ port.old) }
-        ensures full { IfFull result (λ bound worn out. IsFull self.new (P.view port.new) bound worn out) }
-        ensures agrees { Agrees (P.pool port.new) [] self.new (P.view port.new) }
-    {
-        match found {
-            Some(_) => self.answer(ServerTurn::Ready),
-            None => self.bind_unbound(key, free, port),
-        }
-    }
-
-    // Makes a step towards the binding of a key that is not bound.
-    fn bind_unbound<P: Port>(&mut self, key: &Key, free: Option<u32>, port: &mut P) -> ServerTurn
-        requires idle { self.old.task ≡ None }
-        requires new { IsNew key.now self.old.directory.list }
-        requires free { IsLowestFree self.old.directory free }
-        requires agrees { Agrees (P.pool port.old) [] self.old (P.view port.old) }
-        ensures step { WantStep (unbound_due self.old key.now free) self.old self.new result (λ a x. P.made port.old a false x port.new) (P.failed port.old port.new) (port.new ≡ port.old) }
-        ensures full { IfFull result (λ bound worn out. IsFull self.new (P.view port.new) bound worn out) }
-        ensures agrees { Agrees (P.pool port.new) [] self.new (P.view port.new) }
-    {
-        match free {
-            None => self.answer(ServerTurn::NoSlot),
-            Some(slot) => self.bind_slot(slot, key, port),
-        }
-    }
-
-    // Binds the key to the slot where a buffer is free, and sweeps until one is.
-    fn bind_slot<P: Port>(&mut self, slot: u32, key: &Key, port: &mut P) -> ServerTurn
-        requires idle { self.old.task ≡ None }
-        requires may { MayEnter slot key.now self.old.directory }
-        requires agrees { Agrees (P.pool port.old) [] self.old (P.view port.old) }
-        ensures step { WantStep (by_room self.old (room_of self.old 1) (Binds slot key.now)) self.old self.new result (λ a x. P.made port.old a false x port.new) (P.failed port.old port.new) (port.new ≡ port.old) }
-        ensures full { IfFull result (λ bound worn out. IsFull self.new (P.view port.new) bound worn out) }
-        ensures agrees { Agrees (P.pool port.new) [] self.new (P.view port.new) }
-    {
-        match self.room(1) {
-            Room::Swept { slot } => self.sweep_slot(slot, port),
-            Room::Full => self.answer_full(),
-            Room::Free => {
-                self.begin_binding(slot, key);
-                self.finish_for_want(port)
-            }
-        }
-    }
-
-    // Takes a free buffer, and begins the binding of the key to the slot with it.
-    fn begin_binding(&mut self, slot: u32, key: &Key)
-        requires { 0 < free_in self.old }
-        ensures begun { (own : TagParts) × IsBalanced self.old.books own × AreNew self.old.books (own ∷ []) self.new.books × IsTag own × (self.new ≡ binding self.old slot key.now own) }
-        ensures whole { IsLedger self.new.books }
-    {
-        let own = self.books.take(1).tags[0];
-        self.task = Some(Unfinished {
-            work: Work::Binding {
-                own,
-                task: BindTask::make(slot, key.copy(), own),
-            },
-            left: false,
-        });
     }
 }
 

@@ -22,6 +22,7 @@ pub(super) enum Came {
 }
 
 // The reply that an answer is, with the value where one was found.
+#[inline(always)]
 fn reply_of(answer: &Answer, value: Option<Value>) -> Reply
     requires value { (room : ValueBuf) × IsValueOf answer.now value room }
     ensures { (room : ValueBuf) → IsValueOf answer.now value room → result ≡ reply_in answer.now room }
@@ -42,6 +43,7 @@ fn reply_of(answer: &Answer, value: Option<Value>) -> Reply
 }
 
 // Why the call has no answer.
+#[inline(always)]
 fn why(refusal: CallerRefusal) -> CallRefusal
     ensures { result ≡ refusal_of refusal }
 {
@@ -57,6 +59,7 @@ fn why(refusal: CallerRefusal) -> CallRefusal
 }
 
 /// What this turn comes to. Where a value was found, it is passed twice, for the entry and for the note.
+#[inline(always)]
 pub(super) fn came_of(turn: CallerTurn, entered: Option<Value>, noted: Option<Value>) -> Came
     requires values { (room : ValueBuf) × IsValue turn entered room × IsValue turn noted room }
     ensures { (room : ValueBuf) → IsValue turn entered room → IsValue turn noted room → IsCame turn room result }

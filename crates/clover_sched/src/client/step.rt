@@ -22,6 +22,7 @@ use std::mem::replace;
 
 impl ClientState {
     /// The value in the room, where the next access may find it.
+    #[inline(always)]
     pub(super) fn found(&self, alloc: Global) -> Result<Option<Value>, OutOfMemory>
         ensures { IfOk result (IsFound self.now) }
     {
@@ -35,6 +36,7 @@ impl ClientState {
     }
 
     // Makes the next access of the node, or has it refused.
+    #[inline(always)]
     fn access(&mut self, pool: &mut PlainPool, client: u32) -> CallerTurn
         requires busy { self.old.node.under ≢ IsNothing }
         requires stands { (o : Opening) × (i : ℕ) × (suc i ≡ client) × Stands o pool.old i self.old }
@@ -47,6 +49,7 @@ impl ClientState {
     }
 
     // Enters the call with this reply, unless it has been entered.
+    #[inline(always)]
     fn enter(&mut self, pool: &mut PlainPool, client: u32, reply: Reply)
         requires number { self.old.number < 2 ^ 64 - 1 }
         requires opened { pool.old.opened ≡ true }
@@ -66,6 +69,7 @@ impl ClientState {
     }
 
     /// Makes the next access of the call under way, with what it may find once for the entry and once for the note.
+    #[inline(always)]
     pub(super) fn go_on(
         &mut self,
         pool: &mut PlainPool,

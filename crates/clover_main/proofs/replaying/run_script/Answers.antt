@@ -1,4 +1,4 @@
-use Rattle.std.proofs.Common.{ℕ, List, [], map, subst}
+use Rattle.std.proofs.Common.{ℕ, Bool, List, [], map, subst}
 use Rattle.std.proofs.lemmas.Result.{err_from_is_err_and, IfErr-weaker, on_ok_weaker}
 use Rattle.clover_script.specs.Line.{kept_line}
 use Rattle.clover_script.specs.declared.line.Line.{Line}
@@ -9,40 +9,43 @@ use Rattle.clover_main.proofs.Endings.{script_begins, script_ready, performs, st
 use Rattle.clover_main.proofs.Listening.{lines_heard}
 use Rattle.clover_main.proofs.replaying.run_script.Goals as goal
 
-pub run_lines-requires-clause-ready : goal.run_lines-requires-clause-ready
-run_lines-requires-clause-ready g c =
+pub run_lines-requires : goal.run_lines-requires
+run_lines-requires g c =
     let said = c.requires.0 in
     let from = c.in_ok-machine.ensures.at in
-    let parts = c.in_ok-machine.ensures.parts in (
-      map kept_line said,
-      lines_heard c.args.text.now c.args.outline.setup said c.args.outline.names c.requires.1,
-      script_ready c.args.text.now c.args.outline.setup said c.args.outline.names c.in_ok-machine.machine from.0 c.requires.1 from.2 parts.0 parts.1,
-    )
+    let parts = c.in_ok-machine.ensures.parts in
+    record {
+      ready = (
+        map kept_line said,
+        lines_heard c.args.text.now c.args.outline.setup said c.args.outline.names c.requires.1,
+        script_ready c.args.text.now c.args.outline.setup said c.args.outline.names c.in_ok-machine.machine from.0 c.requires.1 from.2 parts.0 parts.1,
+      );
+    }
 
 pub returns-in_err-run_lines-clause-err : goal.returns-in_err-run_lines-clause-err
 returns-in_err-run_lines-clause-err g c =
     let said = c.requires.0 in
     let lines : List Line = map kept_line said in
     let from = c.in_ok-machine.ensures.at in
-    let P : List ℕ → Type 0 = λ w. Fails from.0 c.args.trace [] c.in_err-run_lines.field-0.0 (g.K.Sink.taken c.args.sink.now) (g.K.Sink.taken c.run_lines.new.sink) w (CoversFront lines) in
+    let P : Bool → List ℕ → Type 0 = λ t w. Fails from.0 t [] c.in_err-run_lines.field-0.0 (g.K.Sink.taken c.args.sink.now) (g.K.Sink.taken c.run_lines.new.sink) w (CoversFront lines) in
     let p = err_from_is_err_and c.from_residual-in_err-run_lines.result c.from_residual-in_err-run_lines.ensures.1 in
     rw (p.1, p.2) (stops_running c.args.text.now from.0 lines c.args.trace (script_begins c.args.text.now c.args.outline.setup said c.args.outline.names from.0 c.requires.1 from.1) c.in_err-run_lines.field-0.0 _ _
-    (subst P c.new-out.ensures (c.in_err-run_lines.ensures.err from.0 lines from.2 (lines_heard c.args.text.now c.args.outline.setup said c.args.outline.names c.requires.1))))
+    (subst (λ t. P t []) c.in_ok-machine.ensures.parts.2 (subst (P c.in_ok-machine.machine.pool.traced) c.new-out.ensures (c.in_err-run_lines.ensures.err from.0 lines from.2 (lines_heard c.args.text.now c.args.outline.setup said c.args.outline.names c.requires.1)))))
 
 pub returns-clause-ok : goal.returns-clause-ok
 returns-clause-ok g c =
     let said = c.requires.0 in
     let lines : List Line = map kept_line said in
     let from = c.in_ok-machine.ensures.at in
-    let P : List ℕ → Type 0 = λ w. Ran from.0 c.args.trace [] c.run_lines.new.machine (g.K.Sink.taken c.args.sink.now) (g.K.Sink.taken c.run_lines.new.sink) w c.run_lines.new.out.waiting.items (Covers lines []) in
+    let P : Bool → List ℕ → Type 0 = λ t w. Ran from.0 t [] c.run_lines.new.machine (g.K.Sink.taken c.args.sink.now) (g.K.Sink.taken c.run_lines.new.sink) w c.run_lines.new.out.waiting.items (Covers lines []) in
     on_ok_weaker c.close.result (λ closed. performs c.args.text.now from.0 lines c.args.trace (script_begins c.args.text.now c.args.outline.setup said c.args.outline.names from.0 c.requires.1 from.1) c.run_lines.new.machine _ _ _ _
-    (subst P c.new-out.ensures (c.in_ok-run_lines.ensures.ok from.0 lines from.2 (lines_heard c.args.text.now c.args.outline.setup said c.args.outline.names c.requires.1))) closed) c.close.ensures.ok
+    (subst (λ t. P t []) c.in_ok-machine.ensures.parts.2 (subst (P c.in_ok-machine.machine.pool.traced) c.new-out.ensures (c.in_ok-run_lines.ensures.ok from.0 lines from.2 (lines_heard c.args.text.now c.args.outline.setup said c.args.outline.names c.requires.1)))) closed) c.close.ensures.ok
 
 pub returns-clause-err : goal.returns-clause-err
 returns-clause-err g c =
     let said = c.requires.0 in
     let lines : List Line = map kept_line said in
     let from = c.in_ok-machine.ensures.at in
-    let P : List ℕ → Type 0 = λ w. Ran from.0 c.args.trace [] c.run_lines.new.machine (g.K.Sink.taken c.args.sink.now) (g.K.Sink.taken c.run_lines.new.sink) w c.run_lines.new.out.waiting.items (Covers lines []) in
+    let P : Bool → List ℕ → Type 0 = λ t w. Ran from.0 t [] c.run_lines.new.machine (g.K.Sink.taken c.args.sink.now) (g.K.Sink.taken c.run_lines.new.sink) w c.run_lines.new.out.waiting.items (Covers lines []) in
     IfErr-weaker c.close.result _ _ (λ stop closed. stops_closing c.args.text.now from.0 lines c.args.trace (script_begins c.args.text.now c.args.outline.setup said c.args.outline.names from.0 c.requires.1 from.1) stop c.run_lines.new.machine _ _ _ _
-    (subst P c.new-out.ensures (c.in_ok-run_lines.ensures.ok from.0 lines from.2 (lines_heard c.args.text.now c.args.outline.setup said c.args.outline.names c.requires.1))) closed) c.close.ensures.err
+    (subst (λ t. P t []) c.in_ok-machine.ensures.parts.2 (subst (P c.in_ok-machine.machine.pool.traced) c.new-out.ensures (c.in_ok-run_lines.ensures.ok from.0 lines from.2 (lines_heard c.args.text.now c.args.outline.setup said c.args.outline.names c.requires.1)))) closed) c.close.ensures.err

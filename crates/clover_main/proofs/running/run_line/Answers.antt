@@ -12,18 +12,15 @@ use Rattle.clover_main.proofs.running.run_line.Goals as goal
 pub loop-left-init : goal.loop-left-init
 loop-left-init g c = record { runs = c.in_ok-left.ensures.ok; actor = c.in_ok-left.ensures.actor; quiet = c.in_ok-left.ensures.cause.kept }
 
-pub go_on-requires-clause-actor : goal.go_on-requires-clause-actor
-go_on-requires-clause-actor g c = subst (λ (x : Option Work). IfSome x (λ work. 1 ≤ actor_in work)) c.in-Some.is c.loop-left.invariant.actor
-
-pub go_on-requires-clause-traced : goal.go_on-requires-clause-traced
-go_on-requires-clause-traced g c = c.loop-left.invariant.runs.goes_on.traced ∙ c.requires.traced
+pub go_on-requires : goal.go_on-requires
+go_on-requires g c = record { actor = subst (λ (x : Option Work). IfSome x (λ work. 1 ≤ actor_in work)) c.in-Some.is c.loop-left.invariant.actor }
 
 pub returns-in_err-left-2-clause-err : goal.returns-in_err-left-2-clause-err
 returns-in_err-left-2-clause-err g c =
     let l = c.loop-left in
-    let P : Option Work → Type 0 = λ x. Runs c.args.trace c.args.machine.now l.machine (g.K.Sink.taken c.args.sink.now) (g.K.Sink.taken l.sink) c.args.out.now.waiting.items l.out.waiting.items (IsLeft c.args.line x) in
+    let P : Option Work → Type 0 = λ x. Runs c.args.machine.now l.machine (g.K.Sink.taken c.args.sink.now) (g.K.Sink.taken l.sink) c.args.out.now.waiting.items l.out.waiting.items (IsLeft c.args.line x) in
     let p = err_from_is_err_and c.from_residual-in_err-left-2.result c.from_residual-in_err-left-2.ensures.1 in
-    rw (p.1, p.2) (left_stop c.args.trace _ c.args.machine.now l.machine _ _ _ _ _ c.args.line c.in-Some.work (subst P c.in-Some.is l.invariant.runs) c.in_err-left-2.ensures.err)
+    rw (p.1, p.2) (left_stop _ c.args.machine.now l.machine _ _ _ _ _ c.args.line c.in-Some.work (subst P c.in-Some.is l.invariant.runs) c.in_err-left-2.ensures.err)
 
 pub returns-in_err-left-2-clause-cause : goal.returns-in_err-left-2-clause-cause
 returns-in_err-left-2-clause-cause g c =
@@ -41,9 +38,9 @@ loop-left-smaller g c = subst (λ (x : Option Work). most_steps c.go_on.new.mach
 pub loop-left-preserved : goal.loop-left-preserved
 loop-left-preserved g c =
     let l = c.loop-left in
-    let P : Option Work → Type 0 = λ x. Runs c.args.trace c.args.machine.now l.machine (g.K.Sink.taken c.args.sink.now) (g.K.Sink.taken l.sink) c.args.out.now.waiting.items l.out.waiting.items (IsLeft c.args.line x) in
+    let P : Option Work → Type 0 = λ x. Runs c.args.machine.now l.machine (g.K.Sink.taken c.args.sink.now) (g.K.Sink.taken l.sink) c.args.out.now.waiting.items l.out.waiting.items (IsLeft c.args.line x) in
     record {
-      runs = left_next c.args.trace c.args.machine.now l.machine c.go_on.new.machine _ _ _ _ _ _ c.args.line c.in-Some.work c.in_ok-left-2.left (subst P c.in-Some.is l.invariant.runs) c.in_ok-left-2.ensures.ok;
+      runs = left_next c.args.machine.now l.machine c.go_on.new.machine _ _ _ _ _ _ c.args.line c.in-Some.work c.in_ok-left-2.left (subst P c.in-Some.is l.invariant.runs) c.in_ok-left-2.ensures.ok;
       actor = c.in_ok-left-2.ensures.actor;
       quiet = c.in_ok-left-2.ensures.cause.kept ∙ l.invariant.quiet;
     }
@@ -51,5 +48,5 @@ loop-left-preserved g c =
 pub returns-clause-ok : goal.returns-clause-ok
 returns-clause-ok g c =
     let l = c.loop-left in
-    let P : Option Work → Type 0 = λ x. Runs c.args.trace c.args.machine.now l.machine (g.K.Sink.taken c.args.sink.now) (g.K.Sink.taken l.sink) c.args.out.now.waiting.items l.out.waiting.items (IsLeft c.args.line x) in
+    let P : Option Work → Type 0 = λ x. Runs c.args.machine.now l.machine (g.K.Sink.taken c.args.sink.now) (g.K.Sink.taken l.sink) c.args.out.now.waiting.items l.out.waiting.items (IsLeft c.args.line x) in
     subst P c.in_default.is l.invariant.runs

@@ -6,7 +6,7 @@ use Rattle.clover_main.proofs.running.run_line.Given as goal
 
 abbrev pub invariant-loop-left : goal.invariant-loop-left
 invariant-loop-left g l = record {
-  runs : Runs l.trace l.fn.machine l.machine (g.K.Sink.taken l.fn.sink) (g.K.Sink.taken l.sink) l.fn.out.waiting.items l.out.waiting.items (IsLeft l.fn.line l.left);
+  runs : Runs l.fn.machine l.machine (g.K.Sink.taken l.fn.sink) (g.K.Sink.taken l.sink) l.fn.out.waiting.items l.out.waiting.items (IsLeft l.fn.line l.left);
   actor : IfSome l.left (λ work. 1 ≤ actor_in work);
   quiet : g.K.Sink.faults l.sink ≡ g.K.Sink.faults l.fn.sink;
 }

@@ -5,32 +5,34 @@ use Rattle.clover_main.proofs.Loops.{lines_next, lines_stop, lines_last, lines_n
 use Rattle.clover_main.proofs.Owing.{may_next}
 use Rattle.clover_main.proofs.running.run_lines.Goals as goal
 
-pub run_text-requires-clause-may : goal.run_text-requires-clause-may
-run_text-requires-clause-may g c =
+pub run_text-requires : goal.run_text-requires
+run_text-requires g c =
     let l = c.loop-rest in
     let ready = c.requires.ready.2 in
     let lines = c.requires.ready.0 in
-    let P : List (List ℕ) → Type 0 = λ texts. Reaches ready.opening c.args.trace lines texts l.machine (g.K.Sink.taken c.args.sink.now) (g.K.Sink.taken l.sink) c.args.out.now.waiting.items l.out.waiting.items in
-    may_next c.args.trace c.args.machine.now l.machine lines c.first_line.result.0.now _ _ _ _ _ ready
-    (subst P c.first_line.ensures.lines (l.invariant.ran ready.opening lines ready.at c.requires.ready.1)) l.invariant.goes_on
+    let P : List (List ℕ) → Type 0 = λ texts. Reaches ready.opening c.args.machine.now.pool.traced lines texts l.machine (g.K.Sink.taken c.args.sink.now) (g.K.Sink.taken l.sink) c.args.out.now.waiting.items l.out.waiting.items in
+    record {
+      may = may_next c.args.machine.now.pool.traced c.args.machine.now l.machine lines c.first_line.result.0.now _ _ _ _ _ ready
+          (subst P c.first_line.ensures.lines (l.invariant.ran ready.opening lines ready.at c.requires.ready.1)) l.invariant.goes_on;
+    }
 
 pub returns-in_err-run_text-clause-err : goal.returns-in_err-run_text-clause-err
 returns-in_err-run_text-clause-err g c =
     let p = err_from_is_err_and c.from_residual.result c.from_residual.ensures.1 in
     rw (p.1, p.2) (λ o lines at heard.
     let l = c.loop-rest in
-    let P : List (List ℕ) → Type 0 = λ texts. Reaches o c.args.trace lines texts l.machine (g.K.Sink.taken c.args.sink.now) (g.K.Sink.taken l.sink) c.args.out.now.waiting.items l.out.waiting.items in
+    let P : List (List ℕ) → Type 0 = λ texts. Reaches o c.args.machine.now.pool.traced lines texts l.machine (g.K.Sink.taken c.args.sink.now) (g.K.Sink.taken l.sink) c.args.out.now.waiting.items l.out.waiting.items in
     let x = subst P c.first_line.ensures.lines (l.invariant.ran o lines at heard) in
-    lines_stop o c.args.trace lines c.first_line.result.0.now _ l.machine _ _ _ _ _ x _ (c.in_err-run_text.ensures.err o x.ran.more x.ran.at))
+    lines_stop o c.args.machine.now.pool.traced lines c.first_line.result.0.now _ l.machine _ _ _ _ _ x l.invariant.goes_on.traced _ (c.in_err-run_text.ensures.err o x.ran.more x.ran.at))
 
 pub loop-rest-preserved : goal.loop-rest-preserved
 loop-rest-preserved g c =
     let l = c.loop-rest in
     record {
       ran = λ o lines at heard.
-          let P : List (List ℕ) → Type 0 = λ texts. Reaches o c.args.trace lines texts l.machine (g.K.Sink.taken c.args.sink.now) (g.K.Sink.taken l.sink) c.args.out.now.waiting.items l.out.waiting.items in
+          let P : List (List ℕ) → Type 0 = λ texts. Reaches o c.args.machine.now.pool.traced lines texts l.machine (g.K.Sink.taken c.args.sink.now) (g.K.Sink.taken l.sink) c.args.out.now.waiting.items l.out.waiting.items in
           let x = subst P c.first_line.ensures.lines (l.invariant.ran o lines at heard) in
-          lines_next o c.args.trace lines c.first_line.result.0.now _ l.machine _ _ _ _ _ x c.run_text.new.machine _ (c.in_ok-run_text.ensures.ok.ran o x.ran.more x.ran.at);
+          lines_next o c.args.machine.now.pool.traced lines c.first_line.result.0.now _ l.machine _ _ _ _ _ x l.invariant.goes_on.traced c.run_text.new.machine _ (c.in_ok-run_text.ensures.ok.ran o x.ran.more x.ran.at);
       goes_on = continues_then _ _ _ l.invariant.goes_on c.in_ok-run_text.ensures.ok.goes_on;
       quiet = c.in_ok-run_text.ensures.cause.kept ∙ l.invariant.quiet;
     }
@@ -38,5 +40,5 @@ loop-rest-preserved g c =
 pub returns-clause-ok : goal.returns-clause-ok
 returns-clause-ok g c o lines at heard =
     let l = c.loop-rest in
-    let P : List (List ℕ) → Type 0 = λ texts. Reaches o c.args.trace lines texts l.machine (g.K.Sink.taken c.args.sink.now) (g.K.Sink.taken l.sink) c.args.out.now.waiting.items l.out.waiting.items in
-    lines_last o c.args.trace lines l.machine _ _ _ _ (subst P (lines_none l.rest.now (sym c.is_empty.ensures ∙ c.loop-rest-test.false)) (l.invariant.ran o lines at heard))
+    let P : List (List ℕ) → Type 0 = λ texts. Reaches o c.args.machine.now.pool.traced lines texts l.machine (g.K.Sink.taken c.args.sink.now) (g.K.Sink.taken l.sink) c.args.out.now.waiting.items l.out.waiting.items in
+    lines_last o c.args.machine.now.pool.traced lines l.machine _ _ _ _ (subst P (lines_none l.rest.now (sym c.is_empty.ensures ∙ c.loop-rest-test.false)) (l.invariant.ran o lines at heard))

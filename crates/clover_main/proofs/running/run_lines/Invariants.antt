@@ -9,7 +9,7 @@ use Rattle.clover_main.proofs.running.run_lines.Given as goal
 
 abbrev pub invariant-loop-rest : goal.invariant-loop-rest
 invariant-loop-rest g l = record {
-  ran : (o : Opening) (lines : List Line) → IsAt o l.fn.machine [] → Heard (lines_of l.fn.text) lines → Reaches o l.trace lines (lines_of l.rest) l.machine (g.K.Sink.taken l.fn.sink) (g.K.Sink.taken l.sink) l.fn.out.waiting.items l.out.waiting.items;
+  ran : (o : Opening) (lines : List Line) → IsAt o l.fn.machine [] → Heard (lines_of l.fn.text) lines → Reaches o l.fn.machine.pool.traced lines (lines_of l.rest) l.machine (g.K.Sink.taken l.fn.sink) (g.K.Sink.taken l.sink) l.fn.out.waiting.items l.out.waiting.items;
   goes_on : Continues l.fn.machine l.machine;
   quiet : g.K.Sink.faults l.sink ≡ g.K.Sink.faults l.fn.sink;
 }

@@ -10,7 +10,7 @@ use Rattle.clover_main.proofs.running.run_text.Goals as goal
 pub returns-in-Ok-None-clause-ok : goal.returns-in-Ok-None-clause-ok
 returns-in-Ok-None-clause-ok g c =
     let none : IsNoLine c.args.text.now = subst (λ (l : Option Line). IfNone l (IsNoLine c.args.text.now)) c.in-Ok-None.field-0-is c.in-Ok-None.ensures.none in
-    record { goes_on = record { setup = refl; names = refl; traced = refl }; ran = λ o rs at. ran_nothing o c.args.trace rs c.args.machine.now _ _ (IsSaidBy c.args.text.now rs) at (inl (none, refl)) }
+    record { goes_on = record { setup = refl; names = refl; traced = refl }; ran = λ o rs at. ran_nothing o c.args.machine.now.pool.traced rs c.args.machine.now _ _ (IsSaidBy c.args.text.now rs) at (inl (none, refl)) }
 
 pub returns-in-Err-clause-err : goal.returns-in-Err-clause-err
-returns-in-Err-clause-err g c o rs at = fails_none o c.args.trace rs c.give_up.result _ _ _ (IsPartOfSaid c.args.text.now rs) (lawful_at o c.args.machine.now rs at) (inl refl) c.give_up.ensures.puts
+returns-in-Err-clause-err g c o rs at = fails_none o c.args.machine.now.pool.traced rs c.give_up.result _ _ _ (IsPartOfSaid c.args.text.now rs) (lawful_at o c.args.machine.now rs at) (inl refl) c.give_up.ensures.puts

@@ -41,7 +41,7 @@ returns-in_err-batch-clause-none c = if_none c.from_residual-in_err-batch.result
 pub returns-then-not-is_empty-clause-none : goal.returns-then-not-is_empty-clause-none
 returns-then-not-is_empty-clause-none c p =
     let batch = c.in_ok-batch.ensures.only p.0.batch [] p.1.batch tt
-        (after_clients p.0 p.1 (after_wear p.0 p.1 (after_words p.0 p.1 (after_slots p.0 p.1 (after_buffers p.0 p.1 (after_nodes p.0 p.1 p.2 c.in_ok-nodes.ensures.only) c.in_ok-buffers.ensures.only) c.in_ok-slots.ensures.only) c.in_ok-words.ensures.only) c.in_ok-wear.ensures.only) c.in_ok-clients.ensures.only) in
+    (after_clients p.0 p.1 (after_wear p.0 p.1 (after_words p.0 p.1 (after_slots p.0 p.1 (after_buffers p.0 p.1 (after_nodes p.0 p.1 p.2 c.in_ok-nodes.ensures.only) c.in_ok-buffers.ensures.only) c.in_ok-slots.ensures.only) c.in_ok-words.ensures.only) c.in_ok-wear.ensures.only) c.in_ok-clients.ensures.only) in
     let none = ap length batch.1 in
     absurd (grind (arith, common_steps))
 

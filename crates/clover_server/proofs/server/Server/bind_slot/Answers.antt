@@ -13,8 +13,8 @@ use Rattle.clover_server.proofs.server.Server.bind_slot.Goals as goal
 pub sweep_slot-requires : goal.sweep_slot-requires
 sweep_slot-requires g c = record { idle = c.requires.idle; at = found_room c.args.self.now 1 (Swept c.in-Swept.slot) (let z : 1 ≤ 1 = omega arith in z) c.in-Swept.ensures; agrees = c.requires.agrees }
 
-pub begin_binding-requires : goal.begin_binding-requires
-begin_binding-requires g c = found_room c.args.self.now 1 Free (let z : 1 ≤ 1 = omega arith in z) c.in-Free.ensures
+pub begin_binding-requires-clause-free : goal.begin_binding-requires-clause-free
+begin_binding-requires-clause-free g c = found_room c.args.self.now 1 Free (let z : 1 ≤ 1 = omega arith in z) c.in-Free.ensures
 
 pub finish_for_want-requires : goal.finish_for_want-requires
 finish_for_want-requires g c =

@@ -7,6 +7,8 @@ use Rattle.clover_server.specs.Holding.{Agrees}
 use Rattle.clover_server.specs.Server.{ServerState}
 use Rattle.clover_server.specs.Steps.{OnAccess}
 use Rattle.clover_server.specs.declared.work.Unfinished.{Unfinished}
+use Rattle.clover_server.specs.Left.{LowersBy, work_left}
+use Rattle.clover_server.proofs.Left.{went_lowered}
 use Rattle.clover_server.proofs.Outcomes.{either_way}
 use Rattle.clover_server.proofs.Onward.{answers, takes, agree}
 use Rattle.clover_server.proofs.server.Server.go_on.Goals as goal
@@ -45,3 +47,17 @@ returns-clause-agrees g c =
     (P.view p) (P.told p) (P.view q) (P.told q) (λ a x m. g.met.P.Port.made_tells p q a false x m) (λ f. (g.met.P.Port.failed_leaves p q f).4)
     (subst (λ (z : ServerState). Agrees (P.pool p) [] z (P.view p)) (sym e) c.requires.agrees)
     c.step_work-outcome.ensures.made c.step_work-outcome.ensures.refused c.step_work-outcome.ensures.tags c.step_work-outcome.ensures.leaves c.take_in.new.self c.take_in.ensures.value c.take_in.ensures.whole)
+
+pub returns-clause-lowers : goal.returns-clause-lowers
+returns-clause-lowers g c =
+    let P = g.P.Port in let p = c.args.port.now in let q = c.step_work-outcome.new.port in let s = c.self.inside in let u = c.in-Some.unfinished.now in
+    let t : Some u ≡ s.task = ap option_copied_mut (sym c.in-Some.is) ∙ c.as_mut.ensures.value in
+    let e = was (record { setup = s.setup; books = s.books; directory = s.directory; task = s.task; sweep = s.sweep }) c.args.self.now u c.self.view_is t in
+    let a = subst (λ (z : ServerState). Agrees (P.pool p) [] z (P.view p)) (sym e) c.requires.agrees in
+    subst (λ (z : ServerState). LowersBy c.take_in.result (work_left z) (work_left c.take_in.new.self)) e
+    (went_lowered s.setup s.books s.directory c.step_work-outcome.new.directory s.sweep u.left u.work c.step_work-outcome.new.work
+    a.books.whole (λ a x. P.made p a false x q) c.step_work-outcome.result c.step_work-outcome.ensures.made c.step_work-outcome.ensures.lowers c.step_work-outcome.ensures.fits
+    (takes (P.pool p) s.setup s.books s.directory s.sweep u.left u.work (λ a x. P.made p a false x q) (P.failed p q) c.step_work-outcome.result c.step_work-outcome.new.work c.step_work-outcome.new.directory
+    (P.view p) (P.told p) (P.view q) (P.told q) (λ a x m. g.met.P.Port.made_tells p q a false x m) (λ f. (g.met.P.Port.failed_leaves p q f).4) a
+    c.step_work-outcome.ensures.made c.step_work-outcome.ensures.tags)
+    c.take_in.new.self c.take_in.result c.take_in.ensures.value c.take_in.ensures.answer)

@@ -22,8 +22,8 @@ go_on-requires g c =
       agrees = subst (λ (z : ServerState). Agrees (P.pool p) [] z (P.view p)) (sym e) (agrees_sweeping (P.pool p) (recycling s c.args.slot r.0) (P.view p) (begun_recycling (P.pool p) s (P.view p) c.args.slot r.0 c.requires.agrees c.requires.idle r.1 (c.requires.at.0, bound_at s.directory.list (position s.sweep) (c.args.slot, c.requires.at.0) c.requires.at.1)));
     }
 
-pub read_unlinked-requires : goal.read_unlinked-requires
-read_unlinked-requires g c =
+pub read_unlinked-requires-clause-sweep : goal.read_unlinked-requires-clause-sweep
+read_unlinked-requires-clause-sweep g c =
     let P = g.P.Port in let p = c.args.port.now in let q = c.go_on.new.port in let s = c.args.self.now in
     let r = some_root (root_of s.directory c.args.slot) (λ root. c.begin_recycling.new.self ≡ recycling s c.args.slot root) c.begin_recycling.ensures.root c.begin_recycling.ensures.begun in
     let e : c.begin_sweep.new.self ≡ sweeping (recycling s c.args.slot r.0) = c.begin_sweep.ensures ∙ ap sweeping r.2 in

@@ -1,0 +1,5 @@
+use Rattle.clover_pools.specs.Server.{Served}
+use Rattle.clover_pools.proofs.whole_calls.finish.Given as goal
+
+abbrev pub invariant-loop : goal.invariant-loop
+invariant-loop l = Served l.server l.initial.pool l.pool

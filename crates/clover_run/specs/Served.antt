@@ -1,0 +1,22 @@
+-- The server's side of a run: the server itself, and who holds it.
+use Rattle.std.specs.Prelude.{ℕ, eqb, not, Bool, false, Option, Some, None}
+use Rattle.clover_server.specs.Server.{ServerState}
+
+-- The server, and the actor that holds it between two events; and of the recycler's task, how many bindings it has read unlinked and how many recyclings have ended in its events.
+pub record Served : Type 0 where
+  pub server : ServerState
+  pub holder : Option ℕ
+  pub read : ℕ
+  pub done : ℕ
+
+-- the server is so now, held by this actor, and by nobody
+abbrev pub held : ℕ → ServerState → Served → Served
+held a s v = record v { server = s; holder = Some a }
+
+abbrev pub let_go : ServerState → Served → Served
+let_go s v = record v { server = s; holder = None }
+
+-- another actor than this one holds it
+abbrev pub is_elsewhere : Option ℕ → ℕ → Bool
+is_elsewhere None a = false
+is_elsewhere (Some b) a = not (eqb a b)

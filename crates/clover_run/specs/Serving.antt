@@ -1,0 +1,94 @@
+-- A step of an actor that wants something of the server: what is due there, what it comes to, and the server's side behind it.
+use Rattle.std.specs.Prelude.{◌≡◌, ℕ, ◌-◌, List, [], length, true, false, Option, Some, None}
+use Rattle.clover_words.specs.Tag.{TagParts}
+use Rattle.clover_alloc.specs.Batch.{tags_of}
+use Rattle.clover_alloc.specs.Ledger.{Ledger}
+use Rattle.clover_alloc.specs.Taking.{Takes}
+use Rattle.clover_alloc.specs.declared.batch.Batch.{Batch}
+use Rattle.clover_map.specs.declared.call.Call.{Call}
+use Rattle.clover_map.specs.declared.call.Call.TheVariants.{Put}
+use Rattle.clover_rule.specs.Steps.{Step, act_of}
+use Rattle.clover_rule.specs.declared.access.Act.{Act}
+use Rattle.clover_rule.specs.declared.access.Actor.TheVariants.{Server}
+use Rattle.clover_server.specs.Looking.{IsSlotOf, IsLowestFree}
+use Rattle.clover_server.specs.Server.{ServerState}
+use Rattle.clover_server.specs.Steps.{Due, Finishes, stock_due, named_due, WantStep, FinishStep}
+use Rattle.clover_server.specs.declared.turn.ServerTurn.{ServerTurn}
+use Rattle.clover_server.specs.declared.turn.ServerTurn.TheVariants.{More, Ready, Full as TurnFull, NoSlot as TurnNoSlot, Unreached as TurnUnreached}
+use Rattle.clover_server.specs.declared.work.Unfinished.{Unfinished}
+use Rattle.clover_sched.specs.declared.event.CallRefusal.TheVariants.{Unreached}
+use Rattle.clover_run.specs.declared.event.Note.TheVariants.{Quiet, Waits, Refused, Full, NoSlot, Granted}
+use Rattle.clover_run.specs.Folds.{Doing}
+use Rattle.clover_run.specs.Record.{Record}
+use Rattle.clover_run.specs.Served.{Served, held, let_go, is_elsewhere}
+use Rattle.clover_run.specs.Wanting.{Want, Nothing, Stock, Names}
+
+-- the record's access is this step of the server, which found this number
+abbrev pub Makes : Record → Step → ℕ → Type 0
+Makes r step x = r.access ≡ Some (record { actor = Server; act = act_of step x; refused = false })
+
+-- an access of the server was refused
+abbrev pub Fails : Record → Type 0
+Fails r = (act : Act) × (r.access ≡ Some (record { actor = Server; act = act; refused = true }))
+
+-- a step towards what is due
+abbrev pub Goes : Due → (s n : ServerState) → ServerTurn → Record → Type 0
+Goes due s n turn r = WantStep due s n turn (Makes r) (Fails r) (r.access ≡ None)
+
+-- a step towards the binding of a key
+abbrev pub Binds : Option Unfinished → List ℕ → (s n : ServerState) → ServerTurn → Record → Type 0
+Binds None key s n turn r = (found free : Option ℕ) × IsSlotOf key s.directory found × IsLowestFree s.directory free × Goes (named_due s key found free) s n turn r
+Binds (Some u) key s n turn r = Goes Finishes s n turn r
+
+-- a step towards bindings that are there once no task is unfinished
+abbrev pub Clears : Option Unfinished → (s n : ServerState) → ServerTurn → Record → Type 0
+Clears None s n turn r = (turn ≡ Ready) × (n ≡ s) × (r.access ≡ None)
+Clears (Some u) s n turn r = FinishStep s n turn (Makes r) (Fails r)
+
+-- a step of the server for a call that wants this: a put has its key bound, and any other call takes the bindings that there are
+abbrev pub Serves : Want → Call → (s n : ServerState) → ServerTurn → Record → Type 0
+Serves Nothing call s n turn r = ⊥
+Serves Stock call s n turn r = Goes (stock_due s) s n turn r
+Serves Names (Put key value) s n turn r = Binds s.task key s n turn r
+Serves Names call s n turn r = Clears s.task s n turn r
+
+-- the tags that a grant takes from the books: a batch for the stock, and none with bindings alone
+abbrev pub TakesFor : Want → Ledger → ℕ → List TagParts → Ledger → Type 0
+TakesFor Stock before count tags after = Takes before count tags after
+TakesFor want before count tags after = (tags ≡ []) × (after ≡ before)
+
+-- the actor is handed a batch and all bindings that it does not know, and lets the server go
+pub record Hands (a : ℕ) (d : Doing) (want : Want) (v : Served) (n : ServerState) (r : Record) : Type 0 where
+  pub batch : Batch
+  pub books : Ledger
+  pub takes : TakesFor want n.books n.setup.batch (tags_of batch) books
+  pub note : r.note ≡ Granted a batch (length n.directory.list - d.known)
+  pub served : r.served ≡ let_go (record n { books = books }) v
+
+-- what the event comes to where its step of the server came to this turn, and left the server so
+abbrev pub Leaves : (a : ℕ) (d : Doing) (want : Want) (v : Served) (n : ServerState) → ServerTurn → Record → Type 0
+Leaves a d want v n More r = (r.note ≡ Quiet) × (r.served ≡ held a n v)
+Leaves a d want v n Ready r = Hands a d want v n r
+Leaves a d want v n (TurnFull bound worn out) r = (r.note ≡ Full a bound worn out) × (r.served ≡ let_go n v)
+Leaves a d want v n TurnNoSlot r = (r.note ≡ NoSlot a) × (r.served ≡ let_go n v)
+Leaves a d want v n TurnUnreached r = (r.note ≡ Refused a Unreached) × (r.served ≡ let_go n v)
+Leaves a d want v n turn r = ⊥
+
+-- the actor's step of the server
+pub record IsServing (a : ℕ) (d : Doing) (want : Want) (call : Call) (v : Served) (r : Record) : Type 0 where
+  pub turn : ServerTurn
+  pub server : ServerState
+  pub serves : Serves want call v.server server turn r
+  pub leaves : Leaves a d want v server turn r
+
+-- an event that only waits
+pub record Waiting (v : Served) (r : Record) : Type 0 where
+  pub access : r.access ≡ None
+  pub note : r.note ≡ Waits
+  pub served : r.served ≡ v
+
+-- A step of an actor whose call wants something: it waits where another one holds the server, and else makes its step there; no entry is added.
+pub record IsServed (a : ℕ) (d : Doing) (want : Want) (call : Call) (v : Served) (r : Record) : Type 0 where
+  pub entry : r.entry ≡ None
+  pub waits : is_elsewhere v.holder a ≡ true → Waiting v r
+  pub serves : is_elsewhere v.holder a ≡ false → IsServing a d want call v r
