@@ -5,7 +5,7 @@ use crate::support::{PRINTED, SCRIPT, words_of};
 use clover_main::{StdSink, StdSource, clover, exit};
 use std::alloc::Global;
 use std::io::{Error, ErrorKind, Read, Write};
-use std::process::ExitCode;
+use std::process::{Abort, ExitCode};
 use std::test::Fail;
 
 const FAILED_READ: &[u8] = b"error read\n";
