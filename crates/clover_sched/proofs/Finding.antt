@@ -214,11 +214,11 @@ module _ (o : Opening) (rs : List Record) (p : Plain) (i : ℕ) (x : ClientState
   view_ok = let seats = st.seats in let seat = st.seat in met.whole.basis.views i (view_at p i) (at_front p.views p.absent i (view_at p i) (nth_default p.views i nobody (omega arith)))
 
   has_key : story.keys slot ≡ Some (key_of call)
-  has_key = (met.whole.basis.bound slot (key_of call) (subst (Within (slot, key_of call)) (sym view_ok.names.1) (within_prefix (slot, key_of call) (view_at p i).pass.names view_ok.names.0 (subst (Within (slot, key_of call)) (sym st.names) named)))).0
+  has_key = (met.whole.basis.bound slot (key_of call) (subst (Within (slot, key_of call)) (sym view_ok.named.names.1) (within_prefix (slot, key_of call) (view_at p i).pass.names view_ok.named.names.0 (subst (Within (slot, key_of call)) (sym st.names) named)))).0
 
   is_durable : (c : Option TagParts) → IfSome c (λ t. IsCursor o.setup.pool (view_at p i) (slot, t)) → IfSome (number_of c) (Durable story slot)
   is_durable None h = tt
-  is_durable (Some t) h = each_within (λ (q : ℕ × ℕ). Durable story q.0 q.1) (slot, tag_number t) (view_at p i).pass.durable view_ok.durable h.1
+  is_durable (Some t) h = each_within (λ (q : ℕ × ℕ). Durable story q.0 q.1) (slot, tag_number t) (view_at p i).pass.durable view_ok.knows.durable h.1
 
   abbrev way : Way
   way = way_from (mem_of o.setup.pool ws) slot known
