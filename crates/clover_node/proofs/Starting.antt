@@ -23,6 +23,7 @@ use Rattle.clover_call.specs.declared.under.Underway.{Underway}
 use Rattle.clover_call.specs.declared.under.Underway.TheVariants.{Nothing}
 use Rattle.clover_call.proofs.Begins.{made_first}
 use Rattle.clover_node.specs.Beginning.{NeedsBuffer, NodeStarts, counts_for, own_tag, room_of}
+use Rattle.clover_node.specs.Going.{IsOpen}
 use Rattle.clover_node.specs.Node.{NodeState, NodeHolds, Counts, IsAsked, IsCounting, IsIdle, first_of}
 use Rattle.clover_node.specs.declared.counting.Counting.{Counting}
 use Rattle.clover_node.specs.declared.counting.Counting.TheVariants.{No}
@@ -47,6 +48,13 @@ begun_busy w own (Get key) u is e = let z = sym e ∙ is in cc
 begun_busy w own (Put key value) u is e = let z = sym e ∙ is in cc
 begun_busy w own (Delete key) u is e = let z = sym e ∙ is in cc
 begun_busy w own (Swap key expected value) u (t, same, is) e = let z = sym e ∙ is in cc
+
+-- nor has it committed anything
+begun_open : (w : Walking) (own : ℕ) (call : Call) (u : Underway) → IsBegun w own call u → IsOpen u
+begun_open w own (Get key) u is = subst IsOpen (sym is) tt
+begun_open w own (Put key value) u is = subst IsOpen (sym is) tt
+begun_open w own (Delete key) u is = subst IsOpen (sym is) tt
+begun_open w own (Swap key expected value) u (t, same, is) = subst IsOpen (sym is) tt
 
 -- the first tag of the stock
 first_number : (ts : List TagParts) → ts ≢ [] → (rest : List ℕ) × (map tag_number ts ≡ given_number (slice_get ts 0) ∷ rest)
@@ -92,6 +100,8 @@ module _ (n : NodeState) (call : Call) (idle : IsIdle n) (fits : size_of call �
       stocked = some;
       named = λ s w. (refl, subst (λ (z : ℕ). Starts n.caller z (own_tag n call) call k) (same_Some slot s (only s w)) starts);
       unnamed = λ new. absurd (new slot at);
+      kept = refl;
+      uncommitted = begun_open _ (own_tag n call) call k.under starts.begun;
       busy = λ i. begun_busy _ (own_tag n call) call k.under starts.begun i.calls;
       first = ap (λ (c : Counting). first_of c (record n { caller = k })) idle.counts ∙ begun_first _ (own_tag n call) call k.under (made_first n.caller.pool slot _) starts.begun;
       holds = slot_holds;
@@ -128,6 +138,8 @@ module _ (n : NodeState) (call : Call) (idle : IsIdle n) (fits : size_of call �
     stocked = some;
     named = λ s w. absurd (new s w);
     unnamed = λ z. refl;
+    kept = refl;
+    uncommitted = subst IsOpen (sym idle.calls) tt;
     busy = λ i. busy_so call i.counts;
     first = first_so call (record n { counting = counts_for call });
     holds = λ other v room h. record {

@@ -8,6 +8,7 @@ use Rattle.clover_rule.specs.Lists.{Within}
 use Rattle.clover_rule.specs.declared.view.View.{View}
 use Rattle.clover_dir.specs.Names.{IsNew}
 use Rattle.clover_call.specs.Beginning.{Starts, given_number, size_of}
+use Rattle.clover_node.specs.Going.{IsOpen}
 use Rattle.clover_node.specs.Node.{NodeState, NodeHolds, IsIdle, node_first}
 use Rattle.clover_node.specs.declared.answer.NodeRefusal.{NodeRefusal}
 use Rattle.clover_node.specs.declared.answer.NodeRefusal.TheVariants.{TooLong, NeedsStock}
@@ -45,12 +46,14 @@ abbrev pub counts_for : Call → Counting
 counts_for (Put key value) = Names
 counts_for call = Absence
 
--- The node n has started the call: no cause of a refusal is there; on the slot of its key, with the first tag of the stock, or where the key is not in the copy by the load of the count. What its client held before still holds, of this call now.
+-- The node n has started the call: no cause of a refusal is there; on the slot of its key, with the first tag of the stock, or where the key is not in the copy by the load of the count. Nothing is committed, and stock and names stay. What its client held before still holds, of this call now.
 pub record NodeStarts (n : NodeState) (call : Call) (n1 : NodeState) : Type 0 where
   pub fits : size_of call ≤ room_of n
   pub stocked : NeedsBuffer n call → n.stock ≢ []
   pub named : (slot : ℕ) → Within (slot, key_of call) n.names → (n1 ≡ record n { caller = n1.caller }) × Starts n.caller slot (own_tag n call) call n1.caller
   pub unnamed : IsNew (key_of call) n.names → n1 ≡ record n { counting = counts_for call }
+  pub kept : n1 ≡ record n { caller = n1.caller; counting = n1.counting }
+  pub uncommitted : IsOpen n1.caller.under
   pub busy : IsIdle n1 → ⊥
   pub first : node_first n1 ≡ true
   pub holds : (other : Call) (v : View) (room : ValueBuf) → NodeHolds n other v room → NodeHolds n1 call v room

@@ -1,20 +1,28 @@
 -- What the server of a small pool may hand over and bind as its run begins, and what that leaves.
-use Rattle.std.proofs.Common.{◌≡◌, ◌≢◌, ℕ, zero, suc, List, [], ◌∷◌, ◌++◌, length, map, replicate, set, get_or, take, refl, sym, ap, ◌∙◌, subst, arith}
+use Rattle.std.proofs.Common.{◌≡◌, ◌≢◌, ℕ, zero, suc, ◌≤◌, ◌<◌, List, [], ◌∷◌, ◌++◌, length, map, replicate, set, get_or, take, refl, sym, ap, ◌∙◌, subst, arith}
 use Rattle.std.specs.Prelude.{Option, Some, None}
 use Rattle.std.specs.Option.{option_map}
 use Rattle.std.proofs.Math.Nat.{min-eq_left}
-use Rattle.std.proofs.lemmas.List.{get_or-set_same, get_or-set_other, length-set}
+use Rattle.std.proofs.lemmas.List.{get_or-set_same, get_or-set_other, length-map, length-replicate, length-set}
+use Rattle.clover_words.specs.declared.bytes.ValueBuf.{ValueBuf}
+use Rattle.clover_words.specs.declared.pool.Pool.{Pool}
 use Rattle.clover_words.specs.declared.setup.Setup.{Setup}
 use Rattle.clover_words.specs.Tag.{TagParts, tag_number, home, age}
+use Rattle.clover_map.specs.declared.call.Call.{Call}
+use Rattle.clover_map.specs.declared.call.Call.TheVariants.{Get}
 use Rattle.clover_rule.specs.Asks.{IsAt}
+use Rattle.clover_rule.specs.Content.{InRange}
+use Rattle.clover_rule.specs.Lists.{Each, nth}
+use Rattle.clover_rule.specs.Names.{KeysOnce}
 use Rattle.clover_rule.specs.Moves.{MayHand, given, giving, lines_out, nobody}
 use Rattle.clover_rule.specs.Server.{waiting_name}
-use Rattle.clover_rule.specs.Views.{book, find_book}
+use Rattle.clover_rule.specs.Views.{SlotsOnce, book, find_book}
 use Rattle.clover_alloc.specs.Batch.{tags_of}
 use Rattle.clover_alloc.specs.Ledger.{Ledger, IsLedger, new_ledger}
 use Rattle.clover_alloc.specs.Taking.{Takes}
 use Rattle.clover_alloc.specs.declared.batch.Batch.{Batch}
 use Rattle.clover_rule.specs.declared.view.BufferState.TheVariants.{Free}
+use Rattle.clover_rule.specs.declared.view.Role.TheVariants.{Client}
 use Rattle.clover_rule.specs.declared.view.ServerTask.TheVariants.{Idle}
 use Rattle.clover_rule.specs.declared.view.View.{View}
 use Rattle.clover_dir.specs.Directory.{Bindings, nothing_bound, root_of, with_binding}
@@ -27,8 +35,13 @@ use Rattle.clover_plain.specs.Handing.{Handed, numbers_of}
 use Rattle.clover_plain.specs.Plain.{Plain, first_view, history, view_at}
 use Rattle.clover_plain.proofs.Books.{AreLeft, left_new, takes_next}
 use Rattle.clover_plain.proofs.Opening.{client_role, server_role}
+use Rattle.clover_plain.proofs.Seating.{zero_replicate}
 use Rattle.clover_plain.proofs.SmallPool.{age_first, age_next, home_first, home_next}
-use Rattle.clover_pools.specs.Grants.{AreNew, HaveGiven, HasRoot, IsNew, IsBegun, IsDealt, IsBoundOnce, IsNamed, batch, name, dealt_view, named_view}
+use Rattle.clover_call.specs.Caller.{CallerState}
+use Rattle.clover_node.specs.Accepting.{MayTake}
+use Rattle.clover_node.specs.Node.{NodeState, NodeHolds, first_node}
+use Rattle.clover_pools.specs.Calls.{Stands}
+use Rattle.clover_pools.specs.Grants.{AreNew, HaveGiven, HasRoot, IsNew, IsBegun, IsDealt, IsNameless, IsBoundOnce, batch, name}
 use Rattle.clover_pools.specs.Small.{IsReady, IsSmall, HasSmallNumbers}
 use Rattle.clover_pools.proofs.SmallPool.{begins, in_pool, third}
 
@@ -101,17 +114,101 @@ module _ (tags : List ℕ) (names : List (ℕ × List ℕ)) (p q : Plain) (new :
       ∙ ap (λ (n : ℕ). get_or (set p.views n (giving tags (view_at p n))) 1 nobody) new.small.numbers.clients
       ∙ get_or-set_same p.views 1 (giving tags (view_at p 1)) nobody (omega arith)
 
+  -- the node has it too
+  pub handed_stands : (n n1 : NodeState) → Stands p n → (n1.client ≡ n.client) × (n1.caller ≡ n.caller) × (n1.counting ≡ n.counting) → ((call : Call) (room : ValueBuf) → NodeHolds n1 call (given tags names (view_at p 0)) room) → Stands q n1
+  handed_stands n n1 b kept holds = record {
+    only = record {
+      ready = handed_new.ready;
+      small = handed_new.small;
+      client = kept.0 ∙ b.only.client;
+      pool = ap (λ (s : Setup). s.pool) h.setup ∙ b.only.pool ∙ sym (ap (λ (k : CallerState). k.pool) kept.1);
+      own = ap (λ (v : View). v.pass.calls) handed_client ∙ b.only.own ∙ sym same;
+    };
+    idle = record { counts = kept.2 ∙ b.idle.counts; calls = ap (λ (k : CallerState). k.under) kept.1 ∙ b.idle.calls };
+    holds = λ call room. subst (λ (v : View). NodeHolds n1 call v room) (sym handed_client) (holds call room);
+  }
+
 pub dealt_so : (tags : List ℕ) (p q : Plain) → tags ≡ batch → IsBegun p → Handed 1 tags [] p q → history q ≡ history p → IsDealt q
 dealt_so tags p q e b h same = record {
   new = handed_new tags [] p q b.new h same;
-  client = handed_client tags [] p q b.new h same ∙ (λ i. given (e i) [] (b.client i)) ∙ ap dealt_view (sym h.setup);
   server = handed_server tags [] p q b.new h same ∙ (λ i. giving (e i) (b.server i)) ∙ ap (λ (s : Setup). giving batch (first_view s 1)) (sym h.setup);
+}
+
+-- a node that has nothing may be given the batch
+module _ (p : Plain) (n : NodeState) (few : HasSmallNumbers p.setup) (stands : Stands p n) where
+  each_number : (P : ℕ → Type 0) (ts : List TagParts) → Each P (map tag_number ts) → Each (λ (t : TagParts). P (tag_number t)) ts
+  each_number P [] h = tt
+  each_number P (t ∷ ts) h = (h.0, each_number P ts h.1)
+
+  in_range : Each (InRange p.setup.pool) batch
+  in_range =
+      let w = p.setup.pool.some_wear in let a = age_first in let b = age_next in
+      ((in_pool p.setup few 0 0 home_first (omega arith) refl refl, omega arith), ((in_pool p.setup few 1048576 1 home_next (omega arith) refl refl, omega arith), tt))
+
+  pub may_batch : (ts : List TagParts) → map tag_number ts ≡ batch → n.names ≡ [] → MayTake n ts []
+  may_batch ts e none = record {
+    tags = subst (λ (z : Pool). Each (λ (t : TagParts). InRange z (tag_number t)) ts) stands.only.pool (each_number (InRange p.setup.pool) ts (subst (Each (InRange p.setup.pool)) (sym e) in_range));
+    slots = tt;
+    once = subst (λ (l : List (ℕ × List ℕ)). SlotsOnce (l ++ [])) (sym none) (λ i j s k k1 f g. absurd cc);
+  }
+
+  -- and one with no names the name
+  one_name : (i s : ℕ) (k : List ℕ) → nth name i ≡ Some (s, k) → i ≡ 0
+  one_name zero s k e = refl
+  one_name (suc i) s k e = absurd cc
+
+  slots_fit : n.caller.pool.slots ≡ 2
+  slots_fit = sym (ap (λ (z : Pool). z.slots) stands.only.pool) ∙ few.slots
+
+  pub may_name : (ts : List TagParts) (added : List (ℕ × List ℕ)) → map tag_number ts ≡ [] → added ≡ name → n.names ≡ [] → MayTake n ts added
+  may_name ts added e is none = record {
+    tags = each_number (InRange n.caller.pool) ts (subst (Each (InRange n.caller.pool)) (sym e) tt);
+    slots = subst (Each (λ (q : ℕ × List ℕ). q.0 < n.caller.pool.slots)) (sym is) (let z = slots_fit in (omega arith, tt));
+    once = subst SlotsOnce (sym (λ i. none i ++ is i)) (λ i j s k k1 f g. one_name i s k f ∙ sym (one_name j s k1 g));
+  }
+
+  pub keys_named : (added : List (ℕ × List ℕ)) → added ≡ name → n.names ≡ [] → KeysOnce (n.names ++ added)
+  keys_named added is none = subst KeysOnce (sym (λ i. none i ++ is i)) (λ i j s s1 k f g. one_name i s k f ∙ sym (one_name j s1 k g))
+
+  pub few_named : (added : List (ℕ × List ℕ)) → added ≡ name → n.names ≡ [] → length (n.names ++ added) ≤ n.caller.pool.slots
+  few_named added is none = let z = slots_fit in subst (λ (l : List (ℕ × List ℕ)). length l ≤ n.caller.pool.slots) (sym (λ i. none i ++ is i)) (omega arith)
+
+-- the node with which client 1 begins
+pub first_stands : (p : Plain) (n : NodeState) → IsBegun p → n ≡ first_node p.setup.pool 1 → ((call : Call) (v : View) (room : ValueBuf) → v.pass.pool ≡ p.setup.pool → v.pass.role ≡ Client 1 → v.pass.stock ≡ [] → v.pass.names ≡ [] → NodeHolds n call v room) → Stands p n
+first_stands p n b e holds =
+    let few = b.new.small.numbers.clients in record {
+      only = record {
+        ready = b.new.ready;
+        small = b.new.small;
+        client = ap (λ (m : NodeState). m.client) e;
+        pool = sym (ap (λ (m : NodeState). m.caller.pool) e);
+        own = ap (λ (v : View). v.pass.calls) b.client ∙ sym b.new.entries ∙ b.new.ready.entered;
+      };
+      idle = record { counts = ap (λ (m : NodeState). m.counting) e; calls = ap (λ (m : NodeState). m.caller.under) e };
+      holds = λ call room. holds call (view_at p 0) room (ap (λ (v : View). v.pass.pool) b.client) (ap (λ (v : View). v.pass.role) b.client ∙ client_role p.setup 0 (omega arith)) (ap (λ (v : View). v.pass.stock) b.client) (ap (λ (v : View). v.pass.names) b.client);
+    }
+
+-- where the server made accesses, the client and its node stand as before
+pub nameless_still : (p q : Plain) (n : NodeState) → IsNew p → IsNew q → q.setup ≡ p.setup → view_at q 0 ≡ view_at p 0 → IsNameless p n → IsNameless q n
+nameless_still p q n old new setup view b = record {
+  stands = record {
+    only = record {
+      ready = new.ready;
+      small = new.small;
+      client = b.stands.only.client;
+      pool = ap (λ (s : Setup). s.pool) setup ∙ b.stands.only.pool;
+      own = ap (λ (v : View). v.pass.calls) view ∙ b.stands.only.own ∙ sym old.ready.entered ∙ old.entries ∙ sym new.entries ∙ new.ready.entered;
+    };
+    idle = b.stands.idle;
+    holds = λ call room. subst (λ (v : View). NodeHolds n call v room) (sym view) (b.stands.holds call room);
+  };
+  names = b.names;
+  stock = b.stock;
 }
 
 -- the binding of `a` is under way
 pub record IsBinding (p : Plain) (c : UnderWay) (d : Bindings) : Type 0 where
   pub new : IsNew p
-  pub client : view_at p 0 ≡ dealt_view p.setup
   pub holds : BindHolds p.setup.pool c d (view_at p 1)
   pub going : c.stage ≢ Over
   pub key : c.key ≡ 97 ∷ []
@@ -124,7 +221,6 @@ bind_begins p c d key own b e made k o =
     let is : c ≡ made_bind 0 (97 ∷ []) third = made ∙ (λ i. made_bind 0 (k i) (o i)) in
     record {
       new = b.new;
-      client = b.client;
       holds = subst (λ (z : UnderWay). BindHolds p.setup.pool z d (view_at p 1)) (sym is)
           (subst (λ (z : Bindings). BindHolds p.setup.pool (made_bind 0 (97 ∷ []) third) z (view_at p 1)) (sym e)
           (subst (λ (v : View). BindHolds p.setup.pool (made_bind 0 (97 ∷ []) third) (nothing_bound p.setup.pool) v) (sym b.server) (begins p.setup b.new.small.numbers batch batch_spares)));
@@ -135,31 +231,34 @@ bind_begins p c d key own b e made k o =
       directory = e;
     }
 
--- the server may hand the name over
-pub hands_name : (p : Plain) (tags : List ℕ) (names : List (ℕ × List ℕ)) → tags ≡ [] → names ≡ name → IsBoundOnce p → MayHand p.setup.pool (view_at p p.setup.clients) (view_at p 0) tags names
-hands_name p tags names none k b =
-    let a = b.new.small.numbers.clients in
-    let one : p.setup.clients ≡ 1 = a in
-    subst (λ (l : List ℕ). MayHand p.setup.pool (view_at p p.setup.clients) (view_at p 0) l names) (sym none)
-    (subst (λ (n : ℕ). MayHand p.setup.pool (view_at p n) (view_at p 0) [] names) (sym one) (record {
-      tags = record { server = b.server.idle.server; free = tt; apart = tt };
-      number = 1;
-      client = ap (λ (v : View). v.pass.role) b.client ∙ client_role p.setup 0 (omega arith);
-      names_are = b.server.directory ∙ sym (λ i. ((b.client i).pass.names ++ k i) ++ waiting_name (b.server.idle.task_is i));
-    }))
-
-pub named_so : (p q : Plain) (tags : List ℕ) (names : List (ℕ × List ℕ)) → tags ≡ [] → names ≡ name → IsBoundOnce p → Handed 1 tags names p q → history q ≡ history p → IsNamed q
-named_so p q tags names none k b h same = record {
-  new = handed_new tags names p q b.new h same;
-  client = handed_client tags names p q b.new h same ∙ (λ i. given (none i) (k i) (b.client i)) ∙ ap named_view (sym h.setup);
-  server = subst HasRoot (sym (handed_server tags names p q b.new h same ∙ ap (λ (l : List ℕ). giving l (view_at p 1)) none)) (record { idle = record { server = b.server.idle.server; task_is = b.server.idle.task_is }; root = b.server.root; directory = b.server.directory });
+-- room with no bytes, for what holds with any room
+no_bytes : ValueBuf
+no_bytes = record {
+  bytes = replicate 1024 0;
+  length = 0;
+  length_fits = omega arith;
+  room = record { size = length-replicate {A = ℕ} 1024 0; bytes = λ i. subst (λ (b : ℕ). b < 256) (sym (zero_replicate 1024 i)) (omega arith) };
 }
 
+-- the server may hand the name over
+pub hands_name : (p : Plain) (n : NodeState) (tags : List ℕ) (names : List (ℕ × List ℕ)) → tags ≡ [] → names ≡ name → IsBoundOnce p → IsNameless p n → MayHand p.setup.pool (view_at p p.setup.clients) (view_at p 0) tags names
+hands_name p n tags names none k b c =
+    let h = c.stands.holds (Get []) no_bytes in
+    subst (λ (l : List ℕ). MayHand p.setup.pool (view_at p p.setup.clients) (view_at p 0) l names) (sym none)
+    (subst (λ (n : ℕ). MayHand p.setup.pool (view_at p n) (view_at p 0) [] names) (sym b.new.small.numbers.clients) (record {
+      tags = record { server = b.server.idle.server; free = tt; apart = tt };
+      number = 1;
+      client = h.role ∙ ap Client c.stands.only.client;
+      names_are = b.server.directory ∙ sym (λ i. ((h.names ∙ c.names) i ++ k i) ++ waiting_name (b.server.idle.task_is i));
+    }))
+
+pub named_so : (p q : Plain) (tags : List ℕ) (names : List (ℕ × List ℕ)) → tags ≡ [] → IsBoundOnce p → Handed 1 tags names p q → history q ≡ history p → HasRoot (view_at q 1)
+named_so p q tags names none b h same = subst HasRoot (sym (handed_server tags names p q b.new h same ∙ ap (λ (l : List ℕ). giving l (view_at p 1)) none)) (record { idle = record { server = b.server.idle.server; task_is = b.server.idle.task_is }; root = b.server.root; directory = b.server.directory })
+
 -- the binding goes on
-pub bind_goes : (p q : Plain) (c n : UnderWay) (d e : Bindings) → IsBinding p c d → Answers c n d e More → IsReady q → IsSmall q → q.setup ≡ p.setup → q.entries ≡ p.entries → view_at q 0 ≡ view_at p 0 → BindHolds q.setup.pool n e (view_at q 1) → IsBinding q n e
-bind_goes p q c n d e b a ready small setup entries client holds = record {
+pub bind_goes : (p q : Plain) (c n : UnderWay) (d e : Bindings) → IsBinding p c d → Answers c n d e More → IsReady q → IsSmall q → q.setup ≡ p.setup → q.entries ≡ p.entries → BindHolds q.setup.pool n e (view_at q 1) → IsBinding q n e
+bind_goes p q c n d e b a ready small setup entries holds = record {
   new = record { ready = ready; small = small; entries = entries ∙ b.new.entries };
-  client = client ∙ b.client ∙ ap dealt_view (sym setup);
   holds = holds;
   going = a.1;
   key = ap (λ (u : UnderWay). u.key) a.0 ∙ b.key;
@@ -169,12 +268,11 @@ bind_goes p q c n d e b a ready small setup entries client holds = record {
 }
 
 -- and ends
-pub bind_ends : (p q : Plain) (c n : UnderWay) (d e : Bindings) → IsBinding p c d → Answers c n d e Bound → IsReady q → IsSmall q → q.setup ≡ p.setup → q.entries ≡ p.entries → view_at q 0 ≡ view_at p 0 → IsAt (view_at q 1) Idle × IsDirectoryOf q.setup.pool e (view_at q 1) → IsBoundOnce q × (e.list ≡ name)
-bind_ends p q c n d e b a ready small setup entries client ends =
+pub bind_ends : (p q : Plain) (c n : UnderWay) (d e : Bindings) → IsBinding p c d → Answers c n d e Bound → IsReady q → IsSmall q → q.setup ≡ p.setup → q.entries ≡ p.entries → IsAt (view_at q 1) Idle × IsDirectoryOf q.setup.pool e (view_at q 1) → IsBoundOnce q × (e.list ≡ name)
+bind_ends p q c n d e b a ready small setup entries ends =
     let now : e ≡ with_binding (nothing_bound p.setup.pool) 0 (97 ∷ []) third = a.2 ∙ (λ i. with_binding (b.directory i) (b.slot i) (b.key i) (b.own i)) in (
       record {
         new = record { ready = ready; small = small; entries = entries ∙ b.new.entries };
-        client = client ∙ b.client ∙ ap dealt_view (sym setup);
         server = record {
           idle = ends.0;
           root = ends.1.roots 0 ∙ ap (λ (z : Bindings). option_map tag_number (root_of z 0)) now ∙ ap (λ (n : ℕ). option_map tag_number (get_or (set (replicate n (let x : Option TagParts = None in x)) 0 (Some third)) 0 None)) b.new.small.numbers.slots;
@@ -184,13 +282,17 @@ bind_ends p q c n d e b a ready small setup entries client ends =
       ap (λ (z : Bindings). z.list) now,
     )
 
--- a list of no tags
+-- a batch of no tags
 pub nothing_taken : (books after : Ledger) (b : Batch) → Takes books 0 (tags_of b) after → numbers_of b ≡ []
 nothing_taken books after b takes = none (tags_of b) (takes.many ∙ min-eq_left (omega arith))
   where
     none : (tags : List TagParts) → length tags ≡ 0 → map tag_number tags ≡ []
     none [] e = refl
     none (t ∷ ts) e = absurd (omega arith)
+
+-- a batch of two tags
+pub two_left : (tags : List TagParts) → map tag_number tags ≡ batch → length tags ≡ 2
+two_left tags e = sym (length-map tags tag_number) ∙ ap length e
 
 -- the only tag of a batch is its first one
 pub first_is : (n : ℕ) (tags : List TagParts) (d t : TagParts) → take n tags ≡ t ∷ [] → get_or tags 0 d ≡ t

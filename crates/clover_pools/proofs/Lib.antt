@@ -1,6 +1,5 @@
 pub mod SmallPool
 pub mod Granting
-pub mod Quiet
 pub mod Calling
 pub mod Serving
 pub mod RecyclingSteps

@@ -1,7 +1,7 @@
--- A small pool between the run's begin and the client's first call: the server hands over a batch, binds a key, and hands over its name.
-use Rattle.std.specs.Prelude.{◌≡◌, ℕ, List, [], ◌∷◌, Some}
+-- A small pool between the run's begin and the client's first call: the server hands a batch to the client and its node, binds a key, and hands over its name.
+use Rattle.std.specs.Prelude.{◌≡◌, ℕ, ◌≤◌, List, [], ◌∷◌, length, Some}
 use Rattle.clover_rule.specs.Asks.{IsAt}
-use Rattle.clover_rule.specs.Moves.{given, giving}
+use Rattle.clover_rule.specs.Moves.{giving}
 use Rattle.clover_rule.specs.Views.{root_at}
 use Rattle.clover_rule.specs.declared.view.ServerTask.TheVariants.{Idle}
 use Rattle.clover_rule.specs.declared.view.View.{View}
@@ -10,6 +10,8 @@ use Rattle.clover_words.specs.Tag.{TagParts}
 use Rattle.clover_words.specs.declared.setup.Setup.{Setup}
 use Rattle.clover_alloc.specs.Ledger.{Ledger, IsLedger, new_ledger}
 use Rattle.clover_alloc.specs.Taking.{Takes}
+use Rattle.clover_node.specs.Node.{NodeState}
+use Rattle.clover_pools.specs.Calls.{Stands}
 use Rattle.clover_pools.specs.Small.{IsReady, IsSmall}
 
 -- nothing was entered yet
@@ -43,18 +45,16 @@ pub record HaveGiven (s : Setup) (books : Ledger) : Type 0 where
   pub tags : List TagParts
   pub takes : Takes before 2 tags books
 
--- what the client knows once it has the batch, and once it has the name too
-abbrev pub dealt_view : Setup → View
-dealt_view s = given batch [] (first_view s 0)
-
-abbrev pub named_view : Setup → View
-named_view s = given [] name (dealt_view s)
-
 -- the client has the batch
 pub record IsDealt (p : Plain) : Type 0 where
   pub new : IsNew p
-  pub client : view_at p 0 ≡ dealt_view p.setup
   pub server : view_at p 1 ≡ giving batch (first_view p.setup 1)
+
+-- the node of a client to which no name was handed, and so many buffers at most
+pub record IsNameless (p : Plain) (n : NodeState) : Type 0 where
+  pub stands : Stands p n
+  pub names : n.names ≡ []
+  pub stock : length n.stock ≤ 2
 
 -- the server is idle, and slot 0 is bound to `a`, with the tombstone in buffer 2 as its root version
 pub record HasRoot (v : View) : Type 0 where
@@ -62,14 +62,7 @@ pub record HasRoot (v : View) : Type 0 where
   pub root : root_at v.server 0 ≡ Some 2097152
   pub directory : v.server.directory ≡ name
 
--- besides, slot 0 is bound to `a`
+-- besides, nothing was entered yet
 pub record IsBoundOnce (p : Plain) : Type 0 where
   pub new : IsNew p
-  pub client : view_at p 0 ≡ dealt_view p.setup
-  pub server : HasRoot (view_at p 1)
-
--- and the client has the name
-pub record IsNamed (p : Plain) : Type 0 where
-  pub new : IsNew p
-  pub client : view_at p 0 ≡ named_view p.setup
   pub server : HasRoot (view_at p 1)

@@ -1,35 +1,34 @@
-// The calls of a small pool's client by its node, access by access; each entry is entered behind the access that
-// decides it.
-ghost use Rattle.std.specs.Prelude.{◌≡◌, ◌≢◌, [], ◌∷◌, true, IfOk, IfSome};
-ghost use Rattle.clover_map.specs.declared.bytes.Value.{Value as Stored};
-ghost use Rattle.clover_map.specs.declared.call.Call.TheVariants.{Get as GetOf, Put as PutOf};
+// The calls of a small pool's client by its compute node, access by access; each entry is entered behind the access
+// that decides it.
+ghost use Rattle.std.specs.Prelude.{◌≡◌, ◌≤◌, [], ◌∷◌, ◌++◌, true, IfOk, IfSome};
+ghost use Rattle.clover_map.specs.declared.call.Call.{Call as Asked};
 ghost use Rattle.clover_get.specs.Getting.{value_in};
-ghost use Rattle.clover_plain.specs.Plain.{Plain, view_at};
+ghost use Rattle.clover_plain.specs.Plain.{KeptButEntries, Plain, history};
 ghost use Rattle.clover_words.specs.declared.bytes.ValueBuf.{ValueBuf as Room};
-ghost use Rattle.clover_call.specs.Turning.{OnMade};
-ghost use Rattle.clover_call.specs.declared.answer.CallerTurn.{CallerTurn as Turn};
-ghost use Rattle.clover_call.specs.declared.under.Underway.TheVariants.{Nothing};
-ghost use Rattle.clover_pools.specs.Calls.{Acted, Came, HasFirst, IsCommitted, IsIdle, IsNext, IsStarted, Serves};
+ghost use Rattle.clover_call.specs.Beginning.{ExpectsTag};
+ghost use Rattle.clover_node.specs.Turning.{OnMade};
+ghost use Rattle.clover_node.specs.declared.answer.NodeTurn.{NodeTurn as Turn};
+ghost use Rattle.clover_pools.specs.Calls.{Acted, Came, HasBegun, IsCommitted, LeavesServer, Serves, Stands, next_entry};
 ghost use Rattle.clover_pools.specs.Turns.{IsOutcome};
 
 use crate::turns::{Outcome, outcome_of};
-use clover_call::Caller;
 use clover_list::OutOfMemory;
-use clover_map::{Bytes, Call, Entry, Key, Reply, Value};
+use clover_map::{Bytes, Call, Entry, Reply, Value};
+use clover_node::{Node, NodeTurn};
 use clover_plain::{Actor, PlainPool};
-use clover_words::{Tag, ValueBuf};
+use clover_words::ValueBuf;
 use std::alloc::Global;
 use std::test::Fail;
 
 // The next access of the node's call, through a port of its client.
 fn call_next(
     pool: &mut PlainPool,
-    node: &mut Caller,
+    node: &mut Node,
     room: &mut ValueBuf,
 ) -> Result<Outcome, OutOfMemory>
-    requires serves { Serves pool.old node.old room.old }
-    requires busy { node.old.under ≢ Nothing }
-    ensures { IfOk result (λ outcome. (turn : Turn) × IsOutcome turn outcome × OnMade turn (Acted turn node.old node.new pool.old pool.new room.old room.new)) }
+    ghost call: { Asked }
+    requires { Serves pool.old node.old call room.old }
+    ensures { IfOk result (λ outcome. (turn : Turn) × IsOutcome turn outcome × OnMade turn (Acted turn call node.old node.new pool.old pool.new room.new)) }
 {
     pool.reserve()?;
     let mut port = pool.port(Actor::Client(1), false);
@@ -39,12 +38,12 @@ fn call_next(
 // The accesses of the node's call up to one that decides or ends it; `Other` too where there are more than sixteen.
 fn call_on(
     pool: &mut PlainPool,
-    node: &mut Caller,
+    node: &mut Node,
     room: &mut ValueBuf,
 ) -> Result<Outcome, OutOfMemory>
-    requires serves { Serves pool.old node.old room.old }
-    requires busy { node.old.under ≢ Nothing }
-    ensures { IfOk result (λ outcome. (turn : Turn) × IsOutcome turn outcome × OnMade turn (Came turn node.old pool.old node.new pool.new room.new)) }
+    ghost call: { Asked }
+    requires { Serves pool.old node.old call room.old }
+    ensures { IfOk result (λ outcome. (turn : Turn) × IsOutcome turn outcome × OnMade turn (Acted turn call node.old node.new pool.old pool.new room.new)) }
 {
     for _ in 0..16u32 {
         match call_next(pool, node, room)? {
@@ -55,76 +54,52 @@ fn call_on(
     Ok(Outcome::Other)
 }
 
-// Starts a put with buffer 0 for its version. Whether it was started.
-fn start_put(node: &mut Caller, call: &Call) -> bool
-    requires idle { (p : Plain) × IsIdle p node.old }
-    requires call { (x : Stored) × (call.now ≡ PutOf (97 ∷ []) x) }
-    ensures { result ≡ true → (p : Plain) (room : Room) → IsIdle p node.old → IsNext (view_at p 0) → IsStarted p node.new room call.now }
+// Starts a call. Whether it was started.
+fn start(node: &mut Node, call: &Call) -> bool
+    requires stands { (p : Plain) × (room : Room) × Stands p node.old }
+    requires expects { ExpectsTag call.now }
+    ensures { result ≡ true → HasBegun node.old node.new × ((p : Plain) (room : Room) → Stands p node.old → Serves p node.new call.now room) }
 {
-    let own = Tag {
-        node: 0,
-        index: 0,
-        generation: 0,
-    };
-    match node.start(0, Some(own), call) {
-        Ok(()) => {}
-        Err(_) => return false,
+    match node.start(call) {
+        Ok(()) => true,
+        Err(_) => false,
     }
-    true
 }
 
-// Starts a get. Whether it was started.
-fn start_get(node: &mut Caller, call: &Call) -> bool
-    requires idle { (p : Plain) × IsIdle p node.old }
-    requires call { call.now ≡ GetOf (97 ∷ []) }
-    ensures { result ≡ true → (p : Plain) (room : Room) → IsIdle p node.old → IsStarted p node.new room call.now }
-{
-    match node.start(0, None, call) {
-        Ok(()) => {}
-        Err(_) => return false,
-    }
-    true
-}
-
-// Makes the accesses of a put that was started up to the exchange that commits it, whose entry is entered. Whether it
-// came to that.
-fn commit(
+// A call from its start up to an access that decides or ends it.
+fn begin(
     pool: &mut PlainPool,
-    node: &mut Caller,
+    node: &mut Node,
     room: &mut ValueBuf,
-    call: Call,
-) -> Result<bool, OutOfMemory>
-    requires started { IsStarted pool.old node.old room.old call }
-    requires first { pool.old.entries ≡ [] }
-    ensures { IfOk result (λ committed. committed ≡ true → IsCommitted pool.new node.new room.new) }
+    call: &Call,
+) -> Result<Outcome, OutOfMemory>
+    ghost asked: { Asked }
+    requires call { asked ≡ call.now }
+    requires stands { Stands pool.old node.old }
+    requires expects { ExpectsTag call.now }
+    ensures { IfOk result (λ outcome. (turn : Turn) × IsOutcome turn outcome × OnMade turn (Came turn call.now node.old node.new pool.old pool.new room.new)) }
 {
-    let outcome = call_on(pool, node, room)?;
-    let Outcome::Committed(tag) = outcome else {
-        return Ok(false);
-    };
+    if !start(node, call) {
+        return Ok(Outcome::Other);
+    }
+    Ok(call_on(pool, node, room)?)
+}
+
+// Enters the entry of the client's call that the last access added.
+fn enter(pool: &mut PlainPool, call: Call, reply: Reply)
+    requires opened { pool.old.opened ≡ true }
+    requires room { 1 ≤ pool.old.entry_room }
+    requires due { history pool.old ≡ pool.old.entries ++ next_entry pool.old.entries call reply ∷ [] }
+    ensures entered { pool.new.entries ≡ history pool.new }
+    ensures same { KeptButEntries pool.old pool.new }
+{
+    let number = pool.entries().len() as u64 + 1;
     pool.enter(Entry {
         client: 1,
-        number: 1,
+        number,
         call,
-        reply: Reply::Stored { tag },
+        reply,
     });
-    Ok(true)
-}
-
-// Makes the accesses behind the exchange. The number of the tag under which the value is stored.
-fn finish(
-    pool: &mut PlainPool,
-    node: &mut Caller,
-    room: &mut ValueBuf,
-) -> Result<Option<u64>, OutOfMemory>
-    requires { IsCommitted pool.old node.old room.old }
-    ensures { IfOk result (λ o. IfSome o (λ tag. IsIdle pool.new node.new × HasFirst pool.new)) }
-{
-    let outcome = call_on(pool, node, room)?;
-    let Outcome::Stored(tag) = outcome else {
-        return Ok(None);
-    };
-    Ok(Some(tag))
 }
 
 // The value in the room, with these flags.
@@ -135,87 +110,123 @@ fn value_of(alloc: Global, flags: u32, room: &ValueBuf) -> Result<Value, Fail>
     Ok(Value { flags, bytes })
 }
 
-// Makes the accesses of a get that was started up to its end, whose entry is entered. The number of the tag that it
-// found.
-fn find(
+/// Whether the call does not start for want of stock. The node is then as it was.
+pub(crate) fn needs_stock(node: &mut Node, call: &Call) -> bool
+    requires stands { (p : Plain) × Stands p node.old }
+    requires expects { ExpectsTag call.now }
+    ensures { result ≡ true → node.new ≡ node.old }
+{
+    let _room = ValueBuf::new();
+    match node.start(call) {
+        Ok(()) => false,
+        Err(refusal) => matches!(outcome_of(NodeTurn::Refused(refusal)), Outcome::NeedsStock),
+    }
+}
+
+/// The call loads the count, and ends for want of names: how many the node has, and how many bindings there are.
+pub(crate) fn needs_names(
+    pool: &mut PlainPool,
+    node: &mut Node,
+    call: &Call,
+) -> Result<Option<(u32, u32)>, OutOfMemory>
+    requires stands { Stands pool.old node.old }
+    requires expects { ExpectsTag call.now }
+    ensures stands { IfOk result (λ o. IfSome o (λ q. Stands pool.new node.new)) }
+    ensures same { IfOk result (λ o. IfSome o (λ q. LeavesServer pool.old pool.new × (pool.new.entries ≡ pool.old.entries))) }
+    ensures kept { IfOk result (λ o. IfSome o (λ q. (node.new.names ≡ node.old.names) × (node.new.stock ≡ node.old.stock))) }
+{
+    match begin(pool, node, &mut ValueBuf::new(), call)? {
+        Outcome::NeedsNames(known, bound) => Ok(Some((known, bound))),
+        _ => Ok(None),
+    }
+}
+
+/// A put from its start up to the exchange that commits it. Whether it came to that.
+pub(crate) fn put_up_to_commit(
+    pool: &mut PlainPool,
+    node: &mut Node,
+    room: &mut ValueBuf,
+    call: Call,
+) -> Result<bool, OutOfMemory>
+    requires stands { Stands pool.old node.old }
+    requires expects { ExpectsTag call }
+    ensures { IfOk result (λ committed. committed ≡ true → IsCommitted pool.new node.new call room.new × LeavesServer pool.old pool.new) }
+{
+    let outcome = begin(pool, node, room, &call)?;
+    let Outcome::Committed(tag) = outcome else {
+        return Ok(false);
+    };
+    enter(pool, call, Reply::Stored { tag });
+    Ok(true)
+}
+
+// Makes the accesses behind the exchange. The number of the tag under which the value is stored.
+fn finish(
+    pool: &mut PlainPool,
+    node: &mut Node,
+    room: &mut ValueBuf,
+) -> Result<Option<u64>, OutOfMemory>
+    ghost call: { Asked }
+    requires { IsCommitted pool.old node.old call room.old }
+    ensures { IfOk result (λ o. IfSome o (λ tag. Stands pool.new node.new)) }
+{
+    let outcome = call_on(pool, node, room)?;
+    let Outcome::Stored(tag) = outcome else {
+        return Ok(None);
+    };
+    Ok(Some(tag))
+}
+
+/// A whole put. The number of the tag under which the value is stored.
+pub(crate) fn put(
+    pool: &mut PlainPool,
+    node: &mut Node,
+    call: Call,
+) -> Result<Option<u64>, OutOfMemory>
+    ghost asked: { Asked }
+    requires call { asked ≡ call }
+    requires stands { Stands pool.old node.old }
+    requires expects { ExpectsTag call }
+    ensures { IfOk result (λ o. IfSome o (λ tag. Stands pool.new node.new)) }
+{
+    let mut room = ValueBuf::new();
+    if !put_up_to_commit(pool, node, &mut room, call)? {
+        return Ok(None);
+    }
+    finish(pool, node, &mut room)
+}
+
+/// A get that finds a value: the number of its tag; its bytes stand in the room.
+pub(crate) fn get(
     alloc: Global,
     pool: &mut PlainPool,
-    node: &mut Caller,
+    node: &mut Node,
     room: &mut ValueBuf,
     call: Call,
 ) -> Result<Option<u64>, Fail>
-    requires started { IsStarted pool.old node.old room.old call }
-    requires first { HasFirst pool.old }
+    requires stands { Stands pool.old node.old }
+    requires expects { ExpectsTag call }
+    ensures { IfOk result (λ o. IfSome o (λ tag. Stands pool.new node.new)) }
 {
-    let outcome = call_on(pool, node, room)?;
+    let outcome = begin(pool, node, room, &call)?;
     let Outcome::Found(tag, flags) = outcome else {
         return Ok(None);
     };
     let value = value_of(alloc, flags, room)?;
-    pool.enter(Entry {
-        client: 1,
-        number: 2,
-        call,
-        reply: Reply::Found { tag, value },
-    });
+    enter(pool, call, Reply::Found { tag, value });
     Ok(Some(tag))
 }
 
-/// The client begins to put this value under `a`, up to the exchange that commits it. Whether it came to that.
-pub(crate) fn put_up_to_commit(
-    pool: &mut PlainPool,
-    node: &mut Caller,
-    room: &mut ValueBuf,
-    value: Value,
-) -> Result<bool, Fail>
-    requires idle { IsIdle pool.old node.old }
-    requires next { IsNext (view_at pool.old 0) }
-    requires first { pool.old.entries ≡ [] }
-    ensures { IfOk result (λ committed. committed ≡ true → IsCommitted pool.new node.new room.new) }
+/// A call whose key has nothing. Whether it came to that.
+pub(crate) fn miss(pool: &mut PlainPool, node: &mut Node, call: Call) -> Result<bool, OutOfMemory>
+    requires stands { Stands pool.old node.old }
+    requires expects { ExpectsTag call }
+    ensures { IfOk result (λ missed. missed ≡ true → Stands pool.new node.new) }
 {
-    let call = Call::Put {
-        key: Key::of(b"a")?,
-        value,
-    };
-    if !start_put(node, &call) {
+    let outcome = begin(pool, node, &mut ValueBuf::new(), &call)?;
+    let Outcome::Absent = outcome else {
         return Ok(false);
-    }
-    Ok(commit(pool, node, room, call)?)
-}
-
-/// The client puts this value under `a`. The number of the tag under which they are stored.
-pub(crate) fn put(
-    pool: &mut PlainPool,
-    node: &mut Caller,
-    value: Value,
-) -> Result<Option<u64>, Fail>
-    requires idle { IsIdle pool.old node.old }
-    requires next { IsNext (view_at pool.old 0) }
-    requires first { pool.old.entries ≡ [] }
-    ensures { IfOk result (λ o. IfSome o (λ tag. IsIdle pool.new node.new × HasFirst pool.new)) }
-{
-    let mut room = ValueBuf::new();
-    if !put_up_to_commit(pool, node, &mut room, value)? {
-        return Ok(None);
-    }
-    Ok(finish(pool, node, &mut room)?)
-}
-
-/// The client gets what `a` has. The number of the tag that it found; the bytes stand in the room.
-pub(crate) fn get(
-    alloc: Global,
-    pool: &mut PlainPool,
-    node: &mut Caller,
-    room: &mut ValueBuf,
-) -> Result<Option<u64>, Fail>
-    requires idle { IsIdle pool.old node.old }
-    requires first { HasFirst pool.old }
-{
-    let call = Call::Get {
-        key: Key::of(b"a")?,
     };
-    if !start_get(node, &call) {
-        return Ok(None);
-    }
-    find(alloc, pool, node, room, call)
+    enter(pool, call, Reply::Absent);
+    Ok(true)
 }

@@ -10,10 +10,10 @@ ghost use Rattle.clover_pools.specs.Small.{IsReady, IsSmall};
 
 use crate::bindings::{begun_pool, small_setup};
 use crate::calls::put_up_to_commit;
-use crate::grants::grant;
-use clover_call::Caller;
+use crate::grants::{first_client, hand_batch, name_key};
+use clover_alloc::Books;
 use clover_list::OutOfMemory;
-use clover_map::{Bytes, Value};
+use clover_map::{Bytes, Call, Key, Value};
 use clover_plain::{Access, Act, Actor, PlainPool};
 use clover_recycle::{RecycleTask, RecycleTurn};
 use clover_words::{Buffer, Setup, Side, Tag, ValueBuf, Word};
@@ -76,11 +76,17 @@ fn put_once(alloc: Global, pool: &mut PlainPool, setup: Setup, value: Value) -> 
     requires setup { pool.old.setup ≡ setup }
     ensures { IfOk result (λ put. put ≡ true → IsReady pool.new × IsSmall pool.new × HasRoot (view_at pool.new 1)) }
 {
-    if !grant(alloc, pool, setup)? {
+    let mut node = first_client(alloc, pool, setup)?;
+    let mut books = Books::make(alloc, setup.pool)?;
+    hand_batch(pool, &mut node, &mut books);
+    if !name_key(alloc, pool, &mut node, &mut books, setup)? {
         return Ok(false);
     }
-    let mut node = Caller::make(alloc, setup.pool)?;
-    put_up_to_commit(pool, &mut node, &mut ValueBuf::new(), value)
+    let call = Call::Put {
+        key: Key::of(b"a")?,
+        value,
+    };
+    Ok(put_up_to_commit(pool, &mut node, &mut ValueBuf::new(), call)?)
 }
 
 // The accesses of a recycling that moves the root of slot 0 from the tombstone in buffer 2 to the version in buffer 0.

@@ -1,13 +1,17 @@
-// The metadata server of a small pool hands over a batch, binds a key and hands over its name; then the client puts and
-// gets by its node. Each access is made and listed.
-ghost use Rattle.std.specs.Prelude.{◌≡◌};
+// The compute node of a small pool's client puts and gets: it asks for stock and for names, the metadata server hands
+// over a batch, binds a key and hands over its name, and the calls are started anew. Each access is made and listed.
+ghost use Rattle.std.specs.Prelude.{◌≡◌, true, IfOk};
+ghost use Rattle.clover_call.specs.Beginning.{ExpectsTag};
+ghost use Rattle.clover_node.specs.Node.{first_node};
+ghost use Rattle.clover_pools.specs.Calls.{Stands};
 ghost use Rattle.clover_pools.specs.Grants.{IsBegun};
 
 use crate::bindings::{begun_pool, small_setup};
-use crate::calls::{get, put};
-use crate::grants::grant;
-use clover_call::Caller;
-use clover_map::{Bytes, Value};
+use crate::calls::{get, miss, needs_names, needs_stock, put};
+use crate::grants::{first_client, hand_batch, name_key};
+use clover_alloc::Books;
+use clover_map::{Bytes, Call, Key, Value};
+use clover_node::Node;
 use clover_plain::{Access, Act, Actor, PlainPool};
 use clover_words::{Buffer, Setup, Side, ValueBuf, Word};
 use std::alloc::Global;
@@ -101,32 +105,85 @@ fn add(listed: &mut Vec<Access>, actor: Actor, acts: &[Act]) -> Result<(), Fail>
     Ok(())
 }
 
-// The session over a pool whose run begins: the numbers of the tags that were stored and found.
+// What a node needs for this call: a batch, for want of which it is not started; and the name of the key, for want of
+// which it loads the count and ends. Whether each answer was so, and the key is bound.
+fn supply(
+    alloc: Global,
+    pool: &mut PlainPool,
+    node: &mut Node,
+    setup: Setup,
+    call: &Call,
+) -> Result<bool, Fail>
+    requires begun { IsBegun pool.old }
+    requires setup { pool.old.setup ≡ setup }
+    requires stands { Stands pool.old node.old }
+    requires first { node.old ≡ first_node setup.pool 1 }
+    requires expects { ExpectsTag call.now }
+    ensures { IfOk result (λ supplied. supplied ≡ true → Stands pool.new node.new) }
+{
+    let mut books = Books::make(alloc, setup.pool)?;
+    if !needs_stock(node, call) {
+        return Ok(false);
+    }
+    hand_batch(pool, node, &mut books);
+    let Some((0, 0)) = needs_names(pool, node, call)? else {
+        return Ok(false);
+    };
+    name_key(alloc, pool, node, &mut books, setup)
+}
+
+// The calls of a node that has what it needs: the numbers of the tags that were stored and found, and whether the other
+// key has nothing.
+fn calls(
+    alloc: Global,
+    pool: &mut PlainPool,
+    node: &mut Node,
+    room: &mut ValueBuf,
+    first: Call,
+) -> Result<Option<(u64, u64, bool)>, Fail>
+    requires stands { Stands pool.old node.old }
+    requires expects { ExpectsTag first }
+{
+    let Some(stored) = put(pool, node, first)? else {
+        return Ok(None);
+    };
+    let bound = Call::Get {
+        key: Key::of(b"a")?,
+    };
+    let Some(found) = get(alloc, pool, node, room, bound)? else {
+        return Ok(None);
+    };
+    let unbound = Call::Get {
+        key: Key::of(b"b")?,
+    };
+    let missed = miss(pool, node, unbound)?;
+    Ok(Some((stored, found, missed)))
+}
+
+// The session over a pool whose run begins.
 fn session(
     alloc: Global,
     pool: &mut PlainPool,
     setup: Setup,
     room: &mut ValueBuf,
     value: Value,
-) -> Result<Option<(u64, u64)>, Fail>
+) -> Result<Option<(u64, u64, bool)>, Fail>
     requires begun { IsBegun pool.old }
     requires setup { pool.old.setup ≡ setup }
 {
-    if !grant(alloc, pool, setup)? {
+    let mut node = first_client(alloc, pool, setup)?;
+    let call = Call::Put {
+        key: Key::of(b"a")?,
+        value,
+    };
+    if !supply(alloc, pool, &mut node, setup, &call)? {
         return Ok(None);
     }
-    let mut node = Caller::make(alloc, setup.pool)?;
-    let Some(stored) = put(pool, &mut node, value)? else {
-        return Ok(None);
-    };
-    let Some(found) = get(alloc, pool, &mut node, room)? else {
-        return Ok(None);
-    };
-    Ok(Some((stored, found)))
+    calls(alloc, pool, &mut node, room, call)
 }
 
 #[test]
-fn a_key_that_the_server_bound_is_put_and_found(rt: HostRuntime) -> Result<(), Fail> {
+fn a_node_asks_for_what_its_calls_need(rt: HostRuntime) -> Result<(), Fail> {
     let setup = small_setup()?;
     let mut pool = begun_pool(rt.alloc(), setup)?;
     let mut room = ValueBuf::new();
@@ -134,17 +191,19 @@ fn a_key_that_the_server_bound_is_put_and_found(rt: HostRuntime) -> Result<(), F
         flags: 0,
         bytes: Bytes::of(rt.alloc(), b"hello")?,
     };
-    let Some((stored, found)) = session(rt.alloc(), &mut pool, setup, &mut room, hello)? else {
+    let Some((stored, found, missed)) = session(rt.alloc(), &mut pool, setup, &mut room, hello)?
+    else {
         return Err("an answer")?;
     };
-    assert_eq!(rt; stored, 0);
-    assert_eq!(rt; found, 0);
+    assert_eq!(rt; (stored, found, missed), (0, 0, true));
     assert!(rt; room.value() == b"hello".as_slice());
     let mut listed = Vec::new(rt.alloc());
+    add(&mut listed, Actor::Client(1), &[load(Word::Count, 0)])?;
     add(&mut listed, Actor::Server, &bound())?;
     add(&mut listed, Actor::Client(1), &put_acts())?;
     add(&mut listed, Actor::Client(1), &get_acts())?;
+    add(&mut listed, Actor::Client(1), &[load(Word::Count, 1)])?;
     assert_eq!(rt; pool.accesses(), listed.as_slice());
-    assert_eq!(rt; pool.entries().len(), 2);
+    assert_eq!(rt; pool.entries().len(), 3);
     Ok(())
 }

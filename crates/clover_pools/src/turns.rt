@@ -1,8 +1,8 @@
 // What the tests over a plain pool tell apart of a node's turns.
-ghost use Rattle.clover_call.specs.declared.answer.CallerTurn.TheVariants.{Decided as IsDecided, Done as IsDone};
+ghost use Rattle.clover_node.specs.declared.answer.NodeTurn.TheVariants.{Decided as IsDecided, Done as IsDone, Refused as IsRefused};
 ghost use Rattle.clover_pools.specs.Turns.{IsOutcome};
 
-use clover_call::{Answer, CallerTurn};
+use clover_node::{Answer, NodeRefusal, NodeTurn};
 
 /// What an access of a call came to, with the number of the tag that it tells.
 #[derive(Clone, Copy)]
@@ -15,6 +15,12 @@ pub enum Outcome {
     Stored(u64),
     /// A get is over, and found a value with these flags.
     Found(u64, u32),
+    /// A call is over, and its key has nothing.
+    Absent,
+    /// The stock is empty.
+    NeedsStock,
+    /// The node has so many names, and so many bindings there are.
+    NeedsNames(u32, u32),
     /// Anything else.
     Other,
 }
@@ -36,18 +42,30 @@ fn done(answer: Answer) -> Outcome
     match answer {
         Answer::Stored { tag } => Outcome::Stored(tag.number()),
         Answer::Found { tag, flags } => Outcome::Found(tag.number(), flags),
+        Answer::Absent => Outcome::Absent,
+        _ => Outcome::Other,
+    }
+}
+
+// What it comes to that a call is over without an answer, or was not started.
+fn refused(refusal: NodeRefusal) -> Outcome
+    ensures { IsOutcome (IsRefused refusal) result }
+{
+    match refusal {
+        NodeRefusal::NeedsStock => Outcome::NeedsStock,
+        NodeRefusal::NeedsNames { known, bound } => Outcome::NeedsNames(known, bound),
         _ => Outcome::Other,
     }
 }
 
 /// What a turn comes to.
-pub fn outcome_of(turn: CallerTurn) -> Outcome
+pub fn outcome_of(turn: NodeTurn) -> Outcome
     ensures { IsOutcome turn result }
 {
     match turn {
-        CallerTurn::More => Outcome::More,
-        CallerTurn::Decided(answer) => decided(answer),
-        CallerTurn::Done(answer) => done(answer),
-        CallerTurn::Refused(_) => Outcome::Other,
+        NodeTurn::More => Outcome::More,
+        NodeTurn::Decided(answer) => decided(answer),
+        NodeTurn::Done(answer) => done(answer),
+        NodeTurn::Refused(refusal) => refused(refusal),
     }
 }

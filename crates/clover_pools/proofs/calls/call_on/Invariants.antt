@@ -1,7 +1,9 @@
-use Rattle.std.proofs.Common.{◌≢◌}
-use Rattle.clover_call.specs.declared.under.Underway.TheVariants.{Nothing}
-use Rattle.clover_pools.specs.Calls.{Serves, Since}
+use Rattle.clover_pools.specs.Calls.{Serves}
+use Rattle.clover_pools.proofs.Calling.{Since}
 use Rattle.clover_pools.proofs.calls.call_on.Given as goal
 
+abbrev pub ghost-call_next : goal.ghost-call_next
+ghost-call_next g a = g.call
+
 abbrev pub invariant-loop : goal.invariant-loop
-invariant-loop l = Serves l.pool l.node l.room × (l.node.under ≢ Nothing) × Since l.initial.node l.initial.pool l.node l.pool
+invariant-loop g l = Serves l.pool l.node g.call l.room × Since l.initial.node l.initial.pool l.node l.pool

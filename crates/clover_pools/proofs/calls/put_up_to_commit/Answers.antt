@@ -1,0 +1,26 @@
+use Rattle.clover_node.specs.declared.answer.NodeTurn.{NodeTurn}
+use Rattle.clover_pools.specs.Calls.{Came}
+use Rattle.clover_pools.proofs.Serving.{by_committed, put_committed, put_due}
+use Rattle.clover_pools.proofs.calls.put_up_to_commit.Goals as goal
+
+pub enter-requires-clause-opened : goal.enter-requires-clause-opened
+enter-requires-clause-opened c =
+    let e = c.in_ok-outcome.ensures in
+    (by_committed (λ (t : NodeTurn). Came t c.args.call c.args.node.now c.begin.new.node c.args.pool.now c.begin.new.pool c.begin.new.room) e.0 e.2 c.in_ok-outcome.outcome e.1 c.in-Committed.tag c.in-Committed.is).2.acted.opened
+
+pub enter-requires-clause-room : goal.enter-requires-clause-room
+enter-requires-clause-room c =
+    let e = c.in_ok-outcome.ensures in
+    (by_committed (λ (t : NodeTurn). Came t c.args.call c.args.node.now c.begin.new.node c.args.pool.now c.begin.new.pool c.begin.new.room) e.0 e.2 c.in_ok-outcome.outcome e.1 c.in-Committed.tag c.in-Committed.is).2.acted.free
+
+pub enter-requires-clause-due : goal.enter-requires-clause-due
+enter-requires-clause-due c =
+    let e = c.in_ok-outcome.ensures in let n = c.args.node.now in let m = c.begin.new.node in let p = c.args.pool.now in let q = c.begin.new.pool in let room = c.begin.new.room in
+    let h = by_committed (λ (t : NodeTurn). Came t c.args.call n m p q room) e.0 e.2 c.in_ok-outcome.outcome e.1 c.in-Committed.tag c.in-Committed.is in
+    put_due c.args.call n m p q room c.requires.stands h.0 c.in-Committed.tag h.1 h.2
+
+pub returns : goal.returns
+returns c = λ yes.
+    let e = c.in_ok-outcome.ensures in let n = c.args.node.now in let m = c.begin.new.node in let p = c.args.pool.now in let q = c.begin.new.pool in let room = c.begin.new.room in
+    let h = by_committed (λ (t : NodeTurn). Came t c.args.call n m p q room) e.0 e.2 c.in_ok-outcome.outcome e.1 c.in-Committed.tag c.in-Committed.is in
+    put_committed c.args.call n m p q room c.requires.stands h.0 c.in-Committed.tag h.1 h.2 c.enter.new.pool c.enter.ensures.same c.enter.ensures.entered
