@@ -4,9 +4,10 @@ use Rattle.clover_words.specs.declared.bytes.ValueBuf.{ValueBuf}
 use Rattle.clover_words.specs.Version.{unlinked}
 use Rattle.clover_rule.specs.Learned.{turn_of}
 use Rattle.clover_rule.specs.declared.view.View.{View}
-use Rattle.clover_walk.specs.Walking.{Walking, Stand, AtShort, AtRoot, AtTag, AtLink, OnTail, Ended as StandEnded, IsOnWay, goes_from, goes_on}
+use Rattle.clover_walk.specs.Walking.{Walking, Stand, OnTail, Ended as StandEnded, IsOnWay, goes_from, goes_on}
 use Rattle.clover_get.specs.Getting.{Getting, Stage, Seeking, AtMeta, AtValue, AtFound, AtDead, AtBad, Over, IsOpen, getting, sought, step_from, GoesFrom}
 use Rattle.clover_get.specs.Holding.{StandsOn}
+use Rattle.clover_walk.proofs.Calling.{by_way}
 use Rattle.clover_call.proofs.Walks.{on_walk}
 
 -- a last load shows the tag not unlinked
@@ -30,12 +31,7 @@ walk_goes : (at : Stand) (w : Walking) (x : ℕ) → Stays at → Goes w (goes_f
 walk_goes at w x h = let k = on_walk at w x in record { pool = k.pool; slot = k.slot; first = k.first (λ (e : at ≡ StandEnded). absurd (subst Stays e h)) }
 
 way_stays : (at : Stand) → IsOnWay at → Stays at
-way_stays AtShort h = tt
-way_stays AtRoot h = tt
-way_stays (AtTag t) h = tt
-way_stays (AtLink t u) h = tt
-way_stays (OnTail t) h = absurd h
-way_stays StandEnded h = absurd h
+way_stays at h = by_way Stays at h tt tt (λ t. tt) (λ t u. tt)
 
 tail_goes : (w : Walking) (t x : ℕ) → w.stand ≡ OnTail t → Goes w (goes_on w x)
 tail_goes w t x e = walk_goes w.stand w x (subst Stays (sym e) tt)

@@ -20,8 +20,8 @@ use Rattle.clover_walk.proofs.Endings.{stepped}
 use Rattle.clover_get.specs.Getting.{Getting, Stage as GetStage, Seeking as GetSeeking, AtMeta as GetMeta, AtValue, AtFound, AtDead, AtBad as GetBad, Over as GetOver, step_from, GoesOn as GetGoesOn}
 use Rattle.clover_get.specs.Going.{key_of}
 use Rattle.clover_get.specs.Holding.{GetHolds}
-use Rattle.clover_put.specs.Answering.{IsBefore, IsBehind}
-use Rattle.clover_put.specs.Holding.{PutHolds, Fills, Owns}
+use Rattle.clover_put.specs.Answering.{IsBehind}
+use Rattle.clover_put.specs.Holding.{PutHolds, Fills}
 use Rattle.clover_put.specs.Putting.{Putting, Stage, Storing, Flushing, Seeking, AtMeta, AtLink, Deciding, AtBad, AtRaise, AtShort, Over, call_of, put_step, put_on, staged, walked, unless_left}
 use Rattle.clover_call.specs.Going.{GoesOn, IsQuiet, IsSameCall, Stays, Turns, Went}
 use Rattle.clover_call.specs.Caller.{CallHolds, HasCommitted, IsUncommitted, is_first, new_tag, next_step, slot_of, call_under}

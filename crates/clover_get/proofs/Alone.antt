@@ -24,8 +24,9 @@ use Rattle.clover_rule.specs.Steps.{DecideNext}
 use Rattle.clover_rule.specs.declared.view.View.{View}
 use Rattle.clover_rule.proofs.Spelling.{nth_all, short_enough}
 use Rattle.clover_walk.specs.Alone.{alone, HasVersion, ReachesAfter, raised, version_words}
-use Rattle.clover_walk.specs.Walking.{Walking, Stand, AtShort, AtRoot, AtTag, AtLink, OnTail, Ended, IsOnWay, walk_step, goes_on, key_at}
+use Rattle.clover_walk.specs.Walking.{Walking, OnTail, IsOnWay, walk_step, goes_on, key_at}
 use Rattle.clover_walk.specs.declared.start.Start.{Start}
+use Rattle.clover_walk.proofs.Calling.{by_way}
 use Rattle.clover_walk.proofs.Alone.{load_leaves, start_law, raised_version, last_range, content_words}
 use Rattle.clover_get.specs.Alone.{Moment, next_step, GoesAlone, LeadsAlone, reply_at, StandsIn, EndsAfter, GetLaw}
 use Rattle.clover_get.specs.Getting.{Getting, Stage, Seeking, AtMeta, AtValue, AtFound, AtDead, AtBad, Over, IsOpen, Reads, getting, sought, stage_at, value_in, valued, read_stage}
@@ -54,15 +55,7 @@ and_then p v n a P Q s f = record {
 
 -- the walk's accesses
 seeking : (w : Walking) → IsOnWay w.stand → sought w ≡ getting w Seeking
-seeking w h = at w.stand h
-  where
-    at : (s : Stand) → IsOnWay s → getting w (stage_at s) ≡ getting w Seeking
-    at AtShort h = refl
-    at AtRoot h = refl
-    at (AtTag t) h = refl
-    at (AtLink t u) h = refl
-    at (OnTail t) h = absurd h
-    at Ended h = absurd h
+seeking w h = by_way (λ s. getting w (stage_at s) ≡ getting w Seeking) w.stand h refl refl (λ t. refl) (λ t u. refl)
 
 module _ (p : Pool) (Q : Moment → Type 0) where
   walk_one : (v : View) (ws : List ℕ) (w : Walking) (room : ValueBuf) → Steps p v (moment ws (getting w Seeking) room) (λ (b : Moment). b ≡ moment (words_after_step p (walk_step w) ws) (sought (goes_on w (found p (walk_step w) ws))) room)

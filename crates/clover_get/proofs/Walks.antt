@@ -22,7 +22,7 @@ use Rattle.clover_walk.specs.Turning.{Answers}
 use Rattle.clover_walk.specs.Walking.{Walking, Stand, AtShort, AtRoot, AtTag, AtLink, OnTail, Ended, IsOnWay, Holds, ShowsNext, walk_step, step_at, goes_on, key_at, budget, most_accesses, since_turn}
 use Rattle.clover_walk.specs.declared.turn.Turn.{Turn}
 use Rattle.clover_walk.specs.declared.turn.Turn.TheVariants.{More as WalksOn, AtTail, Behind as WalkBehind, Unreached as Refused}
-use Rattle.clover_walk.proofs.Calling.{since_few}
+use Rattle.clover_walk.proofs.Calling.{by_way, since_few}
 use Rattle.clover_walk.proofs.Endings.{shows_load, shows_decide}
 use Rattle.clover_walk.proofs.Goes.{walk_asks, walk_finds, walk_goes, tail_finds, tail_goes}
 use Rattle.clover_get.specs.declared.turn.GetTurn.{GetTurn}
@@ -36,12 +36,7 @@ use Rattle.clover_get.proofs.Counting.{InTurns, HasRoot, goes, misses, bounded, 
 use Rattle.clover_get.proofs.Ends.{meta_went, value_went, found_went, dead_went}
 
 on_way : (at : Stand) → IsOnWay at → stage_at at ≡ Seeking
-on_way AtShort h = refl
-on_way AtRoot h = refl
-on_way (AtTag t) h = refl
-on_way (AtLink t u) h = refl
-on_way (OnTail t) h = absurd h
-on_way Ended h = absurd h
+on_way at h = by_way (λ s. stage_at s ≡ Seeking) at h refl refl (λ t. refl) (λ t u. refl)
 
 -- a named slot has a root
 root_says : (p : Pool) (ws : List ℕ) (s : ℕ) (k : List ℕ) (at : Stand) (v : View) (x : ℕ) → Within (s, k) v.pass.names → Says p ws (step_at s at) v x → HasRoot at x

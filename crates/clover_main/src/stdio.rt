@@ -6,37 +6,50 @@ use crate::io::{Failed, Sink, Source};
 use std::io::{Read, Write};
 use std::marker::Model;
 
-/// A source over a reader. A failed read counts as a fault.
+/// A reader or a writer, and how many of its calls failed.
 #[derive(Drop)]
-pub struct StdSource<I: Read + Drop> {
-    reader: I,
+pub struct Stream<T: Drop> {
+    inner: T,
     faults: u64,
 }
 
-impl<I: Read + Drop> Model for StdSource<I> {
+/// A source over a reader. A failed read counts as a fault.
+pub type StdSource<I> = Stream<I>;
+
+/// A sink over a writer. A failed write, and one that takes nothing of a piece, counts as a fault.
+pub type StdSink<W> = Stream<W>;
+
+impl<T: Drop> Model for Stream<T> {
     ghost use Rattle.clover_main.specs.Edge.{Counted};
 
-    ghost Value = { Counted I };
+    ghost Value = { Counted T };
 
-    ghost view = { λ s. record { inner = s.reader; faults = s.faults } };
+    ghost view = { λ s. record { inner = s.inner; faults = s.faults } };
 }
 
-impl<I: Read + Drop> StdSource<I> {
-    /// The source over this reader, with no fault yet. Takes no memory.
-    pub fn make(reader: I) -> StdSource<I>
-        ensures { (result.inner ≡ reader) × (result.faults ≡ 0) }
+impl<T: Drop> Stream<T> {
+    /// The source over this reader, or the sink over this writer, with no fault yet. Takes no memory.
+    pub fn make(inner: T) -> Stream<T>
+        ensures { (result.inner ≡ inner) × (result.faults ≡ 0) }
     {
-        StdSource { reader, faults: 0 }
+        Stream { inner, faults: 0 }
+    }
+
+    /// The reader or the writer.
+    pub fn inner(&self) -> &T
+        ensures { result.now ≡ self.now.inner }
+    {
+        &self.inner
     }
 }
 
-impl<I: Read + Drop> Source for StdSource<I> {
+impl<I: Read + Drop> Source for Stream<I> {
     ghost left = { λ s. I.remaining s.inner };
 
     ghost faults = { λ s. s.faults };
 
     fn take(&mut self, into: &mut [u8]) -> Result<usize, Failed> {
-        match self.reader.read(into) {
+        match self.inner.read(into) {
             Ok(count) => Ok(count),
             Err(_) => {
                 self.faults = self.faults.saturating_add(1);
@@ -46,38 +59,7 @@ impl<I: Read + Drop> Source for StdSource<I> {
     }
 }
 
-/// A sink over a writer. A failed write, and one that takes nothing of a piece, counts as a fault.
-#[derive(Drop)]
-pub struct StdSink<W: Write + Drop> {
-    writer: W,
-    faults: u64,
-}
-
-impl<W: Write + Drop> Model for StdSink<W> {
-    ghost use Rattle.clover_main.specs.Edge.{Counted};
-
-    ghost Value = { Counted W };
-
-    ghost view = { λ s. record { inner = s.writer; faults = s.faults } };
-}
-
-impl<W: Write + Drop> StdSink<W> {
-    /// The sink over this writer, with no fault yet. Takes no memory.
-    pub fn make(writer: W) -> StdSink<W>
-        ensures { (result.inner ≡ writer) × (result.faults ≡ 0) }
-    {
-        StdSink { writer, faults: 0 }
-    }
-
-    /// The writer.
-    pub fn writer(&self) -> &W
-        ensures { result.now ≡ self.now.inner }
-    {
-        &self.writer
-    }
-}
-
-impl<W: Write + Drop> Sink for StdSink<W> {
+impl<W: Write + Drop> Sink for Stream<W> {
     ghost taken = { λ s. W.contents s.inner };
 
     ghost faults = { λ s. s.faults };
@@ -85,7 +67,7 @@ impl<W: Write + Drop> Sink for StdSink<W> {
     fn put(&mut self, piece: &[u8]) -> Result<(), Failed> {
         let mut rest = piece;
         while !rest.is_empty() {
-            match self.writer.write(rest) {
+            match self.inner.write(rest) {
                 Ok(count) if count > 0 => rest = behind(rest, count),
                 _ => {
                     self.faults = self.faults.saturating_add(1);

@@ -31,7 +31,8 @@ use Rattle.clover_rule.proofs.Ties.{kind_of as word_kind, content_kind, buffer_i
 use Rattle.clover_rule.proofs.Keeping.{read_root, read_short}
 use Rattle.clover_walk.specs.Alone.{Way, way_from, way_from_short, ComesBy, HasVersion, raised, version_words, alone as walk_alone}
 use Rattle.clover_walk.specs.declared.start.Start.TheVariants.{FromCursor}
-use Rattle.clover_walk.specs.Walking.{Walking, Stand, AtShort as ToShort, AtRoot, AtTag, AtLink as OnLink, OnTail, Ended, IsOnWay, begun, walk_step, goes_on}
+use Rattle.clover_walk.specs.Walking.{Walking, OnTail, IsOnWay, begun, walk_step, goes_on}
+use Rattle.clover_walk.proofs.Calling.{by_way}
 use Rattle.clover_walk.proofs.Alone.{load_leaves, walk_same, start_law, raised_version, last_range, content_within, content_words}
 use Rattle.clover_put.specs.declared.job.Job.{Job}
 use Rattle.clover_put.specs.declared.job.Job.TheVariants.{Put, Delete, Swap}
@@ -140,15 +141,7 @@ tail_some (Swap e) u (Some x) = go (eqb (tag_number e) u)
 -- the walk
 module _ (p : Pool) (c : Putting) (at : Stage) where
   seek_one : (w : Walking) → IsOnWay w.stand → record c { walk = w; stage = Seeking } ≡ walked c w
-  seek_one w h = ap (λ (s : Stage). record c { walk = w; stage = s }) (by w.stand h)
-    where
-      by : (s : Stand) → IsOnWay s → Seeking ≡ reached c.job s
-      by ToShort h = refl
-      by AtRoot h = refl
-      by (AtTag t) h = refl
-      by (OnLink t u) h = refl
-      by (OnTail t) h = absurd h
-      by Ended h = absurd h
+  seek_one w h = ap (λ (s : Stage). record c { walk = w; stage = s }) (by_way (λ s. Seeking ≡ reached c.job s) w.stand h refl refl (λ t. refl) (λ t u. refl))
 
   walking : (k n : ℕ) (ws : List ℕ) (w : Walking) → 0 < n → ((j : ℕ) → j < k → IsOnWay (walk_alone p j ws w).1.stand) → ((v : ℕ → View) → EndsAfter p n v (walk_alone p k ws w).0 (walked c (walk_alone p k ws w).1) at)
       → (v : ℕ → View) → EndsAfter p (k + n) v ws (walked c w) at

@@ -20,7 +20,8 @@ use Rattle.clover_rule.specs.Words.{next_code, next_of, root_of}
 use Rattle.clover_rule.specs.declared.view.View.{View}
 use Rattle.clover_rule.proofs.Ties.{content_in, buffer_in}
 use Rattle.clover_rule.proofs.Tools.{nth_within}
-use Rattle.clover_walk.specs.Walking.{Walking, Stand, AtShort as ToShort, AtRoot, AtTag, AtLink as OnLink, OnTail, Ended, StandsOn, Holds, IsOnWay, ShowsNext, walk_step, step_at, goes_on, key_at, since_turn}
+use Rattle.clover_walk.specs.Walking.{Walking, Stand, AtRoot, OnTail, StandsOn, Holds, IsOnWay, ShowsNext, walk_step, step_at, goes_on, key_at, since_turn}
+use Rattle.clover_walk.proofs.Calling.{by_way}
 use Rattle.clover_walk.proofs.Endings.{IsPlain, stepped, kept, shows_load, shows_decide, shows_link}
 use Rattle.clover_walk.proofs.Goes.{walk_asks, walk_finds, walk_goes, tail_finds, tail_goes}
 use Rattle.clover_put.specs.Answering.{IsBefore}
@@ -96,12 +97,7 @@ put_asks p c v of is h own within = asks_from p c v of c.stage is h own within
 
 -- a step of a walk ends no call
 plain_walk : (s : ℕ) (at : Stand) (x : ℕ) → IsOnWay at → IsPlain (step_at s at) x
-plain_walk s ToShort x h = tt
-plain_walk s AtRoot x h = tt
-plain_walk s (AtTag t) x h = tt
-plain_walk s (OnLink t u) x h = tt
-plain_walk s (OnTail t) x h = absurd h
-plain_walk s Ended x h = absurd h
+plain_walk s at x h = by_way (λ z. IsPlain (step_at s z) x) at h tt tt (λ t. tt) (λ t u. tt)
 
 -- a meta word of no version is that of a tag that has been passed
 meta_says : (p : Pool) (y : ℕ) → IsMetaWord p y → kind_of y ≡ None → ⊥

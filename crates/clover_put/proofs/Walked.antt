@@ -18,7 +18,7 @@ use Rattle.clover_walk.specs.declared.start.Start.{Start}
 use Rattle.clover_walk.specs.declared.turn.Turn.{Turn}
 use Rattle.clover_walk.specs.declared.turn.Turn.TheVariants.{More as WalksOn, AtTail, Behind as WalkBehind, Unreached as WalkUnreached}
 use Rattle.clover_walk.proofs.Codes.{no_turn}
-use Rattle.clover_walk.proofs.Calling.{since_few}
+use Rattle.clover_walk.proofs.Calling.{by_way, since_few}
 use Rattle.clover_put.specs.Answering.{IsBefore}
 use Rattle.clover_put.specs.Going.{Went, answer_of}
 use Rattle.clover_put.specs.Holding.{Filled, Fills, Owns, Looks, Reads, PutHolds, most}
@@ -47,12 +47,7 @@ module _ (c : Putting) (n : Walking) (w : View) (k : Onward c n w) where
 
   -- before the tail
   on_way : (at : Stand) → n.stand ≡ at → IsOnWay at → Holds n w → PutHolds (record c { walk = n; stage = reached c.job at }) w
-  on_way AtShort e h = seeking (subst IsOnWay (sym e) tt)
-  on_way AtRoot e h = seeking (subst IsOnWay (sym e) tt)
-  on_way (AtTag t) e h = seeking (subst IsOnWay (sym e) tt)
-  on_way (OnLink t u) e h = seeking (subst IsOnWay (sym e) tt)
-  on_way (OnTail t) e h = absurd h
-  on_way Ended e h = absurd h
+  on_way at e h = let on = seeking (subst IsOnWay (sym e) h) in by_way (λ s. Holds n w → PutHolds (record c { walk = n; stage = reached c.job s }) w) at h on on (λ t. on) (λ t u. on)
 
   -- at the tail
   on_tail : (j : Job) → c.job ≡ j → (t : ℕ) → n.stand ≡ OnTail t → InRange c.walk.pool t → Holds n w → PutHolds (record c { walk = n; stage = at_tail j t }) w
@@ -71,12 +66,7 @@ module _ (c : Putting) (n : Walking) (w : View) (k : Onward c n w) where
       by (Swap x) ej = stage_on (AtMeta t) k.own (k.fills (record c { walk = n; stage = AtMeta t }) refl refl, k.first) (here, subst Reads (sym ej) tt) least on
 
 before_way : (j : Job) (at : Stand) → IsOnWay at → IsBefore (reached j at)
-before_way j AtShort h = tt
-before_way j AtRoot h = tt
-before_way j (AtTag t) h = tt
-before_way j (OnLink t u) h = tt
-before_way j (OnTail t) h = absurd h
-before_way j Ended h = absurd h
+before_way j at h = by_way (λ s. IsBefore (reached j s)) at h tt tt (λ t. tt) (λ t u. tt)
 
 before_tail : (j : Job) (t : ℕ) → IsBefore (at_tail j t)
 before_tail Put t = tt

@@ -5,7 +5,7 @@ use crate::support::{PRINTED, SCRIPT, words_of};
 use clover_main::{StdSink, StdSource, clover, exit};
 use std::alloc::Global;
 use std::io::{Error, ErrorKind, Read, Write};
-use std::process::ExitCode;
+use std::process::{Abort, ExitCode};
 use std::test::Fail;
 
 const FAILED_READ: &[u8] = b"error read\n";
@@ -88,28 +88,34 @@ const STEADY: Calls = Calls {
     failing: 0,
 };
 
+// Calls of which none fails.
+fn at_most(most: usize) -> Calls {
+    Calls { most, failing: 0 }
+}
+
+// Over such calls the script ends with this status, and these bytes were written.
+fn assert_ends(
+    rt: &impl Abort,
+    alloc: Global,
+    read: Calls,
+    written: Calls,
+    status: u8,
+    bytes: &[u8],
+) -> Result<(), Fail> {
+    let words = words_of(alloc, &["replay"])?;
+    let mut from = source(SCRIPT, read);
+    let mut to = sink(alloc, written);
+    assert_eq!(rt; clover(alloc, &words, &mut from, &mut to), status);
+    assert_eq!(rt; &to.inner().bytes[..], bytes);
+    Ok(())
+}
+
 #[test]
 fn short_and_long_calls_lose_no_byte(rt: HostRuntime) -> Result<(), Fail> {
-    let alloc = rt.alloc();
-    let words = words_of(alloc, &["replay"])?;
     for read in &MOST {
         for written in &MOST {
-            let mut from = source(
-                SCRIPT,
-                Calls {
-                    most: *read,
-                    failing: 0,
-                },
-            );
-            let mut to = sink(
-                alloc,
-                Calls {
-                    most: *written,
-                    failing: 0,
-                },
-            );
-            assert_eq!(rt; clover(alloc, &words, &mut from, &mut to), 0);
-            assert_eq!(rt; &to.writer().bytes[..], PRINTED);
+            let (read, written) = (at_most(*read), at_most(*written));
+            assert_ends(&rt, rt.alloc(), read, written, 0, PRINTED)?;
         }
     }
     Ok(())
@@ -117,47 +123,27 @@ fn short_and_long_calls_lose_no_byte(rt: HostRuntime) -> Result<(), Fail> {
 
 #[test]
 fn a_failed_read_is_no_end(rt: HostRuntime) -> Result<(), Fail> {
-    let alloc = rt.alloc();
-    let words = words_of(alloc, &["replay"])?;
     // Three calls give the text, and a fourth finds its end.
     for failing in 1..5u64 {
-        let mut from = source(SCRIPT, Calls { most: 37, failing });
-        let mut to = sink(alloc, STEADY);
-        assert_eq!(rt; clover(alloc, &words, &mut from, &mut to), 2);
-        assert_eq!(rt; &to.writer().bytes[..], FAILED_READ);
+        let read = Calls { most: 37, failing };
+        assert_ends(&rt, rt.alloc(), read, STEADY, 2, FAILED_READ)?;
     }
     Ok(())
 }
 
 #[test]
 fn a_failed_write_leaves_a_front(rt: HostRuntime) -> Result<(), Fail> {
-    let alloc = rt.alloc();
-    let words = words_of(alloc, &["replay"])?;
     for failing in 1..4u64 {
-        let mut from = source(SCRIPT, STEADY);
-        let mut to = sink(alloc, Calls { most: 10, failing });
-        assert_eq!(rt; clover(alloc, &words, &mut from, &mut to), 3);
         let front = (failing as usize - 1) * 10;
-        assert_eq!(rt; &to.writer().bytes[..], &PRINTED[..front]);
+        let written = Calls { most: 10, failing };
+        assert_ends(&rt, rt.alloc(), STEADY, written, 3, &PRINTED[..front])?;
     }
     Ok(())
 }
 
 #[test]
 fn a_write_that_takes_nothing_failed(rt: HostRuntime) -> Result<(), Fail> {
-    let alloc = rt.alloc();
-    let words = words_of(alloc, &["replay"])?;
-    let mut from = source(SCRIPT, STEADY);
-    let mut to = sink(
-        alloc,
-        Calls {
-            most: 0,
-            failing: 0,
-        },
-    );
-    assert_eq!(rt; clover(alloc, &words, &mut from, &mut to), 3);
-    assert!(rt; to.writer().bytes.is_empty());
-    Ok(())
+    assert_ends(&rt, rt.alloc(), STEADY, at_most(0), 3, b"")
 }
 
 #[test]

@@ -5,22 +5,19 @@ use Rattle.std.proofs.lemmas.Bool.{lt-ltb}
 use Rattle.std.proofs.lemmas.Bool.Decides.{nat_tests}
 use Rattle.clover_words.specs.Tag.{home, age}
 use Rattle.clover_map.specs.declared.bytes.Value.{Value}
-use Rattle.clover_map.specs.declared.call.Entry.{Entry}
 use Rattle.clover_map.specs.Tagged.{Tagged}
 use Rattle.clover_rule.specs.Content.{content, InRange, Spells, inside, Fits}
 use Rattle.clover_rule.specs.History.{Version}
 use Rattle.clover_rule.specs.Image.{Image, Chain}
-use Rattle.clover_rule.specs.Lists.{Within, Each, nth}
+use Rattle.clover_rule.specs.Lists.{Within, nth}
 use Rattle.clover_rule.specs.Memory.{word, gen, link, Mem}
 use Rattle.clover_rule.specs.Opening.{Owners, Starts, Opens}
 use Rattle.clover_rule.specs.Server.{Serves, Ready, Help, Whole}
 use Rattle.clover_rule.specs.Sound.{Sound, versions_of}
-use Rattle.clover_rule.specs.Story.{Durable, Stocked, Place, Chained, Free, Worn, Taken, Loose, Story, tag_in_version, tag_at, now_at, Core, Tale, Standing, only}
-use Rattle.clover_rule.specs.Views.{Owned, OwnCalls, ViewOk, IsLink, Past, IsCopied, Numbered, Spent}
-use Rattle.clover_rule.specs.declared.view.Content.{Content}
+use Rattle.clover_rule.specs.Story.{Stocked, Place, Chained, Free, Worn, Taken, Loose, Story, tag_in_version, tag_at, now_at, Core, Tale, Standing, only}
+use Rattle.clover_rule.specs.Views.{Owned, OwnCalls, ViewOk, Numbered, Spent}
 use Rattle.clover_rule.specs.declared.view.Role.{Role}
 use Rattle.clover_rule.specs.declared.view.Role.TheVariants.{Client, Serving, Granting, Noting, Joined, Restarting}
-use Rattle.clover_rule.specs.declared.view.Shown.{Shown}
 use Rattle.clover_rule.specs.declared.view.ServerTask.TheVariants.{Idle}
 use Rattle.clover_rule.specs.declared.view.View.{View}
 use Rattle.clover_words.specs.declared.pool.Pool.{Pool}

@@ -10,11 +10,9 @@ use Rattle.clover_rule.specs.History.{Version, ends, kept}
 use Rattle.clover_rule.specs.Image.{Image, IsImage, Chain, missing, sift, tags}
 use Rattle.clover_rule.specs.Lists.{nth}
 use Rattle.clover_rule.specs.Memory.{gen, link, Mem}
-use Rattle.clover_rule.specs.Server.{holding, AtStage, Stage, Help, Whole}
+use Rattle.clover_rule.specs.Server.{Help, Whole}
 use Rattle.clover_rule.specs.Sound.{versions_of, Sound}
 use Rattle.clover_rule.specs.Story.{Place, Chained, Stocked, Free, Worn, Taken, Loose, Story, tag_in_version, tag_at, Core, only}
-use Rattle.clover_rule.specs.declared.view.ServerTask.{ServerTask}
-use Rattle.clover_rule.specs.declared.view.ServerTask.TheVariants.{Idle, Storing, Rooted, Waiting, Loaded, Raised, Led, Both, Exchanged}
 use Rattle.clover_rule.specs.declared.view.View.{View}
 use Rattle.clover_words.specs.declared.pool.Pool.{Pool}
 use Rattle.clover_rule.proofs.KeyMaps.{leads, shows}

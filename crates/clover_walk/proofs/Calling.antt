@@ -6,7 +6,16 @@ use Rattle.clover_rule.specs.Lists.{Within}
 use Rattle.clover_rule.specs.Steps.{client}
 use Rattle.clover_rule.specs.declared.view.Role.TheVariants.{Client}
 use Rattle.clover_rule.specs.declared.view.View.{View}
-use Rattle.clover_walk.specs.Walking.{Stand, AtShort, AtRoot, AtTag, AtLink, OnTail, Ended, Holds, made_walk, key_at, since_turn}
+use Rattle.clover_walk.specs.Walking.{Stand, AtShort, AtRoot, AtTag, AtLink, OnTail, Ended, IsOnWay, Holds, made_walk, key_at, since_turn}
+
+-- what holds wherever a walk is on its way holds of a stand there
+pub by_way : (P : Stand → Type 0) (at : Stand) → IsOnWay at → P AtShort → P AtRoot → ((t : ℕ) → P (AtTag t)) → ((t u : ℕ) → P (AtLink t u)) → P at
+by_way P AtShort h short root tag link = short
+by_way P AtRoot h short root tag link = root
+by_way P (AtTag t) h short root tag link = tag t
+by_way P (AtLink t u) h short root tag link = link t u
+by_way P (OnTail t) h short root tag link = absurd h
+by_way P Ended h short root tag link = absurd h
 
 -- the first name of a slot is a name of it
 named_first : (s : ℕ) (k : List ℕ) (names : List (ℕ × List ℕ)) → Within (s, k) names → Within (s, key_at names s) names

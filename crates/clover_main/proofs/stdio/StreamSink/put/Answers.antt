@@ -2,7 +2,7 @@ use Rattle.std.proofs.Common.{◌∙◌, ◌++◌, ap, drop, sym, take, append_a
 use Rattle.std.proofs.KnownBytes.{Appends-trans}
 use Rattle.std.proofs.lemmas.List.{take-append-drop}
 use Rattle.clover_main.proofs.Puts.{write_front}
-use Rattle.clover_main.proofs.stdio.StdSinkSink.put.Goals as goal
+use Rattle.clover_main.proofs.stdio.StreamSink.put.Goals as goal
 
 pub loop-rest-preserved : goal.loop-rest-preserved
 loop-rest-preserved g c =
