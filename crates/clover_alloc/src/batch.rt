@@ -16,8 +16,8 @@ pub struct Batch {
 impl Batch {
     ghost use Rattle.clover_alloc.specs.Batch.{tags_of};
 
-    // No tags yet.
-    pub(crate) fn empty() -> Batch
+    /// No tags.
+    pub fn empty() -> Batch
         ensures value { tags_of result ≡ [] }
         ensures count { result.count ≡ 0 }
     {

@@ -24,7 +24,7 @@ use Rattle.clover_call.specs.Caller.{CallHolds, HasCommitted}
 use Rattle.clover_call.specs.declared.answer.Answer.TheVariants.{Absent}
 use Rattle.clover_call.specs.declared.under.Underway.{Underway}
 use Rattle.clover_call.specs.declared.under.Underway.TheVariants.{Nothing}
-use Rattle.clover_node.specs.Going.{CountSays, Enters, GoesFar, IsOpen, Missed, NodeTurns, NodeWent, SaysAt, stock_behind}
+use Rattle.clover_node.specs.Going.{CountSays, Enters, GoesFar, IsOpen, KeepsCaller, Missed, NodeTurns, NodeWent, SaysAt, stock_behind}
 use Rattle.clover_node.specs.Node.{NodeState, NodeHolds, Counts, IsCounting, IsIdle, IsUnder, count_of}
 use Rattle.clover_node.specs.Turning.{OnGoing, OnMade, OnOver, OnRefused, count_turn}
 use Rattle.clover_node.specs.declared.answer.NodeRefusal.TheVariants.{Unreached, Behind, Linked, TooLong, NeedsStock, NeedsNames}
@@ -152,6 +152,12 @@ says_count Absence p n call room v o n1 w o1 t h s = s
 abbrev pub uncounted : NodeState → NodeState
 uncounted n = record n { counting = No }
 
+-- its caller stays
+caller_stays : (c : Counting) (n : NodeState) → KeepsCaller c n (uncounted n)
+caller_stays No n = tt
+caller_stays Names n = refl
+caller_stays Absence n = refl
+
 module _ (n : NodeState) (call : Call) (room : ValueBuf) (v : View) (holds : NodeHolds n call v room) (asks : IsCounting n call) where
   no_call : IsIdle (uncounted n)
   no_call = record { counts = refl; calls = asks.idle }
@@ -184,6 +190,7 @@ module _ (n : NodeState) (call : Call) (room : ValueBuf) (v : View) (holds : Nod
     refused_went = record {
       kept = refl;
       pool = refl;
+      still = caller_stays n.counting n;
       turns = subst IsOpen (sym asks.idle) tt;
       going = tt;
       over = no_call;
@@ -210,6 +217,7 @@ module _ (n : NodeState) (call : Call) (room : ValueBuf) (v : View) (holds : Nod
         record {
           kept = (let same = sym (same_stock p n call v o x w o1 holds.names asks n.counting) in λ i. record n { counting = No; stock = same i });
           pool = refl;
+          still = caller_stays n.counting n;
           turns = turns_at p n call v o x w o1 holds.names asks n.counting n.caller.under n.caller.under room (subst IsOpen (sym asks.idle) tt);
           going = never_on p n call v o x w o1 holds.names asks n.counting (GoesFar (uncounted n) w);
           over = over_at p n call v o x w o1 holds.names asks n.counting (IsIdle (uncounted n)) no_call;

@@ -27,7 +27,7 @@ use Rattle.clover_call.specs.declared.under.Underway.TheVariants.{Nothing, Get, 
 use Rattle.clover_call.proofs.Owned.{apart, commit_calls, quiet_calls, short_calls}
 use Rattle.clover_call.proofs.GetStep.{ended_calls}
 use Rattle.clover_node.specs.Asking.{Asking, Calls}
-use Rattle.clover_node.specs.Going.{Enters, GoesAt, GoesFar, IsDueAt, IsOpen, NodeGoesOn, NodeIsDue, NodeTurns, NodeWent, SaysAt, stock_behind, with_entry}
+use Rattle.clover_node.specs.Going.{Enters, GoesAt, GoesFar, IsDueAt, IsOpen, KeepsCaller, NodeGoesOn, NodeIsDue, NodeTurns, NodeWent, SaysAt, stock_behind, with_entry}
 use Rattle.clover_node.specs.Mirroring.{AskMirrors, UnderMirrors}
 use Rattle.clover_node.specs.Node.{NodeState, NodeHolds, IsAsked, IsIdle, IsUnder, first_of, node_first, node_step, step_of}
 use Rattle.clover_node.specs.Turning.{OnGoing, OnMade, OnOver, of_turn}
@@ -233,6 +233,7 @@ module _ (n : NodeState) (call : Call) (room : ValueBuf) (v : View) (holds : Nod
       slot_went = let l = leaves r made refused went in record {
         kept = λ i. record (behind n k r) { counting = calls i };
         pool = pool;
+        still = subst (λ (c : Counting). KeepsCaller c n (behind n k r)) (sym calls) tt;
         turns = l.turns;
         going = far_on pool r went.bound went.ahead l.later;
         over = over_on r l.over;

@@ -110,10 +110,16 @@ pub record GoesFar (n1 : NodeState) (w : View) : Type 0 where
   pub bound : length w.pass.since ≤ most_accesses n1.caller.pool w.pass.turns
   pub ahead : w.pass.turns < budget n1.caller.pool
 
+-- the load of the count leaves the caller as it was, also where it is refused
+abbrev pub KeepsCaller : Counting → NodeState → NodeState → Type 0
+KeepsCaller No n n1 = Unit {0}
+KeepsCaller c n n1 = n1.caller ≡ n.caller
+
 -- What a step that came to this turn says of the node n before it and n1 behind it, of its call, of the room, and of what the client knew and knows.
 pub record NodeWent (n : NodeState) (call : Call) (room1 : ValueBuf) (v : View) (o : Option Open) (n1 : NodeState) (w : View) (o1 : Option Open) (t : NodeTurn) : Type 0 where
   pub kept : n1 ≡ record n { caller = n1.caller; counting = No; stock = stock_behind t n.stock }
   pub pool : n1.caller.pool ≡ n.caller.pool
+  pub still : KeepsCaller n.counting n n1
   pub turns : NodeTurns t n.caller.under n1.caller.under call room1
   pub going : OnGoing t (GoesFar n1 w)
   pub over : OnOver t (IsIdle n1)

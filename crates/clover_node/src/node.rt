@@ -1,5 +1,5 @@
 // The node: what it has of the metadata server, and the call under way.
-ghost use Rattle.std.specs.Prelude.{◌≡◌, ◌+◌, ◌≤◌, ◌++◌, ◌↔◌, ℕ, [], length, map, IsTrue, IfOk};
+ghost use Rattle.std.specs.Prelude.{◌≡◌, ◌-◌, ◌≤◌, ◌++◌, ◌↔◌, ℕ, [], length, map, IsTrue, IfOk};
 ghost use Rattle.clover_words.specs.Tag.{TagParts, tag_number};
 ghost use Rattle.clover_words.specs.declared.bytes.ValueBuf.{ValueBuf as Room};
 ghost use Rattle.clover_map.specs.declared.call.Call.{Call as Asked};
@@ -12,6 +12,7 @@ ghost use Rattle.clover_rule.specs.declared.view.Role.TheVariants.{Client};
 ghost use Rattle.clover_rule.specs.declared.view.View.{View};
 ghost use Rattle.clover_alloc.specs.Batch.{tags_of};
 ghost use Rattle.clover_dir.specs.Bindings.{pairs_of};
+ghost use Rattle.clover_call.specs.Caller.{copied_flags};
 ghost use Rattle.clover_node.specs.Accepting.{MayTake};
 ghost use Rattle.clover_node.specs.Node.{NodeHolds, IsIdle, first_node};
 
@@ -77,6 +78,13 @@ impl Node {
         !matches!(self.counting, Counting::No) || self.caller.is_busy()
     }
 
+    /// The flags of the value that stands in the room, where the next access is the last load for it.
+    pub fn copied(&self) -> Option<u32>
+        ensures { result ≡ copied_flags self.now.caller.under }
+    {
+        self.caller.copied()
+    }
+
     /// How many names the node has.
     pub fn known(&self) -> u32
         ensures { result ≡ length self.now.names }
@@ -93,11 +101,11 @@ impl Node {
 
     /// Puts the tags of the batch at the end of the stock, and the names behind those that the node has.
     ///
-    /// No call is under way, stock and batch have at most 64 tags, and the names are of other keys than those that the
-    /// node has, and with these at most as many as the pool has slots.
+    /// No call is under way, the batch has at most as many tags as the stock has room for, which is 64 in all, and the
+    /// names are of other keys than those that the node has, and with these at most as many as the pool has slots.
     pub fn accept(&mut self, batch: &Batch, names: &[Binding])
         requires idle { IsIdle self.old }
-        requires stock { length self.old.stock + batch.now.count ≤ 64 }
+        requires stock { batch.now.count ≤ 64 - length self.old.stock }
         requires once { KeysOnce (self.old.names ++ pairs_of names.now) }
         requires room { length (self.old.names ++ pairs_of names.now) ≤ self.old.caller.pool.slots }
         ensures value { self.new ≡ record self.old { stock = self.old.stock ++ tags_of batch.now; names = self.old.names ++ pairs_of names.now } }

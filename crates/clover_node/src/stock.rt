@@ -1,5 +1,5 @@
 // The stock of a node: the tags of the buffers that the server handed to it.
-ghost use Rattle.std.specs.Prelude.{◌≡◌, ◌+◌, ◌≤◌, ◌++◌, [], length, drop, slice_get, IfOk, IsTrue, ◌↔◌};
+ghost use Rattle.std.specs.Prelude.{◌≡◌, ◌-◌, ◌≤◌, ◌++◌, [], length, drop, slice_get, IfOk, IsTrue, ◌↔◌};
 
 use circular_buffer::HeapCircularBuffer;
 use clover_list::OutOfMemory;
@@ -63,9 +63,9 @@ impl Stock {
         let _ = self.tags.pop_front();
     }
 
-    /// Puts the tags at the end.
+    /// Puts the tags at the end. There is room for them.
     pub fn add(&mut self, tags: &[Tag])
-        requires room { length self.old + length tags.now ≤ 64 }
+        requires room { length tags.now ≤ 64 - length self.old }
         ensures { self.new ≡ self.old ++ tags.now }
     {
         let _ = self.tags.fill_from_slice(tags);

@@ -205,6 +205,13 @@ impl PlainPool {
         self.entries.as_slice()
     }
 
+    /// Whether accesses are listed.
+    pub fn traced(&self) -> bool
+        ensures { result ≡ self.now.traced }
+    {
+        self.traced
+    }
+
     /// The accesses, in order, refused ones among them; none without a trace. Where no port made a second access, they
     /// are all accesses since the run began.
     pub fn accesses(&self) -> &[Access]

@@ -28,9 +28,9 @@ use std::marker::Model;
 /// The metadata server. It keeps the books and the directory, and finishes what it began.
 ///
 /// A *want* is of stock or of a key's binding. It begins at the first call of `stock_step` or `bind_step` after the
-/// server was made, or after one of them answered `Ready`, `Full`, `NoSlot` or `Unreached`. Where no buffer is free, a
-/// want sweeps over the bound slots from the first one on and recycles the versions that no longer serve; the reads of a
-/// task that it did not begin are no reads of its sweep.
+/// server was made, after one of them answered `Ready`, `Full`, `NoSlot` or `Unreached`, or after `end_want`. Where no
+/// buffer is free, a want sweeps over the bound slots from the first one on and recycles the versions that no longer
+/// serve; the reads of a task that it did not begin are no reads of its sweep.
 ///
 /// A binding or a recycling whose access was refused stays unfinished in the server, and each later step call makes its
 /// next access first.
@@ -61,7 +61,7 @@ impl Server {
     ghost use Rattle.clover_server.specs.Server.{new_server};
     ghost use Rattle.clover_server.specs.Holding.{Agrees};
     ghost use Rattle.clover_server.specs.Looking.{IsSlotOf, IsLowestFree, free_in};
-    ghost use Rattle.clover_server.specs.Steps.{WantStep, RecycleStep, FinishStep, stock_due, named_due, recycle_due, Finishes};
+    ghost use Rattle.clover_server.specs.Steps.{WantStep, RecycleStep, FinishStep, ended, stock_due, named_due, recycle_due, Finishes};
     ghost use Rattle.clover_server.specs.Left.{work_left, OnMore};
     ghost use Rattle.clover_server.specs.Told.{IsFull, IfFull, IfReached, IfUnreached, IsWantTurn, IsOwnTurn, EndsTask};
 
@@ -168,6 +168,14 @@ impl Server {
         ensures agrees { Agrees (P.pool port.new) [] self.new (P.view port.new) }
     {
         tell(true, self.go_on(port))
+    }
+
+    /// Ends the want under way, if there is one, as an answer to it does.
+    pub fn end_want(&mut self)
+        ensures value { self.new ≡ ended self.old }
+        ensures agrees { (p : PoolShape) (v : View) → Agrees p [] self.old v → Agrees p [] self.new v }
+    {
+        self.sweep = None;
     }
 
     /// Takes a batch of the setup's size from the books, or all free buffers where there are fewer. A buffer is free.
