@@ -6,16 +6,16 @@ use Rattle.clover_words.specs.declared.setup.Setup.{Setup}
 use Rattle.clover_script.specs.Line.{Spoken, kept_line}
 use Rattle.clover_script.specs.Lines.{IsLinesOf}
 use Rattle.clover_script.specs.declared.line.Line.{Line}
-use Rattle.clover_sched.specs.Folds.{entries_in, made_after}
-use Rattle.clover_sched.specs.Lines.{Covers}
-use Rattle.clover_sched.specs.Machine.{Parts, IsAt, IsOpening}
-use Rattle.clover_sched.specs.Record.{Record}
-use Rattle.clover_sched.specs.Run.{Opening}
-use Rattle.clover_sched.specs.Text.{said, text, ending}
+use Rattle.clover_run.specs.Folds.{entries_in, made_after}
+use Rattle.clover_run.specs.Lines.{Covers}
+use Rattle.clover_run.specs.Machine.{Parts, IsAt, first_opening}
+use Rattle.clover_run.specs.Record.{Record}
+use Rattle.clover_run.specs.Run.{Opening}
+use Rattle.clover_sched.specs.Text.{ending}
+use Rattle.clover_run.specs.Text.{said, text}
 use Rattle.clover_main.specs.Beginnings.{CoversFront}
 use Rattle.clover_port.specs.Told.{Rose}
 use Rattle.clover_main.specs.Causes.{Writes}
-use Rattle.clover_main.specs.Hearing.{Serves, IsReady}
 use Rattle.clover_main.specs.Reading.{Reads}
 use Rattle.clover_main.specs.Refusing.{line_of}
 use Rattle.clover_main.specs.declared.refusal.Refusal.TheVariants.{OutOfMemory}
@@ -26,7 +26,6 @@ use Rattle.clover_main.specs.declared.output.Stop.{Stop}
 use Rattle.clover_main.specs.declared.output.Stop.TheVariants.{Memory, Write}
 use Rattle.clover_main.proofs.Committing.{legal_committed}
 use Rattle.clover_main.proofs.Following.{lawful_at}
-use Rattle.clover_main.proofs.Listening.{lines_served}
 use Rattle.clover_main.proofs.Pieces.{front_then, whole_put}
 
 module _ (o : Opening) (lines : List Line) (t : Bool) (none : o.first ≡ empty) where
@@ -56,17 +55,8 @@ module _ (o : Opening) (lines : List Line) (t : Bool) (none : o.first ≡ empty)
 abbrev pub Begins : List ℕ → Opening → List Line → Type 1
 Begins bytes o lines = (o.first ≡ empty) × ((Is : Opening → List Line → Type 0) → Is o lines → IsScriptOf bytes Is)
 
-pub script_begins : (bytes : List ℕ) (s : Setup) (said : List Spoken) (keys : List (List ℕ)) (o : Opening) → IsLinesOf bytes s said keys → IsOpening s keys o → Begins bytes o (map kept_line said)
-script_begins bytes s said keys o script opens = (opens.first, λ Is is. record { setup = s; said = said; keys = keys; script = script; opening = o; opens = opens; is = is })
-
--- a machine at the beginning of a script's run has what its lines ask for
-pub script_ready : (bytes : List ℕ) (s : Setup) (said : List Spoken) (keys : List (List ℕ)) (m : Parts) (o : Opening) → IsLinesOf bytes s said keys → IsAt o m [] → m.setup ≡ s → m.names ≡ keys
-    → IsReady m (map kept_line said)
-script_ready bytes s said keys m o script at same named = record {
-  opening = o;
-  at = at;
-  serves = subst (λ (t : Setup). Serves t m.names (map kept_line said)) (sym same) (subst (λ (ks : List (List ℕ)). Serves s ks (map kept_line said)) (sym named) (lines_served bytes s said keys script));
-}
+pub script_begins : (bytes : List ℕ) (s : Setup) (said : List Spoken) → IsLinesOf bytes s said → Begins bytes (first_opening s) (map kept_line said)
+script_begins bytes s said script = (refl, λ Is is. record { setup = s; said = said; script = script; is = is })
 
 rose_from : (a b c : ℕ) → a ≤ b → Rose b c → Rose a c
 rose_from a b c le rose = omega arith

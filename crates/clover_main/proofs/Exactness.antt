@@ -42,7 +42,7 @@ text_cause text after faults now BadWords is shown = absurd shown
 
 -- what each status says, where no count rose and the source's bytes are known
 record Says (text : List ℕ) (status : ℕ) : Type 0 where
-  zero : status ≡ 0 → (s : Setup) × (said : List Spoken) × (keys : List (List ℕ)) × IsLinesOf text s said keys × (length text ≤ input_limit)
+  zero : status ≡ 0 → (s : Setup) × (said : List Spoken) × IsLinesOf text s said × (length text ≤ input_limit)
   one : status ≡ 1 → ((n : ℕ) × IsRefusedLine text n) ⊎ (input_limit < length text)
   two : status ≡ 2 → ⊥
   three : status ≡ 3 → ⊥
@@ -75,11 +75,11 @@ no_zero text status says never =
 
 is_exact : (text : List ℕ) (status : ℕ) → Says text status → IsExact text status
 is_exact text status says = record {
-  script = λ s said keys is short. no_one text status says (λ o.
-      elim (says.one o) as (λ _. ⊥) [ inl bad ↦ lines_not_refused text s said keys bad.0 is bad.1 | inr more ↦ absurd (omega arith) ]);
+  script = λ s said is short. no_one text status says (λ o.
+      elim (says.one o) as (λ _. ⊥) [ inl bad ↦ lines_not_refused text s said bad.0 is bad.1 | inr more ↦ absurd (omega arith) ]);
   refused = λ n bad short. no_zero text status says (λ z.
-      let done = says.zero z in lines_not_refused text done.0 done.1 done.2 n done.3 bad);
-  much = λ more. no_zero text status says (λ z. absurd (omega (arith, (says.zero z).4)));
+      let done = says.zero z in lines_not_refused text done.0 done.1 n done.2 bad);
+  much = λ more. no_zero text status says (λ z. absurd (omega (arith, (says.zero z).3)));
 }
 
 -- from the clauses of a replay
@@ -96,8 +96,7 @@ exact status t left after taken now sb sf kb kf zero one two three most text is 
           let same : run.text ≡ text = all_given text run.text after read.taken read.ended in (
             run.is.setup,
             run.is.said,
-            run.is.keys,
-            subst (λ t. IsLinesOf t run.is.setup run.is.said run.is.keys) same run.is.script,
+            subst (λ t. IsLinesOf t run.is.setup run.is.said) same run.is.script,
             subst (λ (t : List ℕ). length t ≤ input_limit) same read.short,
           );
       one = λ o.

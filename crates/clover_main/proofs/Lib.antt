@@ -5,6 +5,5 @@ pub mod Exactness
 pub mod Following
 pub mod Listening
 pub mod Loops
-pub mod Owing
 pub mod Pieces
 pub mod Puts

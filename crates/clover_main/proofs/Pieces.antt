@@ -5,13 +5,15 @@ use Rattle.std.specs.Io.KnownBytes.{Appends}
 use Rattle.std.specs.Prelude.{All, slice_get}
 use Rattle.std.proofs.lemmas.List.Elements.{All-head, All-tail}
 use Rattle.clover_rule.specs.declared.access.Access.{Access}
-use Rattle.clover_sched.specs.Folds.{accesses_in, traced_in}
-use Rattle.clover_sched.specs.Machine.{Parts, IsAt}
-use Rattle.clover_sched.specs.Record.{Record}
-use Rattle.clover_sched.specs.Run.{Opening, Still}
-use Rattle.clover_sched.specs.Text.{said, traced, note_line}
-use Rattle.clover_sched.specs.declared.event.Note.{Note}
-use Rattle.clover_sched.specs.declared.event.Note.TheVariants.{Quiet}
+use Rattle.clover_run.specs.Folds.{accesses_in, traced_in}
+use Rattle.clover_run.specs.Machine.{Parts, IsAt}
+use Rattle.clover_run.specs.Record.{Record}
+use Rattle.clover_run.specs.Run.{Opening}
+use Rattle.clover_run.specs.Running.{IsSilent, IsUnsaid}
+use Rattle.clover_sched.specs.Text.{traced}
+use Rattle.clover_run.specs.Text.{said, noted}
+use Rattle.clover_run.specs.declared.event.Note.{Note}
+use Rattle.clover_run.specs.declared.event.Note.TheVariants.{Quiet, Waits}
 use Rattle.clover_main.specs.Causes.{AppendsFront}
 use Rattle.clover_main.specs.Performing.{IsLawful}
 use Rattle.clover_main.specs.Running.{Says, Puts, PutsEnding, Ran, Fails}
@@ -44,11 +46,11 @@ listed_line true rs r = ap (traced true) (listed_last rs r)
 listed_line false rs r = refl
 
 -- that line and that of the note are what the record prints
-pub said_line : (t : Bool) (xs : List Access) (n : ℕ) (rs : List Record) (r : Record) (note : Note) (old mid new : List ℕ) → xs ≡ traced_in t (rs ++ r ∷ []) → n ≡ length (traced_in t rs) → r.note ≡ note
-    → mid ≡ old ++ traced true (slice_get xs n) → new ≡ mid ++ note_line note → new ≡ old ++ said t r
-said_line t xs n rs r note old mid new all here is grown told =
+pub said_line : (t : Bool) (xs : List Access) (n : ℕ) (rs : List Record) (r : Record) (note : Note) (old mid new : List ℕ) (u : Bool) → u ≡ t → xs ≡ traced_in t (rs ++ r ∷ []) → n ≡ length (traced_in t rs) → r.note ≡ note
+    → mid ≡ old ++ traced true (slice_get xs n) → new ≡ mid ++ noted u note → new ≡ old ++ said t r
+said_line t xs n rs r note old mid new u same all here is grown told =
     let line : traced true (slice_get xs n) ≡ traced t r.access = ap (λ l. traced true (slice_get l n)) all ∙ ap (λ k. traced true (slice_get (traced_in t (rs ++ r ∷ [])) k)) here ∙ listed_line t rs r in
-    told ∙ ap (λ l. l ++ note_line note) (grown ∙ ap (λ l. old ++ l) line) ∙ append_assoc old (traced t r.access) (note_line note) ∙ ap (λ k. old ++ (traced t r.access ++ note_line k)) (sym is)
+    told ∙ ap (λ (b : Bool). mid ++ noted b note) same ∙ ap (λ l. l ++ noted t note) (grown ∙ ap (λ l. old ++ l) line) ∙ append_assoc old (traced t r.access) (noted t note) ∙ ap (λ k. old ++ (traced t r.access ++ noted t k)) (sym is)
 
 pub says_then : (a b c : Option (List ℕ)) (w v u x y : List ℕ) → Says a b w v x → Says b c v u y → Says a c w u (x ++ y)
 says_then a b c w v u x y s t = record {
@@ -89,12 +91,19 @@ traced_none : (t : Bool) → traced t None ≡ []
 traced_none true = refl
 traced_none false = refl
 
-still_said : (t : Bool) (more : List Record) → All (λ (r : Record). Still r Quiet) more → flat_map (said t) more ≡ []
+noted_none : (t : Bool) (n : Note) → IsUnsaid n → noted t n ≡ []
+noted_none true Quiet h = refl
+noted_none false Quiet h = refl
+noted_none true Waits h = refl
+noted_none false Waits h = refl
+noted_none t n h = absurd h
+
+still_said : (t : Bool) (more : List Record) → All IsSilent more → flat_map (said t) more ≡ []
 still_said t [] all = refl
 still_said t (r ∷ rs) all =
-    let still : Still r Quiet = All-head (λ (x : Record). Still x Quiet) r rs all in
-    let line : said t r ≡ [] = ap (λ (x : Option Access). traced t x ++ note_line r.note) still.0 ∙ ap (λ (n : Note). traced t None ++ note_line n) still.2 ∙ append-nil (traced t None) ∙ traced_none t in
-    ap (λ l. l ++ flat_map (said t) rs) line ∙ still_said t rs (All-tail (λ (x : Record). Still x Quiet) r rs all)
+    let still : IsSilent r = All-head IsSilent r rs all in
+    let line : said t r ≡ [] = ap (λ (x : Option Access). traced t x ++ noted t r.note) still.access ∙ ap (λ (l : List ℕ). traced t None ++ l) (noted_none t r.note still.unsaid) ∙ append-nil (traced t None) ∙ traced_none t in
+    ap (λ l. l ++ flat_map (said t) rs) line ∙ still_said t rs (All-tail IsSilent r rs all)
 
 module _ (o : Opening) (t : Bool) (rs : List Record) where
   said_one : (more : List Record) (r : Record) → more ≡ r ∷ [] → flat_map (said t) more ≡ said t r
@@ -148,7 +157,7 @@ module _ (o : Opening) (t : Bool) (rs : List Record) where
   }
 
   -- nothing that happened prints anything
-  pub ran_silent : (m : Parts) (a : Option (List ℕ)) (w : List ℕ) (Is : List Record → Type 0) (more : List Record) → Is more → IsAt o m (rs ++ more) → All (λ (r : Record). Still r Quiet) more → Ran o t rs m a a w w Is
+  pub ran_silent : (m : Parts) (a : Option (List ℕ)) (w : List ℕ) (Is : List Record → Type 0) (more : List Record) → Is more → IsAt o m (rs ++ more) → All IsSilent more → Ran o t rs m a a w w Is
   ran_silent m a w Is more k at still = record {
     more = more;
     kind = k;

@@ -1,9 +1,9 @@
 -- the records of a beginning of a run of some lines
 use Rattle.std.specs.Prelude.{◌≡◌, ◌⊎◌, List, [], ◌∷◌, ◌++◌}
 use Rattle.clover_script.specs.declared.line.Line.{Line}
-use Rattle.clover_sched.specs.Lines.{Covers}
-use Rattle.clover_sched.specs.Record.{Record}
-use Rattle.clover_sched.specs.Running.{IsPartOrAll}
+use Rattle.clover_run.specs.Lines.{Covers}
+use Rattle.clover_run.specs.Record.{Record}
+use Rattle.clover_run.specs.Running.{IsPartOrAll}
 
 -- nothing, or a part of what the first line stands for
 abbrev pub IsBegun : List Line → List Record → List Record → Type 0

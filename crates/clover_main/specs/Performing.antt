@@ -10,12 +10,12 @@ use Rattle.clover_map.specs.declared.call.Reply.TheVariants.{Stored, Found}
 use Rattle.clover_script.specs.declared.line.Line.{Line}
 use Rattle.clover_rule.specs.Accesses.{Replays}
 use Rattle.clover_rule.specs.Lists.{Within}
-use Rattle.clover_sched.specs.Alone.{AllFound, AllAlone}
-use Rattle.clover_sched.specs.Folds.{accesses_in, entries_in}
-use Rattle.clover_sched.specs.Lines.{Covers}
-use Rattle.clover_sched.specs.Record.{Record}
-use Rattle.clover_sched.specs.Run.{Opening, IsRun}
-use Rattle.clover_sched.specs.Text.{said, text}
+use Rattle.clover_run.specs.Alone.{AllFound, AllAlone}
+use Rattle.clover_run.specs.Folds.{accesses_in, entries_in}
+use Rattle.clover_run.specs.Lines.{Covers}
+use Rattle.clover_run.specs.Record.{Record}
+use Rattle.clover_run.specs.Run.{Opening, IsRun}
+use Rattle.clover_run.specs.Text.{said, text}
 use Rattle.clover_main.specs.Beginnings.{CoversFront}
 
 -- the call stores this value under this key
@@ -32,7 +32,7 @@ IsCommitted h k t v = (e : Entry) × Within e h × (e.reply ≡ Stored t) × Sto
 abbrev pub AllCommitted : List Entry → Type 0
 AllCommitted h = (before after : List Entry) (e : Entry) (k : List ℕ) (t : ℕ) (v : Value) → h ≡ before ++ e ∷ after → e.call ≡ Get k → e.reply ≡ Found t v → IsCommitted before k t v
 
--- The records are a run whose accesses replay; its history is legal from what was before it, and in each client's order. At every moment each named key has a chain with a tail, and a call that runs alone is answered at exactly its cost.
+-- The records are a run whose accesses replay; its history is legal from what was before it, and in each client's order. At every moment each bound key has a chain with a tail, and a call that runs alone is answered at exactly its cost.
 pub record IsLawful (o : Opening) (records : List Record) : Type 0 where
   pub run : IsRun o records
   pub replays : Replays o.setup.pool o.words (accesses_in records)

@@ -5,8 +5,8 @@ use Rattle.clover_words.specs.declared.setup.Setup.{Setup}
 use Rattle.clover_script.specs.Line.{Spoken, kept_line}
 use Rattle.clover_script.specs.Lines.{IsLinesOf, IsRefusedLine}
 use Rattle.clover_script.specs.declared.line.Line.{Line}
-use Rattle.clover_sched.specs.Machine.{IsOpening}
-use Rattle.clover_sched.specs.Run.{Opening}
+use Rattle.clover_run.specs.Machine.{first_opening}
+use Rattle.clover_run.specs.Run.{Opening}
 use Rattle.clover_main.specs.declared.output.Stop.{Stop}
 use Rattle.clover_main.specs.declared.output.Stop.TheVariants.{Memory, Write}
 use Rattle.clover_main.specs.declared.refusal.Refusal.{Refusal}
@@ -16,15 +16,12 @@ use Rattle.clover_main.specs.Performing.{IsPerformed, IsBeginning, IsOutput}
 use Rattle.clover_main.specs.Reading.{Reads, input_limit}
 use Rattle.clover_main.specs.Refusing.{status_of, line_of, HasShown}
 
--- The text is a script, and this holds of its lines and of where their run begins: the preset pool of its setup and its keys.
+-- The text is a script, and this holds of its lines and of where their run begins: a pool of its setup with nothing in it.
 pub record IsScriptOf (text : List ℕ) (Is : Opening → List Line → Type 0) : Type 0 where
   pub setup : Setup
   pub said : List Spoken
-  pub keys : List (List ℕ)
-  pub script : IsLinesOf text setup said keys
-  pub opening : Opening
-  pub opens : IsOpening setup keys opening
-  pub is : Is opening (map kept_line said)
+  pub script : IsLinesOf text setup said
+  pub is : Is (first_opening setup) (map kept_line said)
 
 -- the text is a script, and out is the text of a run of it
 abbrev pub IsReplay : Bool → List ℕ → List ℕ → Type 0
@@ -82,6 +79,6 @@ pub record Refuses (status : ℕ) (left after : Option (List ℕ)) (source_befor
 
 -- What the status must be where no count rose: of a script 0, of any other text 1. Want of memory alone is free.
 pub record IsExact (text : List ℕ) (status : ℕ) : Type 0 where
-  pub script : (s : Setup) (said : List Spoken) (keys : List (List ℕ)) → IsLinesOf text s said keys → length text ≤ input_limit → (status ≡ 0) ⊎ (status ≡ 4)
+  pub script : (s : Setup) (said : List Spoken) → IsLinesOf text s said → length text ≤ input_limit → (status ≡ 0) ⊎ (status ≡ 4)
   pub refused : (n : ℕ) → IsRefusedLine text n → length text ≤ input_limit → (status ≡ 1) ⊎ (status ≡ 4)
   pub much : input_limit < length text → (status ≡ 1) ⊎ (status ≡ 4)

@@ -4,14 +4,14 @@ use Rattle.std.specs.Prelude.{◌≡◌, ◌⊎◌, ℕ, Bool, List, [], ◌++�
 use Rattle.std.specs.Io.KnownBytes.{Appends}
 use Rattle.clover_script.specs.Line.{IsLineOf, IsNoLine}
 use Rattle.clover_script.specs.declared.line.Line.{Line}
-use Rattle.clover_sched.specs.Lines.{CoversLine, Covers}
-use Rattle.clover_sched.specs.Machine.{Parts, IsAt}
-use Rattle.clover_sched.specs.Record.{Record}
-use Rattle.clover_sched.specs.Run.{Opening}
-use Rattle.clover_sched.specs.Text.{said}
-use Rattle.clover_sched.specs.declared.runner.Advance.{Advance}
-use Rattle.clover_sched.specs.declared.runner.Work.{Work}
-use Rattle.clover_sched.specs.Running.{IsPartOrAll, steps_left}
+use Rattle.clover_run.specs.Lines.{CoversLine, Covers}
+use Rattle.clover_run.specs.Machine.{Parts, Continues, IsAt}
+use Rattle.clover_run.specs.Record.{Record}
+use Rattle.clover_run.specs.Run.{Opening}
+use Rattle.clover_run.specs.Text.{said}
+use Rattle.clover_run.specs.declared.runner.Advance.{Advance}
+use Rattle.clover_run.specs.declared.runner.Work.{Work}
+use Rattle.clover_run.specs.Running.{IsPartOrAll, steps_left}
 use Rattle.clover_main.specs.Causes.{AppendsFront}
 use Rattle.clover_main.specs.Hearing.{Heard}
 use Rattle.clover_main.specs.Performing.{IsLawful}
@@ -47,12 +47,6 @@ pub record Fails (o : Opening) (t : Bool) (rs : List Record) (stop : Stop) (take
   pub kind : Is more
   pub lawful : IsLawful o (rs ++ more)
   pub puts : Puts stop taken now (wait ++ flat_map (said t) more)
-
--- what no event changes
-pub record Continues (m n : Parts) : Type 0 where
-  pub setup : n.setup ≡ m.setup
-  pub names : n.names ≡ m.names
-  pub traced : n.pool.traced ≡ m.pool.traced
 
 -- The machine went on so: behind any records behind which it stood more were made, which with those before are of this kind, and what they print was said.
 pub record Runs (m n : Parts) (taken now : Option (List ℕ)) (wait waits : List ℕ) (Is : List Record → List Record → Type 0) : Type 0 where

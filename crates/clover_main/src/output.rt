@@ -1,11 +1,12 @@
 // What waits to be put into the sink. It is put in large pieces, and what one event prints stays together.
 ghost use Rattle.std.specs.Prelude.{◌≡◌, ◌≤◌, ◌++◌, ◌∷◌, List, [], length, true, OnOk, OnErr, IfErr, slice_get};
 ghost use Rattle.std.specs.Io.KnownBytes.{Appends};
-ghost use Rattle.clover_sched.specs.Folds.{entries_in, made_after, traced_in};
-ghost use Rattle.clover_sched.specs.Machine.{IsAt};
-ghost use Rattle.clover_sched.specs.Record.{Record};
-ghost use Rattle.clover_sched.specs.Run.{Opening};
-ghost use Rattle.clover_sched.specs.Text.{said, traced, ending};
+ghost use Rattle.clover_run.specs.Folds.{entries_in, made_after, traced_in};
+ghost use Rattle.clover_run.specs.Machine.{IsAt};
+ghost use Rattle.clover_run.specs.Record.{Record};
+ghost use Rattle.clover_run.specs.Run.{Opening};
+ghost use Rattle.clover_run.specs.Text.{said};
+ghost use Rattle.clover_sched.specs.Text.{traced, ending};
 ghost use Rattle.clover_port.specs.Told.{Rose};
 ghost use Rattle.clover_main.specs.Causes.{AppendsFront, HasStopCause};
 ghost use Rattle.clover_main.specs.Running.{Says, Puts, PutsEnding};
@@ -13,7 +14,8 @@ ghost use Rattle.clover_main.specs.Running.{Says, Puts, PutsEnding};
 use crate::io::{Failed, Sink, put_both};
 use clover_list::OutOfMemory;
 use clover_rule::Access;
-use clover_sched::{Machine, Note, push_access, push_ending, push_note};
+use clover_run::{Machine, Note, push_note};
+use clover_sched::{push_access, push_ending};
 use std::alloc::{AllocError, Global};
 
 /// How many bytes may wait before they are put.
@@ -134,7 +136,7 @@ fn push_said(
         → piece.new.items ≡ piece.old.items ++ said machine.now.pool.traced r) }
 {
     push_listed(piece, machine.accesses(), listed)?;
-    push_note(piece, note)?;
+    push_note(piece, machine.traced(), note)?;
     Ok(())
 }
 

@@ -14,8 +14,9 @@ use crate::output::{Output, Stop};
 use crate::read::read_all;
 use crate::refusal::{Refusal, refuse};
 use crate::running::run_lines;
-use clover_sched::Machine;
-use clover_script::{Outline, ScriptFault, check_lines};
+use clover_run::Machine;
+use clover_script::check_lines;
+use clover_words::Setup;
 use std::alloc::Global;
 
 /// Reads a script from the source, runs it, and puts what it prints into the sink, with a trace the
@@ -56,7 +57,7 @@ fn attempt<S: Source, K: Sink>(alloc: Global, trace: bool, source: &mut S, sink:
     ensures no_other { result ≤ 4 }
 {
     match script_of(alloc, source) {
-        Ok(script) => match run_script(alloc, script.outline, &script.text, trace, sink) {
+        Ok(script) => match run_script(alloc, script.setup, &script.text, trace, sink) {
             Ok(()) => 0,
             Err(Stop::Write) => 3,
             Err(Stop::Memory) => refuse(sink, Refusal::OutOfMemory),
@@ -69,40 +70,38 @@ fn attempt<S: Source, K: Sink>(alloc: Global, trace: bool, source: &mut S, sink:
 #[derive(Drop)]
 struct Script {
     text: Vec<u8>,
-    outline: Outline,
+    setup: Setup,
 }
 
 /// The script of the source.
 fn script_of<S: Source>(alloc: Global, source: &mut S) -> Result<Script, Refusal>
     ensures read { IfOk result (λ script. Reads (S.left source.old) (S.left source.new) script.text.items) }
-    ensures script { IfOk result (λ script. (said : List Spoken) × IsLinesOf script.text.items script.outline.setup said script.outline.names) }
+    ensures script { IfOk result (λ script. (said : List Spoken) × IsLinesOf script.text.items script.setup said) }
     ensures quiet { IfOk result (λ script. S.faults source.new ≡ S.faults source.old) }
     ensures err { IfErr result (λ refusal. HasShown (S.left source.old) (S.left source.new) (S.faults source.old) (S.faults source.new) refusal) }
     ensures few { TakesFew (S.left source.old) (S.left source.new) }
 {
     let text = read_all(alloc, source)?;
-    match check_lines(alloc, &text) {
-        Ok(outline) => Ok(Script { text, outline }),
-        Err(ScriptFault::BadLine { line, .. }) => Err(Refusal::BadLine(line)),
-        Err(ScriptFault::OutOfMemory) => Err(Refusal::OutOfMemory),
+    match check_lines(&text) {
+        Ok(setup) => Ok(Script { text, setup }),
+        Err(bad) => Err(Refusal::BadLine(bad.line)),
     }
 }
 
-/// The run of a script from the preset pool.
+/// The run of a script, from a pool with nothing in it.
 fn run_script<K: Sink>(
     alloc: Global,
-    outline: Outline,
+    setup: Setup,
     text: &[u8],
     trace: bool,
     sink: &mut K,
 ) -> Result<(), Stop>
-    requires { (said : List Spoken) × IsLinesOf text.now outline.setup said outline.names }
+    requires { (said : List Spoken) × IsLinesOf text.now setup said }
     ensures ok { OnOk result ((out : List ℕ) × IsReplay trace text.now out × Appends (K.taken sink.old) (K.taken sink.new) out) }
     ensures err { IfErr result (λ stop. HasStopped stop trace text.now (K.taken sink.old) (K.taken sink.new)) }
     ensures cause { HasStopCause (K.faults sink.old) (K.faults sink.new) result }
 {
-    let Outline { setup, names } = outline;
-    let mut machine = Machine::make(alloc, setup, names, trace)?;
+    let mut machine = Machine::make(alloc, setup, trace)?;
     let mut out = Output::new(alloc);
     run_lines(alloc, &mut machine, text, &mut out, sink)?;
     out.close(&machine, sink)

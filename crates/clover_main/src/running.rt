@@ -3,21 +3,21 @@
 ghost use Rattle.std.specs.Prelude.{◌≡◌, ◌≤◌, ◌<◌, ◌++◌, List, [], length, OnOk, IfOk, IfErr, IfSome};
 ghost use Rattle.clover_script.specs.Line.{lines_of, IsLineOf};
 ghost use Rattle.clover_script.specs.declared.line.Line.{Line as LineData};
-ghost use Rattle.clover_sched.specs.Folds.{traced_in};
-ghost use Rattle.clover_sched.specs.Lines.{CoversLine, Covers};
-ghost use Rattle.clover_sched.specs.Machine.{IsAt};
-ghost use Rattle.clover_sched.specs.Record.{Record};
-ghost use Rattle.clover_sched.specs.Run.{Opening};
-ghost use Rattle.clover_sched.specs.Running.{Comes, IsLeft, IsPartOrAll, MayRun, actor_in, steps_line};
+ghost use Rattle.clover_run.specs.Folds.{traced_in};
+ghost use Rattle.clover_run.specs.Lines.{CoversLine, Covers};
+ghost use Rattle.clover_run.specs.Machine.{IsAt};
+ghost use Rattle.clover_run.specs.Record.{Record};
+ghost use Rattle.clover_run.specs.Run.{Opening};
+ghost use Rattle.clover_run.specs.Running.{Comes, IsLeft, IsPartOrAll, MayRun, actor_in, steps_line};
 ghost use Rattle.clover_main.specs.Beginnings.{CoversFront};
 ghost use Rattle.clover_main.specs.Causes.{HasStopCause};
-ghost use Rattle.clover_main.specs.Hearing.{Heard, IsReady};
+ghost use Rattle.clover_main.specs.Hearing.{Heard};
 ghost use Rattle.clover_main.specs.Performing.{IsLawful};
 ghost use Rattle.clover_main.specs.Running.{Ran, Runs, Fails, Stops, left_of, most_steps, IsSaidBy, IsPartOfSaid};
 
 use crate::io::Sink;
 use crate::output::{Output, Stop};
-use clover_sched::{Advance, Machine, Work, begin_line, work_on};
+use clover_run::{Advance, Machine, Work, begin_line, work_on};
 use clover_script::{Line, first_line, line_of};
 use std::alloc::Global;
 
@@ -56,7 +56,7 @@ fn begin<K: Sink>(
     out: &mut Output,
     sink: &mut K,
 ) -> Result<Option<Work>, Stop>
-    requires may { MayRun machine.old line }
+    requires may { MayRun line }
     ensures ok { IfOk result (λ left. Runs machine.old machine.new (K.taken sink.old) (K.taken sink.new) out.old.waiting.items out.new.waiting.items (IsLeft line left)) }
     ensures actor { IfOk result (λ left. IfSome left (λ work. 1 ≤ actor_in work)) }
     ensures err { IfErr result (λ stop. Stops machine.old stop (K.taken sink.old) (K.taken sink.new) out.old.waiting.items (IsPartOrAll line)) }
@@ -98,7 +98,7 @@ fn run_line<K: Sink>(
     out: &mut Output,
     sink: &mut K,
 ) -> Result<(), Stop>
-    requires may { MayRun machine.old line }
+    requires may { MayRun line }
     ensures ok { OnOk result (Runs machine.old machine.new (K.taken sink.old) (K.taken sink.new) out.old.waiting.items out.new.waiting.items (CoversLine line)) }
     ensures err { IfErr result (λ stop. Stops machine.old stop (K.taken sink.old) (K.taken sink.new) out.old.waiting.items (IsPartOrAll line)) }
     ensures cause { HasStopCause (K.faults sink.old) (K.faults sink.new) result }
@@ -118,7 +118,6 @@ fn run_text<K: Sink>(
     out: &mut Output,
     sink: &mut K,
 ) -> Result<(), Stop>
-    requires may { (line : LineData) → IsLineOf text.now line → MayRun machine.old line }
     ensures ok { OnOk result (Runs machine.old machine.new (K.taken sink.old) (K.taken sink.new) out.old.waiting.items out.new.waiting.items (IsSaidBy text.now)) }
     ensures err { IfErr result (λ stop. Stops machine.old stop (K.taken sink.old) (K.taken sink.new) out.old.waiting.items (IsPartOfSaid text.now)) }
     ensures cause { HasStopCause (K.faults sink.old) (K.faults sink.new) result }
@@ -138,7 +137,6 @@ pub fn run_lines<K: Sink>(
     out: &mut Output,
     sink: &mut K,
 ) -> Result<(), Stop>
-    requires ready { (lines : List LineData) × Heard (lines_of text.now) lines × IsReady machine.old lines }
     ensures ok { OnOk result ((o : Opening) (lines : List LineData) → IsAt o machine.old [] → Heard (lines_of text.now) lines → Ran o machine.old.pool.traced [] machine.new (K.taken sink.old) (K.taken sink.new) out.old.waiting.items out.new.waiting.items (Covers lines [])) }
     ensures err { IfErr result (λ stop. (o : Opening) (lines : List LineData) → IsAt o machine.old [] → Heard (lines_of text.now) lines → Fails o machine.old.pool.traced [] stop (K.taken sink.old) (K.taken sink.new) out.old.waiting.items (CoversFront lines)) }
     ensures cause { HasStopCause (K.faults sink.old) (K.faults sink.new) result }

@@ -12,12 +12,12 @@ use std::test::Fail;
 const CASES: [(&str, bool, &str, [u64; 3]); 9] = [
     ("get a", false, "found @ =x", [4, 5, 6]),
     ("get a", true, "absent", [3, 4, 5]),
-    ("put a =y", false, "stored 0.1.0", [8, 9, 10]),
-    ("put a =y", true, "stored 0.1.0", [8, 9, 10]),
-    ("delete a", false, "deleted 0.1.0", [7, 8, 9]),
+    ("put a =y", false, "stored 0.17.0", [8, 9, 10]),
+    ("put a =y", true, "stored 0.17.0", [8, 9, 10]),
+    ("delete a", false, "deleted 0.17.0", [7, 8, 9]),
     ("delete a", true, "absent", [5, 6, 7]),
-    ("swap a @ =y", false, "stored 0.1.0", [9, 10, 11]),
-    ("swap a 0.1.0 =y", false, "differs @", [7, 8, 9]),
+    ("swap a @ =y", false, "stored 0.17.0", [9, 10, 11]),
+    ("swap a 0.17.0 =y", false, "differs @", [7, 8, 9]),
     ("swap a @ =y", true, "absent", [7, 8, 9]),
 ];
 
@@ -63,11 +63,12 @@ impl Scene {
         self.before.saturating_add(self.links)
     }
 
-    // The buffers of client 1 have the even indices, and the slot's first tombstone has the last one of all.
+    // The buffers of client 1 are the first sixteen, the slot's first tombstone is in the next one, and the buffers of
+    // client 2 come behind it.
     fn tail(&self) -> u64 {
         match self.calls() {
-            0 => 31,
-            calls => calls.saturating_sub(1).saturating_mul(2),
+            0 => 16,
+            calls => calls.saturating_sub(1),
         }
     }
 
@@ -98,10 +99,16 @@ impl Scene {
         text.say("\nrefuse 1\nfinish 1\n")
     }
 
-    // All that comes before client 2's call. Where that is to begin at a cursor, client 2 finds it by a get.
+    // All that comes before client 2's call. Each client first asks for a put of which the first access is refused: by
+    // then it has a batch of buffers and the name of the key, which client 1's put had bound. Where client 2's call is to
+    // begin at a cursor, client 2 finds it by a get.
     fn script(&self, alloc: Global) -> Result<Text, Fail> {
         let mut text = Text::make(alloc);
-        text.say("pool nodes=1 buffers=32 slots=1 words=1 wear=9 clients=2 batch=2\n")?;
+        text.say(
+            "pool nodes=1 buffers=64 slots=1 words=1 wear=9 clients=2 batch=16\n\
+             begin 1 put a =x\nstep 1 10\nrefuse 1\nfinish 1\n\
+             begin 2 put a =x\nstep 2 1\nrefuse 2\nfinish 2\n",
+        )?;
         for call in 0..self.calls() {
             self.say_call(&mut text, call)?;
             if self.start == CURSOR && call.saturating_add(1) == self.before {

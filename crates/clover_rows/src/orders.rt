@@ -6,12 +6,14 @@ use crate::text::Text;
 use std::alloc::Global;
 use std::test::Fail;
 
-// The clients are 1 to 4: put, put, swap, get. A client's own buffer is the next one of its stock.
+// The clients are 1 to 4: put, put, swap, get. A client's own buffer is the next one of its stock; buffer 2 holds the
+// tombstone. Client 2 is handed a batch with the key's name, which is a step more; clients 3 and 4 load
+// the count and are handed the name, and client 3 then a batch.
 const CALLS: [&str; 4] = ["put a =p", "put a =q", "swap a 0.0.0 =s", "get a"];
 
-const STEPS: [&str; 4] = ["5", "6", "7", "4"];
+const STEPS: [&str; 4] = ["5", "7", "10", "6"];
 
-const OWN: [u64; 4] = [4, 1, 2, 3];
+const OWN: [u64; 4] = [1, 3, 5, 0];
 
 const VALUES: [&str; 4] = ["p", "q", "s", ""];
 

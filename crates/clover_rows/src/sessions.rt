@@ -11,7 +11,7 @@ const ONE_CLIENT: &str = "pool nodes=1 buffers=4 slots=2 words=2 wear=3 clients=
 
 const TWO_CLIENTS: &str = "pool nodes=1 buffers=8 slots=2 words=1 wear=9 clients=2 batch=2\n";
 
-const SESSIONS: [Session; 15] = [
+const SESSIONS: [Session; 21] = [
     // a pool line alone
     (ONE_CLIENT, "", "", "", 0),
     // a put and a get of one key
@@ -23,7 +23,7 @@ const SESSIONS: [Session; 15] = [
          1 found 0.0.0 =hello\n",
         "h 1 1 1 put a =hello stored 0.0.0\n\
          h 1 1 2 get a found 0.0.0 =hello\n",
-        14,
+        22,
     ),
     // a key that was never put, and a last line without its end
     (
@@ -31,7 +31,7 @@ const SESSIONS: [Session; 15] = [
         "call 1 get a",
         "1 absent\n",
         "h 1 1 1 get a absent\n",
-        5,
+        1,
     ),
     // an empty value, then one of exactly the room; bytes that stand for themselves and others
     (
@@ -48,9 +48,9 @@ const SESSIONS: [Session; 15] = [
          h 1 1 2 get %20 found 0.0.0 =\n\
          h 1 1 3 put %20 =0123456789abcde%00 stored 0.1.0\n\
          h 1 1 4 get %20 found 0.1.0 =0123456789abcde%00\n",
-        26,
+        34,
     ),
-    // buffers over two memory nodes, dealt to two clients, of which the first acts
+    // buffers over two memory nodes: each batch is of the node that has the most free ones
     (
         "pool nodes=2 buffers=3 slots=1 words=1 wear=1 clients=2 batch=1\n",
         "call 1 put k =1\n\
@@ -58,14 +58,14 @@ const SESSIONS: [Session; 15] = [
          call 1 put k =3\n\
          call 1 get k\n",
         "1 stored 0.0.0\n\
-         1 stored 0.2.0\n\
+         1 stored 0.1.0\n\
          1 stored 1.1.0\n\
          1 found 1.1.0 =3\n",
         "h 1 1 1 put k =1 stored 0.0.0\n\
-         h 1 1 2 put k =2 stored 0.2.0\n\
+         h 1 1 2 put k =2 stored 0.1.0\n\
          h 1 1 3 put k =3 stored 1.1.0\n\
          h 1 1 4 get k found 1.1.0 =3\n",
-        30,
+        38,
     ),
     // a value one byte longer than the room: the call is refused, and nothing is stored
     (
@@ -84,12 +84,12 @@ const SESSIONS: [Session; 15] = [
          call 2 put a =q\n\
          finish 1\n",
         "1 stored 0.0.0\n\
-         2 stored 0.1.0\n\
-         1 stored 0.2.0\n",
+         2 stored 0.3.0\n\
+         1 stored 0.1.0\n",
         "h 1 1 1 put a =x stored 0.0.0\n\
-         h 1 2 1 put a =q stored 0.1.0\n\
-         h 1 1 2 put a =p stored 0.2.0\n",
-        30,
+         h 1 2 1 put a =q stored 0.3.0\n\
+         h 1 1 2 put a =p stored 0.1.0\n",
+        38,
     ),
     // a swap that finds its tag and one that does not; a delete; the buffer of a swap that committed nothing is used again
     (
@@ -102,14 +102,14 @@ const SESSIONS: [Session; 15] = [
         "1 stored 0.0.0\n\
          1 stored 0.1.0\n\
          1 differs 0.1.0\n\
-         1 deleted 0.2.0\n\
+         1 deleted 0.3.0\n\
          1 absent\n",
         "h 1 1 1 put a =1 stored 0.0.0\n\
          h 1 1 2 swap a 0.0.0 =2 stored 0.1.0\n\
          h 1 1 3 swap a 0.0.0 =3 differs 0.1.0\n\
-         h 1 1 4 delete a deleted 0.2.0\n\
+         h 1 1 4 delete a deleted 0.3.0\n\
          h 1 1 5 get a absent\n",
-        36,
+        44,
     ),
     // another client's get
     (
@@ -120,7 +120,7 @@ const SESSIONS: [Session; 15] = [
          2 found 0.0.0 =x\n",
         "h 1 1 1 put a =x stored 0.0.0\n\
          h 1 2 1 get a found 0.0.0 =x\n",
-        15,
+        24,
     ),
     // the raise behind an exchange is refused: the put stands, and the client's cursor stays where it was
     (
@@ -137,7 +137,7 @@ const SESSIONS: [Session; 15] = [
         "h 1 1 1 put a =1 stored 0.0.0\n\
          h 1 1 2 put a =2 stored 0.1.0\n\
          h 1 1 3 get a found 0.1.0 =2\n",
-        22,
+        30,
     ),
     // the store of the shortcut is refused: the put stands, and another client finds it behind the older shortcut
     (
@@ -149,12 +149,12 @@ const SESSIONS: [Session; 15] = [
          finish 1\n\
          call 2 get a\n",
         "1 stored 0.0.0\n\
-         1 linked 0.2.0\n\
-         2 found 0.2.0 =2\n",
+         1 linked 0.1.0\n\
+         2 found 0.1.0 =2\n",
         "h 1 1 1 put a =1 stored 0.0.0\n\
-         h 1 1 2 put a =2 stored 0.2.0\n\
-         h 1 2 1 get a found 0.2.0 =2\n",
-        24,
+         h 1 1 2 put a =2 stored 0.1.0\n\
+         h 1 2 1 get a found 0.1.0 =2\n",
+        33,
     ),
     // another client's get from the shortcut, and one from its own cursor
     (
@@ -168,7 +168,7 @@ const SESSIONS: [Session; 15] = [
         "h 1 1 1 put a =x stored 0.0.0\n\
          h 1 2 1 get a found 0.0.0 =x\n\
          h 1 2 2 get a found 0.0.0 =x\n",
-        19,
+        28,
     ),
     // cursors of two keys
     (
@@ -185,7 +185,7 @@ const SESSIONS: [Session; 15] = [
          h 1 1 2 put b =2 stored 0.1.0\n\
          h 1 1 3 get a found 0.0.0 =1\n\
          h 1 1 4 get b found 0.1.0 =2\n",
-        28,
+        44,
     ),
     // lines that are passed over; a client that is busy, one that there is not, a value that is too long, a refused access, steps with nothing to do
     (
@@ -210,7 +210,7 @@ const SESSIONS: [Session; 15] = [
          2 found 0.0.0 =x\n",
         "h 1 1 1 put a =x stored 0.0.0\n\
          h 1 2 1 get a found 0.0.0 =x\n",
-        15,
+        24,
     ),
     // a refused access of a client that is not there comes to nothing, and several refusals are one
     (
@@ -224,7 +224,104 @@ const SESSIONS: [Session; 15] = [
         "1 unreached\n\
          1 absent\n",
         "h 1 1 1 get a absent\n",
-        5,
+        1,
+    ),
+    // two keys and one slot: the second key's put has no slot, and a get of it is absent by the count
+    (
+        "pool nodes=1 buffers=4 slots=1 words=1 wear=3 clients=1 batch=1\n",
+        "call 1 put a =1\n\
+         call 1 put b =2\n\
+         call 1 get b\n\
+         call 1 get a\n",
+        "1 stored 0.0.0\n\
+         1 noslot\n\
+         1 absent\n\
+         1 found 0.0.0 =1\n",
+        "h 1 1 1 put a =1 stored 0.0.0\n\
+         h 1 1 2 get b absent\n\
+         h 1 1 3 get a found 0.0.0 =1\n",
+        24,
+    ),
+    // a pool with one buffer for a version, and one for a tombstone: the second put frees the tombstone's, which
+    // is worn, and is full
+    (
+        "pool nodes=1 buffers=2 slots=1 words=1 wear=1 clients=1 batch=1\n",
+        "call 1 put a =1\n\
+         call 1 put a =2\n",
+        "1 stored 0.0.0\n\
+         1 full 1 1 0\n",
+        "h 1 1 1 put a =1 stored 0.0.0\n",
+        25,
+    ),
+    // a pool with no buffer for a binding: nothing is bound, so it is full without an access, and the refusal
+    // asked for stays
+    (
+        "pool nodes=1 buffers=1 slots=1 words=1 wear=3 clients=2 batch=1\n",
+        "call 1 put a =x\n\
+         refuse 2\n\
+         call 2 put a =x\n\
+         call 2 get a\n",
+        "1 full 0 0 1\n\
+         2 full 0 0 1\n\
+         2 unreached\n",
+        "",
+        1,
+    ),
+    // a client that waits for the server, which another one holds; then each binds its key
+    (
+        "pool nodes=1 buffers=8 slots=2 words=1 wear=3 clients=2 batch=1\n",
+        "begin 1 put a =1\n\
+         step 1 4\n\
+         begin 2 put b =2\n\
+         step 2 1000000\n\
+         finish 2\n\
+         finish 1\n\
+         finish 2\n",
+        "1 stored 0.0.0\n\
+         2 stored 0.2.0\n",
+        "h 1 1 1 put a =1 stored 0.0.0\n\
+         h 1 2 1 put b =2 stored 0.2.0\n",
+        36,
+    ),
+    // an access of the server is refused: the put is unreached, and the next one that wants something finishes
+    // the binding
+    (
+        "pool nodes=1 buffers=8 slots=2 words=1 wear=3 clients=2 batch=1\n",
+        "begin 1 put a =1\n\
+         step 1 4\n\
+         refuse 1\n\
+         finish 1\n\
+         call 2 put a =2\n\
+         call 1 get a\n",
+        "1 unreached\n\
+         2 stored 0.2.0\n\
+         1 found 0.2.0 =2\n",
+        "h 1 2 1 put a =2 stored 0.2.0\n\
+         h 1 1 1 get a found 0.2.0 =2\n",
+        24,
+    ),
+    // recycled versions: a batch of two is made free, and a cursor of a recycled version is left behind
+    (
+        "pool nodes=1 buffers=4 slots=1 words=1 wear=9 clients=2 batch=1\n",
+        "call 1 put a =1\n\
+         call 2 get a\n\
+         call 1 put a =2\n\
+         call 1 put a =3\n\
+         call 1 put a =4\n\
+         call 2 get a\n",
+        "1 stored 0.0.0\n\
+         2 found 0.0.0 =1\n\
+         1 stored 0.2.0\n\
+         1 stored 0.3.0\n\
+         1 stored 0.1.1\n\
+         2 found 0.1.1 =4\n",
+        "h 1 1 1 put a =1 stored 0.0.0\n\
+         h 1 2 1 get a found 0.0.0 =1\n\
+         h 1 1 2 put a =2 stored 0.2.0\n\
+         h 1 1 3 put a =3 stored 0.3.0\n\
+         h 1 1 4 put a =4 stored 0.1.1\n\
+         h 1 2 2 get a found 0.1.1 =4\n",
+        64,
     ),
 ];
 
@@ -250,23 +347,7 @@ fn sessions_are_printed_byte_for_byte(rt: HostRuntime) -> Result<(), Fail> {
 }
 
 // The front and the rest of a text, and the number of its first line that is not built.
-const REFUSED: [(&str, &str, u64); 10] = [
-    // one put beyond the stock
-    (
-        "pool nodes=2 buffers=3 slots=1 words=1 wear=1 clients=2 batch=1\n",
-        "call 1 put k =1\n\
-         call 1 put k =2\n\
-         call 1 put k =3\n\
-         call 1 put k =4\n",
-        5,
-    ),
-    // one key beyond the slots
-    (
-        "pool nodes=1 buffers=4 slots=1 words=1 wear=1 clients=1 batch=1\n",
-        "call 1 get a\n\
-         call 1 get b\n",
-        3,
-    ),
+const REFUSED: [(&str, &str, u64); 6] = [
     // a number out of range
     (
         "pool nodes=17 buffers=4 slots=2 words=2 wear=3 clients=1 batch=2\n",
@@ -284,16 +365,6 @@ const REFUSED: [(&str, &str, u64); 10] = [
          pool nodes=1 buffers=4 slots=2 words=2 wear=3 clients=1 batch=2\n",
         3,
     ),
-    // a delete that the client has no buffer for, counted by lines whatever comes of them
-    (
-        "pool nodes=1 buffers=4 slots=2 words=1 wear=9 clients=1 batch=2\n",
-        "call 1 delete a\n\
-         begin 1 swap a 0.1.0 =1\n\
-         call 1 delete a\n",
-        4,
-    ),
-    // a put of a client that there is not, which has no buffer
-    (TWO_CLIENTS, "call 3 put a =x\n", 2),
     // only lines that are passed over, and no pool line
     (
         "",
@@ -334,15 +405,25 @@ const TRACED: &[u8] = b"pool nodes=1 buffers=4 slots=2 words=2 wear=3 clients=1 
                         call 1 get a\n\
                         call 1 get a\n";
 
-const TRACE: &[u8] = b"a 1 store M0.0 0001000000000005\n\
+const TRACE: &[u8] = b"g 1 0 0.0.0 0.1.0\n\
+                       a 1 load C = 0000000000000000\n\
+                       a s store M0.2 0002000000000000\n\
+                       a s store fM0.2 0002000000000000\n\
+                       a s store K0.0 0161000000000000\n\
+                       a s store fK0.0 0161000000000000\n\
+                       a s store R0 0000040000200000\n\
+                       a s store fR0 0000040000200000\n\
+                       a s store C 0000000000000001\n\
+                       g 1 1\n\
+                       a 1 store M0.0 0001000000000005\n\
                        a 1 store V0.0.0 68656c6c6f000000\n\
                        a 1 store fM0.0 0001000000000005\n\
                        a 1 store fV0.0.0 68656c6c6f000000\n\
                        a 1 load S0 = 0000000000000000\n\
-                       a 1 load R0 = 0000040000300000\n\
-                       a 1 load N0.3 = 0000000000000000\n\
-                       a 1 exchange N0.3 0000000000000000 0000040000000000 = 0000000000000000\n\
-                       a 1 raise fN0.3 0000040000000000 = 0000000000000000\n\
+                       a 1 load R0 = 0000040000200000\n\
+                       a 1 load N0.2 = 0000000000000000\n\
+                       a 1 exchange N0.2 0000000000000000 0000040000000000 = 0000000000000000\n\
+                       a 1 raise fN0.2 0000040000000000 = 0000000000000000\n\
                        a 1 store S0 0000040000000000\n\
                        1 stored 0.0.0\n\
                        a 1 load N0.0 refused\n\
@@ -355,7 +436,7 @@ const TRACE: &[u8] = b"a 1 store M0.0 0001000000000005\n\
                        history\n\
                        h 1 1 1 put a =hello stored 0.0.0\n\
                        h 1 1 2 get a found 0.0.0 =hello\n\
-                       accesses 14\n\
+                       accesses 22\n\
                        end\n";
 
 #[test]

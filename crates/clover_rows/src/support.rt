@@ -17,7 +17,7 @@ pub(crate) const PRINTED: &[u8] = b"1 stored 0.0.0\n\
                                     history\n\
                                     h 1 1 1 put a =hello stored 0.0.0\n\
                                     h 1 1 2 get a found 0.0.0 =hello\n\
-                                    accesses 14\n\
+                                    accesses 22\n\
                                     end\n";
 
 /// A list of these bytes.

@@ -1,9 +1,10 @@
 -- A call that runs alone: from its last start on nobody else has an event between its steps, it wants nothing of the server, and none of its accesses is refused.
-use Prim.Native.Nat.{suc}
+use Prim.Native.Nat.{zero, suc}
 use Rattle.std.specs.Prelude.{◌≡◌, ℕ, ◌<◌, ◌≤◌, List, [], ◌∷◌, ◌++◌, length, false, Option, Some, None}
 use Rattle.clover_map.specs.History.{key_of}
 use Rattle.clover_map.specs.declared.bytes.Value.{Value}
 use Rattle.clover_map.specs.declared.call.Call.{Call}
+use Rattle.clover_words.specs.declared.bytes.ValueBuf.{ValueBuf}
 use Rattle.clover_words.specs.declared.pool.Pool.{Pool}
 use Rattle.clover_script.specs.declared.line.Task.TheVariants.{Client as ClientTask}
 use Rattle.clover_rule.specs.Lists.{Each, nth, Within}
@@ -11,16 +12,17 @@ use Rattle.clover_rule.specs.Words.{mem_of}
 use Rattle.clover_rule.specs.declared.access.Access.{Access}
 use Rattle.clover_rule.specs.declared.access.Actor.TheVariants.{Client}
 use Rattle.clover_walk.specs.Alone.{Way, way_from, LeadsOver, HasVersion}
+use Rattle.clover_call.specs.declared.under.Underway.{Underway}
 use Rattle.clover_sched.specs.declared.event.Event.{Event}
 use Rattle.clover_sched.specs.declared.event.Event.TheVariants.{Begin, Step}
 use Rattle.clover_run.specs.declared.event.Note.{Note}
 use Rattle.clover_run.specs.declared.event.Note.TheVariants.{Quiet, Answered, Granted}
-use Rattle.clover_sched.specs.Alone.{HasChain, cost}
+use Rattle.clover_sched.specs.Alone.{EndsIn, HasChain, cost}
 use Rattle.clover_sched.specs.Ends.{MayBegin}
 use Rattle.clover_run.specs.Folds.{words_after, served_after}
 use Rattle.clover_run.specs.Record.{Record}
 use Rattle.clover_run.specs.Run.{Opening, Standing, standing, known_slot, want_in}
-use Rattle.clover_run.specs.Wanting.{Nothing}
+use Rattle.clover_run.specs.declared.want.Want.TheVariants.{Nothing}
 
 -- the record starts the call that the client has under way: its begin, or a grant behind which it starts anew
 abbrev pub Starts : ℕ → Event → Note → Type 0
@@ -73,6 +75,18 @@ cost_of p st slot call f = cost call f.way.loads (length f.tags) f.tail f.versio
 abbrev pub IsAnswered : ℕ → Note → Type 0
 IsAnswered c (Answered d r) = d ≡ c
 IsAnswered c note = ⊥
+
+-- the note of an access behind which a call has so many more to make
+abbrev pub NotesWith : ℕ → ℕ → Note → Type 0
+NotesWith c zero note = IsAnswered c note
+NotesWith c (suc n) note = note ≡ Quiet
+
+-- an access of what is to end in n accesses: it ends in one less, in these words, and the note says whether that is none
+pub record Advances (c : ℕ) (p : Pool) (n : ℕ) (ws : List ℕ) (u : Underway) (room : ValueBuf) (note : Note) : Type 0 where
+  pub left : ℕ
+  pub one : n ≡ suc left
+  pub ends : EndsIn p ws left u room
+  pub notes : NotesWith c left note
 
 -- there are no more steps than that, the last of so many answers the call, and each before it is quiet
 pub record IsAnsweredAt (c n : ℕ) (steps : List Record) : Type 0 where

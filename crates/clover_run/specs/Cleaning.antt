@@ -11,7 +11,8 @@ use Rattle.clover_server.specs.declared.work.Unfinished.{Unfinished}
 use Rattle.clover_run.specs.declared.event.Note.{Note}
 use Rattle.clover_run.specs.declared.event.Note.TheVariants.{Quiet, Recycled, Unlinked, Swept, Unreached}
 use Rattle.clover_run.specs.Record.{Record}
-use Rattle.clover_run.specs.Served.{Served, is_elsewhere}
+use Rattle.clover_run.specs.Served.{is_elsewhere}
+use Rattle.clover_run.specs.declared.served.Served.{Served}
 use Rattle.clover_run.specs.Serving.{Makes, Fails, Waiting}
 
 -- the recycler's task: the root version of a slot, or of each bound slot until all of them are unlinked
@@ -26,8 +27,8 @@ slot_due OfAll v = slot_in (slice_get v.server.directory.list v.read)
 
 -- an access of that recycling, or of a task that is unfinished
 abbrev pub Cleans : Option ℕ → (s n : ServerState) → ServerTurn → Record → Type 0
-Cleans (Some slot) s n turn r = RecycleStep (recycle_due s slot) s n turn (Makes r) (Fails r)
-Cleans None s n turn r = FinishStep s n turn (Makes r) (Fails r)
+Cleans (Some slot) s n turn r = RecycleStep (recycle_due s slot) s n turn (Makes r.access) (Fails r.access)
+Cleans None s n turn r = FinishStep s n turn (Makes r.access) (Fails r.access)
 
 -- how many buffers the books have as free or worn: one more behind the last access of any recycling, also of one that another actor began
 abbrev pub given_back : ServerState → ℕ

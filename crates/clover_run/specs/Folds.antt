@@ -19,7 +19,7 @@ use Rattle.clover_run.specs.declared.event.Note.{Note}
 use Rattle.clover_run.specs.declared.event.Note.TheVariants.{Quiet, Waits, Granted}
 use Rattle.clover_sched.specs.Folds.{words_by, made_by, actor_of}
 use Rattle.clover_run.specs.Record.{Record}
-use Rattle.clover_run.specs.Served.{Served}
+use Rattle.clover_run.specs.declared.served.Served.{Served}
 
 -- the accesses and the entries of some records, in order
 abbrev pub accesses_in : List Record → List Access
@@ -29,6 +29,10 @@ accesses_in (r ∷ rs) = option_to_list r.access ++ accesses_in rs
 abbrev pub entries_in : List Record → List Entry
 entries_in [] = []
 entries_in (r ∷ rs) = option_to_list r.entry ++ entries_in rs
+
+-- the accesses that are listed: with a trace all, and without one none
+abbrev pub traced_in : Bool → List Record → List Access
+traced_in traced rs = if traced then accesses_in rs else []
 
 -- the words after some records
 abbrev pub words_after : Pool → List ℕ → List Record → List ℕ

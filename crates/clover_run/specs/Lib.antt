@@ -6,5 +6,14 @@ pub mod Serving
 pub mod Cleaning
 pub mod Ends
 pub mod Run
+pub mod Client
+pub mod Stepping
+pub mod Working
 pub mod Lines
 pub mod Alone
+pub mod SoFar
+pub mod Machine
+pub mod Left
+pub mod Running
+pub mod Kept
+pub mod Text

@@ -2,7 +2,7 @@
 use Rattle.std.specs.Prelude.{Option}
 use Rattle.clover_map.specs.declared.call.Entry.{Entry}
 use Rattle.clover_rule.specs.declared.access.Access.{Access}
-use Rattle.clover_run.specs.Served.{Served}
+use Rattle.clover_run.specs.declared.served.Served.{Served}
 use Rattle.clover_sched.specs.declared.event.Event.{Event}
 use Rattle.clover_run.specs.declared.event.Note.{Note}
 

@@ -12,11 +12,10 @@ use Rattle.clover_map.specs.declared.call.Call.{Call}
 use Rattle.clover_map.specs.declared.call.Call.TheVariants.{Put}
 use Rattle.clover_map.specs.declared.call.Entry.{Entry}
 use Rattle.clover_map.specs.declared.call.Reply.{Reply}
-use Rattle.clover_map.specs.declared.call.Reply.TheVariants.{Stored, Deleted, Absent, Found}
+use Rattle.clover_map.specs.declared.call.Reply.TheVariants.{Stored, Deleted, Absent}
 use Rattle.clover_script.specs.declared.line.Task.{Task}
 use Rattle.clover_script.specs.declared.line.Task.TheVariants.{Client as ClientTask}
 use Rattle.clover_rule.specs.Accesses.{CameBack, Decides}
-use Rattle.clover_rule.specs.Content.{content}
 use Rattle.clover_rule.specs.Lists.{Within}
 use Rattle.clover_rule.specs.declared.access.Access.{Access}
 use Rattle.clover_rule.specs.declared.access.Act.{Act}
@@ -34,9 +33,11 @@ use Rattle.clover_sched.specs.Run.{room, IsBlank, Flushes, Shortens, Wrote, lost
 use Rattle.clover_run.specs.Ends.{ended}
 use Rattle.clover_run.specs.Folds.{Doing, entries_in, words_after, served_after, doing, names_of}
 use Rattle.clover_run.specs.Record.{Record}
-use Rattle.clover_run.specs.Served.{Served}
+use Rattle.clover_run.specs.declared.served.Served.{Served}
 use Rattle.clover_run.specs.Serving.{IsServed}
-use Rattle.clover_run.specs.Wanting.{Want, Nothing, slot_for, wants}
+use Rattle.clover_run.specs.Wanting.{slot_for, wants}
+use Rattle.clover_run.specs.declared.want.Want.{Want}
+use Rattle.clover_run.specs.declared.want.Want.TheVariants.{Nothing}
 
 -- Where a run begins, and all that was before it: the setup, the words of its pool, the server's side, the map and the used tags, its number among the runs, and how many accesses were made before it.
 pub record Opening : Type 0 where
@@ -157,16 +158,10 @@ pub record IsCalling (p : Pool) (st : Standing) (slot : ℕ) (call : Call) (acts
   pub may : MayBegin st.ended (key_of call) cursor
   pub leads : LeadsTo call (own_tag st) (begun_call p slot cursor (own_tag st) call) acts n
 
--- the content words that the call has loaded at its tail say the reply
-abbrev pub Says : List ℕ → Reply → Type 0
-Says seen (Found t v) = seen ≡ content (Some v)
-Says seen Absent = seen ≡ content None
-Says seen reply = Unit {0}
-
 -- what a note tells of where its access left the call: it has a step to make, it is over, or its turns have reached the budget
 abbrev pub Tells : Call → ℕ → Calling → Note → Type 0
 Tells call own n Quiet = IsSome (due call own n)
-Tells call own n (Answered a r) = (n.steps ≡ []) × (n.over ≡ true) × Says n.seen r
+Tells call own n (Answered a r) = (n.steps ≡ []) × (n.over ≡ true)
 Tells call own n (Refused a y) = (n.steps ≡ []) × (n.over ≡ false) × (n.walk.stand ≡ Ended)
 Tells call own n note = ⊥
 
@@ -191,9 +186,8 @@ abbrev pub IsDueOn : Pool → Standing → Option ℕ → Call → Act → Note 
 IsDueOn p st None call act note = IsCounting st call act note
 IsDueOn p st (Some slot) call act note = IsDue p st slot call act note
 
--- A step of a call that wants nothing of the server is its own next access: where that was made, it is the one that is due, and the note has its cause; where it was refused, the call ends with what it had done. An exchange that writes enters the call.
-pub record IsOwn (p : Pool) (st : Standing) (call : Call) (r : Record) : Type 0 where
-  pub access : Access
+-- The record is an access of the actor's own: where it was made, the note has its cause; where it was refused, the call ends with what it had done. An exchange that writes enters the call.
+pub record IsOwnAccess (p : Pool) (st : Standing) (r : Record) (access : Access) : Type 0 where
   pub is : r.access ≡ Some access
   pub actor : access.actor ≡ Client st.actor
   pub served : r.served ≡ st.served
@@ -202,6 +196,11 @@ pub record IsOwn (p : Pool) (st : Standing) (call : Call) (r : Record) : Type 0 
   pub commits : access.refused ≡ false → Wrote access.act → IsSome r.entry
   pub unreached : access.refused ≡ true → (r.note ≡ Refused st.actor (lost st.does.decided)) × (r.entry ≡ None)
   pub cause : access.refused ≡ false → IsCause p st r.entry access.act r.note
+
+-- A step of a call that wants nothing of the server is its own next access; one that was made is the one that is due.
+pub record IsOwn (p : Pool) (st : Standing) (call : Call) (r : Record) : Type 0 where
+  pub access : Access
+  pub own : IsOwnAccess p st r access
   pub due : access.refused ≡ false → IsDueOn p st (known_slot st call) call access.act r.note
 
 -- the step of an actor whose call wants this

@@ -1,13 +1,7 @@
--- The server's side of a run: the server itself, and who holds it.
+-- Who holds the server.
 use Rattle.std.specs.Prelude.{ℕ, eqb, not, Bool, false, Option, Some, None}
 use Rattle.clover_server.specs.Server.{ServerState}
-
--- The server, and the actor that holds it between two events; and of the recycler's task, how many bindings it has read unlinked and how many recyclings have ended in its events.
-pub record Served : Type 0 where
-  pub server : ServerState
-  pub holder : Option ℕ
-  pub read : ℕ
-  pub done : ℕ
+use Rattle.clover_run.specs.declared.served.Served.{Served}
 
 -- the server is so now, held by this actor, and by nobody
 abbrev pub held : ℕ → ServerState → Served → Served

@@ -4,12 +4,8 @@ use Rattle.std.specs.Str.{bytes_eq}
 use Rattle.clover_map.specs.declared.call.Call.{Call}
 use Rattle.clover_map.specs.declared.call.Call.TheVariants.{Get, Put}
 use Rattle.clover_rule.specs.declared.access.Act.{Act}
-
--- nothing, a batch of buffers, or the bindings that its client does not know
-pub data Want : Type 0 where
-  Nothing : Want
-  Stock : Want
-  Names : Want
+use Rattle.clover_run.specs.declared.want.Want.{Want}
+use Rattle.clover_run.specs.declared.want.Want.TheVariants.{Nothing, Stock, Names}
 
 -- the slot of the first binding of the key
 abbrev pub slot_for : List ℕ → List (ℕ × List ℕ) → Option ℕ

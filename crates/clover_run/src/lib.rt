@@ -1,7 +1,21 @@
-//! What a run with a metadata server is: how a record of it follows those before it. Definitions and the note of an
-//! event alone, beside those of `clover_sched`, whose machine is to follow them.
+//! The machine of a script's events with its metadata server: every client's calls, one access at a time, in any order
+//! that a script names, from pools that begin empty; and what a run of such events is.
 #![tactic(auto)]
 
+mod client;
 mod event;
+mod machine;
+mod runner;
+mod served;
+#[cfg(test)]
+mod tests;
+mod text;
+mod want;
 
+pub use client::ClientState;
 pub use event::Note;
+pub use machine::Machine;
+pub use runner::{Advance, Work, begin_line, work_on};
+pub use served::Served;
+pub use text::push_note;
+pub use want::Want;

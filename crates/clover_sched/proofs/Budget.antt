@@ -16,16 +16,11 @@ use Rattle.clover_walk.specs.Walking.{Walking, Stand, AtShort, AtRoot, AtTag, At
 use Rattle.clover_call.specs.Calling.{Calling, Deed, Reads, Links, Ends, Leaves, begun_call, deed, done, after, walks, LeadsTo}
 use Rattle.clover_words.specs.declared.bytes.ValueBuf.{ValueBuf}
 use Rattle.clover_call.specs.Caller.{CallHolds}
-use Rattle.clover_sched.specs.Client.{since_of}
-use Rattle.clover_sched.specs.Folds.{Doing}
-use Rattle.clover_sched.specs.Machine.{GoesSoFar, most_made}
-use Rattle.clover_sched.specs.Run.{Opening, IsCalling, own_of}
 use Rattle.clover_call.specs.declared.under.Underway.{Underway}
 use Rattle.clover_call.specs.declared.under.Underway.TheVariants.{Nothing}
-use Rattle.clover_sched.proofs.Dues.{stands_turns, under_within, more_allow}
 
 -- a walk of this pool has made no more turns than the budget, and fewer where it has not ended
-record IsWithin (p : Pool) (w : Walking) : Type 0 where
+pub record IsWithin (p : Pool) (w : Walking) : Type 0 where
   pub pool : w.pool ≡ p
   pub most : w.turns ≤ budget w.pool
   pub below : w.stand ≢ Ended → w.turns < budget w.pool
@@ -100,27 +95,10 @@ after_within p call own c x = on c.steps
     on [] h = at c.walk.stand h
     on (a ∷ steps) h = h
 
-leads_within : (p : Pool) (call : Call) (own : ℕ) (c n : Calling) (acts : List Act) → LeadsTo call own c acts n → IsWithin p c.walk → IsWithin p n.walk
+pub leads_within : (p : Pool) (call : Call) (own : ℕ) (c n : Calling) (acts : List Act) → LeadsTo call own c acts n → IsWithin p c.walk → IsWithin p n.walk
 leads_within p call own c n [] at h = subst (λ (k : Calling). IsWithin p k.walk) (sym at) h
 leads_within p call own c n (act ∷ acts) (a, x, due, is, more) h = leads_within p call own (after call own c x) n acts more (after_within p call own c x h)
 
-begun_within : (p : Pool) (s : ℕ) (cursor : Option ℕ) → IsWithin p (begun (made_walk p s cursor))
+pub begun_within : (p : Pool) (s : ℕ) (cursor : Option ℕ) → IsWithin p (begun (made_walk p s cursor))
 begun_within p s None = record { pool = refl; most = omega arith; below = λ on. omega arith }
 begun_within p s (Some t) = record { pool = refl; most = omega arith; below = λ on. omega arith }
-
--- what the turns of a call under way allow is no more than what a call makes at most
-calling_most : (o : Opening) (a : ℕ) (d : Doing) (h : List (List ℕ × ℕ)) (acts : List Act) (n : Calling) → IsCalling o a d h acts n → most_accesses o.setup.pool n.walk.turns ≤ most_made o.setup.pool
-calling_most o a d h acts n c =
-    let p = o.setup.pool in
-    let own = own_of o.setup a d.taken in
-    let within = leads_within p c.call own (begun_call p c.slot c.cursor own c.call) n acts c.leads (begun_within p c.slot c.cursor) in
-    more_allow n.walk.turns (budget p) p.words (subst (λ (q : Pool). n.walk.turns ≤ budget q) within.pool within.most)
-
--- what is under way has made fewer accesses than a call makes at most
-pub since_few : (o : Opening) (a : ℕ) (d : Doing) (h : List (List ℕ × ℕ)) (v : View) (u : Underway) (room : ValueBuf) → u ≢ Nothing → CallHolds o.setup.pool u v room → GoesSoFar o a d h u room → length (since_of u v) < most_made o.setup.pool
-since_few o a d h v u room busy is g =
-    let own = own_of o.setup a d.taken in
-    let few = under_within o.setup.pool u v room g.calling.call own g.stands busy is g.under g.fits in
-    let turns = stands_turns u room g.calling.call own g.stands busy g.under in
-    let most = calling_most o a d h d.since g.stands g.calling in
-    omega (arith, subst (λ (t : ℕ). length (since_of u v) < most_accesses o.setup.pool t) (sym turns) few)

@@ -36,16 +36,10 @@ use Rattle.clover_put.proofs.Known.{bounded}
 use Rattle.clover_call.specs.Calling.{Calling, Deed, Reads, Links, Ends, Leaves, own_words, begun_call, deed, done, due, after, walks, LeadsTo}
 use Rattle.clover_call.specs.Mirroring.{reads, GetMirrors, PutMirrors, Mirrors, Writes}
 use Rattle.clover_call.specs.Beginning.{size_of}
-use Rattle.clover_sched.specs.Client.{MakesDue, Starts, since_of}
-use Rattle.clover_sched.specs.Ends.{ended_by, MayBegin}
-use Rattle.clover_sched.specs.Folds.{Doing, ends}
-use Rattle.clover_sched.specs.Machine.{GoesSoFar}
-use Rattle.clover_sched.specs.Run.{Opening, IsCalling, IsDue, Tells, own_of, room}
+use Rattle.clover_sched.specs.Client.{since_of}
+use Rattle.clover_sched.specs.Run.{room}
 use Rattle.clover_call.specs.declared.under.Underway.{Underway}
 use Rattle.clover_call.specs.declared.under.Underway.TheVariants.{Nothing, Get, Write}
-use Rattle.clover_sched.specs.declared.client.ClientState.{ClientState}
-use Rattle.clover_sched.specs.declared.event.Note.{Note}
-use Rattle.clover_sched.specs.declared.event.Note.TheVariants.{Quiet, Answered, Refused, Busy, Missing}
 use Rattle.clover_call.specs.Caller.{CallHolds}
 use Rattle.clover_call.proofs.Begins.{mirrors}
 use Rattle.clover_call.proofs.Calling.{leads_more}
@@ -126,7 +120,7 @@ done_turns c t own Ends x = either_turns (x == unlinked t) c.walk.turns (record 
 done_turns c t own Leaves x = goes_turns c.walk.stand c.walk x
 
 -- nor do those of a call
-after_turns : (call : Call) (own : ℕ) (c : Calling) (x : ℕ) → c.walk.turns ≤ (after call own c x).walk.turns
+pub after_turns : (call : Call) (own : ℕ) (c : Calling) (x : ℕ) → c.walk.turns ≤ (after call own c x).walk.turns
 after_turns call own c x = on c.steps
   where
     at : (s : Stand) → c.walk.stand ≡ s → c.walk.turns ≤ (after call own (record { steps = []; walk = record { pool = c.walk.pool; slot = c.walk.slot; turns = c.walk.turns; first = c.walk.first; start = c.walk.start; stand = s }; seen = c.seen; over = c.over }) x).walk.turns
@@ -191,93 +185,9 @@ under_within p (Write w) v room call own c busy is at fits =
 pub more_allow : (a b w : ℕ) → a ≤ b → (a + 1) * (w + 5) + 2 * w + 4 ≤ (b + 1) * (w + 5) + 2 * w + 4
 more_allow a b w less = let one : (w + 5) * a ≤ (w + 5) * b = mul-le-mul_left (w + 5) less in omega arith
 
--- the acts of a call are told alike by what is said of the same task
-pub calling_as : (o : Opening) (a : ℕ) (d e : Doing) (h k : List (List ℕ × ℕ)) (acts : List Act) (n : Calling) → e.task ≡ d.task → e.taken ≡ d.taken → k ≡ h → IsCalling o a d h acts n → IsCalling o a e k acts n
-calling_as o a d e h k acts n task taken same x = record {
-  call = x.call;
-  written = x.written;
-  task = task ∙ x.task;
-  slot = x.slot;
-  named = x.named;
-  cursor = x.cursor;
-  may = subst (λ (l : List (List ℕ × ℕ)). MayBegin l (key_of x.call) x.cursor) (sym same) x.may;
-  leads = subst (λ (m : ℕ). LeadsTo x.call (own_of o.setup a m) (begun_call o.setup.pool x.slot x.cursor (own_of o.setup a m) x.call) acts n) (sym taken) x.leads;
-}
-
--- and so is where it stands
-pub goes_as : (o : Opening) (a : ℕ) (d e : Doing) (h k : List (List ℕ × ℕ)) (u : Underway) (room : ValueBuf) → e.task ≡ d.task → e.since ≡ d.since → e.taken ≡ d.taken → k ≡ h → GoesSoFar o a d h u room → GoesSoFar o a e k u room
-unfolding calling_as
-goes_as o a d e h k u room task since taken same g = record {
-  stands = g.stands;
-  calling = subst (λ (l : List Act). IsCalling o a e k l g.stands) (sym since) (calling_as o a d e h k d.since g.stands task taken same g.calling);
-  under = subst (λ (m : ℕ). Mirrors u room g.calling.call (own_of o.setup a m) g.stands) (sym taken) g.under;
-  fits = g.fits;
-}
-
--- an access that is the step that is due of what is under way is due in the run, and leads what is under way on
-module _ (o : Opening) (a : ℕ) (d : Doing) (h : List (List ℕ × ℕ)) (v : View) (x y : ClientState) (act : Act) (note : Note) (busy : x.node.under ≢ Nothing) (is : CallHolds o.setup.pool x.node.under v x.room) (since : d.since ≡ since_of x.node.under v) (g : GoesSoFar o a d h x.node.under x.room) (makes : MakesDue x y act note) where
-  abbrev own : ℕ
-  own = own_of o.setup a d.taken
-
-  made : (b : Step) × (k : ℕ) × (due g.calling.call own g.stands ≡ Some b) × (act ≡ act_of b k) × Mirrors y.node.under y.room g.calling.call own (after g.calling.call own g.stands k) × Tells g.calling.call own (after g.calling.call own g.stands k) note
-  made = makes g.calling.call own g.stands g.under
-
-  abbrev next : Calling
-  next = after g.calling.call own g.stands made.1
-
-  calling : IsCalling o a d h (d.since ++ act ∷ []) next
-  calling = record {
-    call = g.calling.call;
-    written = g.calling.written;
-    task = g.calling.task;
-    slot = g.calling.slot;
-    named = g.calling.named;
-    cursor = g.calling.cursor;
-    may = g.calling.may;
-    leads = leads_more g.calling.call own (begun_call o.setup.pool g.calling.slot g.calling.cursor own g.calling.call) g.stands d.since act made.0 made.1 g.calling.leads made.2 made.3;
-  }
-
-  pub is_due : IsDue o a d h act note
-  unfolding calling made
-  is_due = record {
-    stands = next;
-    calling = calling;
-    tells = made.5;
-    few =
-        let count = ap length since in
-        let least = under_within o.setup.pool x.node.under v x.room g.calling.call own g.stands busy is g.under g.fits in
-        let turns = stands_turns x.node.under x.room g.calling.call own g.stands busy g.under in
-        let rise = after_turns g.calling.call own g.stands made.1 in
-        let more = more_allow (turns_of x.node.under) next.walk.turns o.setup.pool.words (omega arith) in
-        omega arith;
-  }
-
-  pub leads_on : GoesSoFar o a (record d { since = d.since ++ act ∷ [] }) h y.node.under y.room
-  unfolding calling_as calling made
-  leads_on = record { stands = next; calling = calling_as o a d (record d { since = d.since ++ act ∷ [] }) h h (d.since ++ act ∷ []) next refl refl refl calling; under = made.4; fits = g.fits }
-
--- a call that does not end with the note ends none
-pub ended_not : (c : ℕ) (task : Option Task) (note : Note) (x : Access) (h : List (List ℕ × ℕ)) → ends note ≡ false → ended_by c task note (Some x) h ≡ h
-ended_not c None note x h goes = refl
-ended_not c (Some (ClientTask call n)) Quiet x h goes = refl
-ended_not c (Some (ClientTask call n)) (Answered b reply) x h goes = absurd cc
-ended_not c (Some (ClientTask call n)) (Refused b why) x h goes = refl
-ended_not c (Some (ClientTask call n)) (Busy b) x h goes = refl
-ended_not c (Some (ClientTask call n)) (Missing b) x h goes = refl
-
 -- a buffer has room for its version
-words_fit : (s : Setup) (call : Call) → size_of call ≤ room s → length (own_words call) ≤ s.pool.words + 1
+pub words_fit : (s : Setup) (call : Call) → size_of call ≤ room s → length (own_words call) ≤ s.pool.words + 1
 words_fit s (GetOf key) fits = omega arith
 words_fit s (PutOf key value) fits = let e = content_words (Some value) in let k = value_fits s.pool value fits in omega arith
 words_fit s (DeleteOf key) fits = let e = content_words None in omega arith
 words_fit s (SwapOf key expected value) fits = let e = content_words (Some value) in let k = value_fits s.pool value fits in omega arith
-
--- a call that a client begins stands at its start
-pub goes_first : (o : Opening) (a n : ℕ) (d : Doing) (h : List (List ℕ × ℕ)) (known : Known) (call : Call) (written : ℕ) (u : Underway) (into : ValueBuf) → n ≡ d.taken → (s : Starts o a n known call u) → MayBegin h (key_of call) (number_of (cursor_at s.slot known))
-    → GoesSoFar o a (record { task = Some (ClientTask call written); decided = None; since = []; refusing = d.refusing; taken = d.taken }) h u into
-goes_first o a n d h known call written u into taken s may = record {
-  stands = begun_call o.setup.pool s.slot (number_of (cursor_at s.slot known)) (own_of o.setup a d.taken) call;
-  calling = record { call = call; written = written; task = refl; slot = s.slot; named = s.named; cursor = number_of (cursor_at s.slot known); may = may; leads = refl };
-  under = subst (λ (m : ℕ). Mirrors u into call (own_of o.setup a m) (begun_call o.setup.pool s.slot (number_of (cursor_at s.slot known)) (own_of o.setup a m) call)) taken (mirrors o.setup.pool s.slot (number_of (cursor_at s.slot known)) (own_of o.setup a n) call u into s.begun);
-  fits = words_fit o.setup call s.fits;
-}

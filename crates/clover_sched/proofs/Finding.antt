@@ -8,7 +8,6 @@ use Rattle.clover_words.specs.declared.pool.Pool.{Pool}
 use Rattle.clover_words.specs.declared.setup.Setup.{Setup}
 use Rattle.clover_words.specs.declared.word.Side.TheVariants.{Current}
 use Rattle.clover_words.specs.declared.word.Word.TheVariants.{Next as NextOf}
-use Rattle.clover_words.specs.Preset.{HasDealt, dealt_number}
 use Rattle.clover_words.specs.Tag.{TagParts, tag_number, home, age}
 use Rattle.clover_words.specs.Version.{buffer_at}
 use Rattle.clover_map.specs.Tagged.{Tagged}
@@ -16,7 +15,6 @@ use Rattle.clover_map.specs.History.{key_of}
 use Rattle.clover_map.specs.declared.bytes.Value.{Value}
 use Rattle.clover_map.specs.declared.call.Call.{Call}
 use Rattle.clover_map.specs.declared.call.Entry.{Entry}
-use Rattle.clover_script.specs.Lines.{takes}
 use Rattle.clover_rule.specs.Content.{Fits, InRange, content}
 use Rattle.clover_rule.specs.History.{Version}
 use Rattle.clover_rule.specs.Lists.{Each, nth, Within}
@@ -42,19 +40,11 @@ use Rattle.clover_walk.specs.Standing.{number_of}
 use Rattle.clover_walk.specs.Walking.{made_walk}
 use Rattle.clover_walk.specs.declared.start.Start.TheVariants.{FromCursor, FromShort, FromRoot}
 use Rattle.clover_walk.proofs.Alone.{content_words}
-use Rattle.clover_sched.specs.declared.client.ClientState.{ClientState}
 use Rattle.clover_call.specs.declared.under.Underway.{Underway}
-use Rattle.clover_sched.specs.Alone.{EndsIn, Finds, HasChain, cost_of}
 use Rattle.clover_words.specs.declared.bytes.ValueBuf.{ValueBuf}
 use Rattle.clover_call.specs.Caller.{IsCursor}
 use Rattle.clover_call.specs.Beginning.{IsBegun, size_of}
-use Rattle.clover_sched.specs.Client.{Stands}
-use Rattle.clover_sched.specs.Ends.{ended, MayBegin}
-use Rattle.clover_sched.specs.Folds.{words_after}
-use Rattle.clover_sched.specs.Record.{Record}
-use Rattle.clover_sched.specs.Run.{Opening, own_of, room}
-use Rattle.clover_sched.proofs.Beginning.{stock_first}
-use Rattle.clover_sched.proofs.Starting.{comes_made, starts, value_fits, dead_fits}
+use Rattle.clover_sched.proofs.Starting.{value_fits, dead_fits}
 
 -- a content has no more words than a buffer
 content_fits : (p : Pool) (x : Option Value) → Fits p x → length (content x) ≤ p.words + 1
@@ -66,7 +56,7 @@ module _ (p : Pool) (first : Tagged) (used : List ℕ) (ws : List ℕ) (vs : Lis
   m = mem_of p ws
 
   -- what a walk of the slot that goes on from there comes to: the tags on its way and the tail, each in a buffer of the slot's chain, and the tail's version
-  record Onward (s : ℕ) (from : Option ℕ) : Type 0 where
+  pub record Onward (s : ℕ) (from : Option ℕ) : Type 0 where
     pub tags : List ℕ
     pub tail : ℕ
     pub leads : LeadsOver p ws from tags tail
@@ -152,7 +142,7 @@ module _ (p : Pool) (first : Tagged) (used : List ℕ) (ws : List ℕ) (vs : Lis
           let l = (r.whole.basis.core.passed s d.0 t d.1 (omega arith)).later in absurd (omega arith)
 
   -- from the root of a slot that has a key
-  from_root : (s : ℕ) (k : List ℕ) → st.keys s ≡ Some k → Onward s (m.root s)
+  pub from_root : (s : ℕ) (k : List ℕ) → st.keys s ≡ Some k → Onward s (m.root s)
   from_root s k e =
       let c = r.whole.basis.core in
       let low = c.rooted s (r.whole.help.keyed.filled s k e) in
@@ -160,15 +150,15 @@ module _ (p : Pool) (first : Tagged) (used : List ℕ) (ws : List ℕ) (vs : Lis
       let led = c.led s in
       subst (Onward s) (sym (c.root s)) (onward s (st.lead s) (omega arith) (omega arith))
 
-  durable_range : (s t : ℕ) → Durable st s t → InRange p t
+  pub durable_range : (s t : ℕ) → Durable st s t → InRange p t
   durable_range s t d = r.whole.help.ranged.tags s d.0 t d.1
 
-  short_range : (s : ℕ) (x : Option ℕ) → m.short s ≡ x → IfSome x (InRange p)
+  pub short_range : (s : ℕ) (x : Option ℕ) → m.short s ≡ x → IfSome x (InRange p)
   short_range s None e = tt
   short_range s (Some t) e = durable_range s t (r.whole.help.short s t e)
 
   -- a way with so many stale starts at most, and what it comes to
-  record Comes (s n : ℕ) (y : Way) : Type 0 where
+  pub record Comes (s n : ℕ) (y : Way) : Type 0 where
     pub few : y.stale ≤ n
     pub onward : Onward s y.from
 
@@ -191,83 +181,6 @@ module _ (p : Pool) (first : Tagged) (used : List ℕ) (ws : List ℕ) (vs : Lis
         let z = short_comes (m.short s) refl in
         subst (Comes s 2) (let q : record { loads = suc y.loads; stale = suc y.stale; start = y.start; from = y.from } ≡ way_from m s (Some t) = rw stale refl in q) (record { few = let l = z.few in omega arith; onward = z.onward })
 
-    comes : (known : Option ℕ) → IfSome known (Durable st s) → Comes s 2 (way_from m s known)
+    pub comes : (known : Option ℕ) → IfSome known (Durable st s) → Comes s 2 (way_from m s known)
     comes None d = let z = short_comes (m.short s) refl in record { few = let l = z.few in omega arith; onward = z.onward }
     comes (Some t) d = cursor_comes t d (is_live m t) refl
-
--- a call of the client on a named slot, from a cursor that it knows durable or from none, finds its way behind the records, and ends in as many accesses as that costs
-module _ (o : Opening) (rs : List Record) (p : Plain) (i : ℕ) (x : ClientState) (st : Stands o p i x) (running : Running p) (words : p.words ≡ words_after o.setup.pool o.words rs) (call : Call) (slot : ℕ) (named : Within (slot, key_of call) o.names) (cursor : Option TagParts)
-    (held : IfSome cursor (λ t. IsCursor o.setup.pool (view_at p i) (slot, t))) where
-  abbrev ws : List ℕ
-  ws = words_after o.setup.pool o.words rs
-
-  abbrev known : Option ℕ
-  known = number_of cursor
-
-  abbrev story : Story
-  story = running.rule.story
-
-  met : Meets o.setup.pool p.first p.used ws (p.views ++ p.absent) story (history p)
-  met = subst (λ (s : Setup). Meets s.pool p.first p.used ws (p.views ++ p.absent) story (history p)) st.setup (subst (λ (l : List ℕ). Meets p.setup.pool p.first p.used l (p.views ++ p.absent) story (history p)) words running.rule.helped)
-
-  view_ok : ViewOk (mem_of o.setup.pool ws) story (history p) i (view_at p i)
-  view_ok = let seats = st.seats in let seat = st.seat in met.whole.basis.views i (view_at p i) (at_front p.views p.absent i (view_at p i) (nth_default p.views i nobody (omega arith)))
-
-  has_key : story.keys slot ≡ Some (key_of call)
-  has_key = (met.whole.basis.bound slot (key_of call) (subst (Within (slot, key_of call)) (sym view_ok.named.names.1) (within_prefix (slot, key_of call) (view_at p i).pass.names view_ok.named.names.0 (subst (Within (slot, key_of call)) (sym st.names) named)))).0
-
-  is_durable : (c : Option TagParts) → IfSome c (λ t. IsCursor o.setup.pool (view_at p i) (slot, t)) → IfSome (number_of c) (Durable story slot)
-  is_durable None h = tt
-  is_durable (Some t) h = each_within (λ (q : ℕ × ℕ). Durable story q.0 q.1) (slot, tag_number t) (view_at p i).pass.durable view_ok.knows.durable h.1
-
-  abbrev way : Way
-  way = way_from (mem_of o.setup.pool ws) slot known
-
-  here : Comes o.setup.pool p.first p.used ws (p.views ++ p.absent) story (history p) met slot 2 way
-  here = comes o.setup.pool p.first p.used ws (p.views ++ p.absent) story (history p) met slot (key_of call) has_key known (is_durable cursor held)
-
-  comes_here : ComesBy ws (made_walk o.setup.pool slot known) known way here.onward.tags here.onward.tail
-  comes_here = comes_made o.setup.pool ws slot known way here.onward.tags here.onward.tail
-      (met.whole.help.keyed.slots slot (key_of call) has_key)
-      (IfSome_then known (is_durable cursor held) (durable_range o.setup.pool p.first p.used ws (p.views ++ p.absent) story (history p) met slot))
-      (short_range o.setup.pool p.first p.used ws (p.views ++ p.absent) story (history p) met slot ((mem_of o.setup.pool ws).short slot) refl)
-      refl here.onward.leads here.few
-
-  abbrev own_tag : ℕ
-  own_tag = dealt_tag o.setup.pool (dealt_number o.setup (suc i) x.taken)
-
-  -- the buffer of the client's next put is on no chain
-  off_chain : HasDealt o.setup (suc i) x.taken → Each (λ (t : ℕ). home t ≢ home own_tag) (here.onward.tags ++ here.onward.tail ∷ [])
-  off_chain d =
-      let first = stock_first o.setup (suc i) x.taken d in
-      let own = (subst (Each (Owned (mem_of o.setup.pool ws) story i)) (st.stock ∙ first.1) view_ok.stocked).0 in
-      each_map {P = λ (t : ℕ). story.place (home t) ≡ Chained slot} {Q = λ (t : ℕ). home t ≢ home own_tag} (λ t c e. let k : Chained slot ≡ Stocked i = sym c ∙ ap story.place e ∙ own.0 in absurd cc) (here.onward.tags ++ here.onward.tail ∷ []) here.onward.placed
-
-  -- the slot's chain from its root
-  pub chain_here : HasChain o.setup.pool ws slot
-  chain_here =
-      let f = from_root o.setup.pool p.first p.used ws (p.views ++ p.absent) story (history p) met slot (key_of call) has_key in
-      record { tags = f.tags; tail = f.tail; leads = f.leads; version = f.version; has = f.has }
-
-  module _ (may : MayBegin (ended (suc i) rs) (key_of call) known) where
-    abbrev finds_here : Finds o (suc i) rs call
-    finds_here = record {
-      slot = slot;
-      named = named;
-      cursor = known;
-      may = may;
-      way = way;
-      is = refl;
-      tags = here.onward.tags;
-      tail = here.onward.tail;
-      leads = here.onward.leads;
-      version = here.onward.version;
-      has = here.onward.has;
-    }
-
-    pub begins_alone : (f : Finds o (suc i) rs call) × ((u : Underway) (into : ValueBuf) → IsBegun (made_walk o.setup.pool slot known) (own_of o.setup (suc i) x.taken) call u → size_of call ≤ room o.setup → (takes call ≡ 1 → HasDealt o.setup (suc i) x.taken) → EndsIn o.setup.pool p.words (cost_of o (suc i) rs call f) u into)
-    begins_alone = (
-      finds_here,
-      λ u into begun fits dealt. subst (λ (l : List ℕ). EndsIn o.setup.pool l (cost_of o (suc i) rs call finds_here) u into) (sym words)
-          (starts o.setup (suc i) x.taken ws slot known way here.onward.tags here.onward.tail here.onward.version comes_here here.onward.has off_chain call u into begun fits dealt),
-    )

@@ -31,10 +31,8 @@ use Rattle.clover_call.specs.declared.under.Underway.{Underway}
 use Rattle.clover_call.specs.declared.under.Underway.TheVariants.{Nothing, Get, Write}
 use Rattle.clover_call.proofs.Staying.{raises_at, shortens_at}
 use Rattle.clover_sched.specs.declared.event.CallRefusal.TheVariants as why
-use Rattle.clover_sched.specs.Client.{HasLinked, LinkedAt, stock_at}
-use Rattle.clover_sched.specs.Folds.{Doing}
-use Rattle.clover_sched.specs.Run.{Opening, EndsCommit, Flushes, IsAnswer, Shortens, lost}
-use Rattle.clover_sched.proofs.Remembering.{key_of_call}
+use Rattle.clover_sched.specs.Client.{HasLinked, LinkedAt}
+use Rattle.clover_sched.specs.Run.{Flushes, Shortens, lost}
 
 unlinked_before : (s : Stage) (t : ℕ) (acts : List Act) → IsBefore s → LinkedAt s t acts
 unlinked_before (Storing j) t acts b = tt
@@ -90,49 +88,9 @@ module _ (p : Pool) (x y : Underway) (v w : View) (room room1 : ValueBuf) (n : �
       let acts : w.pass.since ≡ cond c.walk.first [] v.pass.since ++ wrote_link t c.own ∷ [] = since ∙ (λ i. cond c.walk.first [] v.pass.since ++ act_of (put_step (record c { stage = e i }) v) (hit i) ∷ []) in
       subst (λ (k : Underway). HasLinked k w.pass.since) (sym is) (subst (Within (wrote_link t c.own)) (sym acts) (within_last (wrote_link t c.own) (cond c.walk.first [] v.pass.since)))
 
-  -- a call that ends behind its exchange stores its shortcut, behind the raise of its link
-  pub ends_commit : (o : Opening) (d : Doing) (u : Underway) (a : Answer) (written : ℕ) → v.pass.names ≡ o.names → CallHolds p u v room → GoesOn u room n (Done a) y room1 → HasCommitted u → HasLinked u v.pass.since → next_step u v room ≡ StoreShort (slot_of u) (new_tag u)
-      → d.task ≡ Some (Rattle.clover_script.specs.declared.line.Task.TheVariants.Client (call_under u v) written) → d.since ≡ cond (is_first u) [] v.pass.since → EndsCommit o d (act_of (next_step u v room) n) (new_tag u)
-  ends_commit o d Nothing a written names held go h linked short task since = absurd h
-  ends_commit o d (Get g) a written names held go h linked short task since = absurd h
-  ends_commit o d (Write c) a written names held go h linked short task since =
-      let e = shortens_at c n h go.2 in
-      record {
-        call = call_under (Write c) v;
-        written = written;
-        task = task;
-        slot = c.walk.slot;
-        named = subst (λ (l : List (ℕ × List ℕ)). Within (c.walk.slot, key_of (call_under (Write c) v)) l) names (subst (λ (key : List ℕ). Within (c.walk.slot, key) v.pass.names) (sym (key_of_call c.job (key_at v.pass.names c.walk.slot) c.value)) held.1.walk.named);
-        stores = ap (λ (k : Step). act_of k n) short;
-        flushed = subst (Flushes c.own) (sym (since ∙ ap (λ (b : Bool). cond b [] v.pass.since) (subst (λ (s : Stage). Fills s c v) e held.1.fills))) (subst (λ (s : Stage). LinkedAt s c.own v.pass.since) e linked);
-      }
-
--- the answer to a commit is its entry's reply
-pub answers_commit : (o : Opening) (d : Doing) (act : Act) (t : ℕ) (call : Call) → d.decided ≡ Some (reply_of t call) → EndsCommit o d act t → IsAnswer o d None act (reply_of t call)
-answers_commit o d act t (GetOf key) e h = (e, h)
-answers_commit o d act t (PutOf key x) e h = (e, h)
-answers_commit o d act t (DeleteOf key) e h = (e, h)
-answers_commit o d act t (SwapOf key s x) e h = (e, h)
-
 -- a call that has committed is refused as linked
 pub lost_commit : (t : ℕ) (call : Call) → lost (Some (reply_of t call)) ≡ why.Linked t
 lost_commit t (GetOf key) = refl
 lost_commit t (PutOf key x) = refl
 lost_commit t (DeleteOf key) = refl
 lost_commit t (SwapOf key e x) = refl
-
-nothing_here : (t : ℕ) (rest : List ℕ) → [] ≡ t ∷ rest → ⊥
-nothing_here t rest e = let q : 0 ≡ suc (length rest) = ap length e in absurd (omega arith)
-
--- behind the first tag of a stock is that of the next put
-pub stock_rest : (s : Setup) (c n t : ℕ) (rest : List ℕ) → stock_at s c n ≡ t ∷ rest → (rest_of (stock_at s c n) ≡ stock_at s c (suc n)) × (n < buffers_total s.pool)
-stock_rest s c n t rest e = go (buffers_total s.pool - n) refl e
-  where
-    first : (b : Bool) (m : ℕ) → m ≡ buffers_total s.pool - suc n → cond b (tag_at s.pool (dealt_number s c n) ∷ dealt_from s c (suc n) m) [] ≡ t ∷ rest
-        → rest_of (cond b (tag_at s.pool (dealt_number s c n) ∷ dealt_from s c (suc n) m) []) ≡ stock_at s c (suc n)
-    first true m em h = ap (dealt_from s c (suc n)) em
-    first false m em h = absurd (nothing_here t rest h)
-
-    go : (m : ℕ) → m ≡ buffers_total s.pool - n → dealt_from s c n m ≡ t ∷ rest → (rest_of (dealt_from s c n m) ≡ stock_at s c (suc n)) × (n < buffers_total s.pool)
-    go zero em h = absurd (nothing_here t rest h)
-    go (suc m) em h = (first (nat_lt (dealt_number s c n + s.pool.slots) (buffers_total s.pool)) m (omega arith) h, omega arith)

@@ -4,20 +4,10 @@ use Rattle.std.specs.Prelude.{Some, slice_get}
 use Rattle.std.proofs.lemmas.List.{reverse-append, reverse-reverse}
 use Rattle.clover_rule.specs.Lists.{nth}
 
-pub nth_get : {A : Type 0} (xs : List A) (i : ℕ) → slice_get xs i ≡ nth xs i
-nth_get [] i = refl
-nth_get (x ∷ xs) zero = refl
-nth_get (x ∷ xs) (suc i) = nth_get xs i
-
 pub nth_here : {A : Type 0} (xs : List A) (i : ℕ) (x : A) → i < length xs → x ≡ get_or xs i x → nth xs i ≡ Some x
 nth_here [] i x below is = absurd (omega arith)
 nth_here (y ∷ ys) zero x below is = ap Some (sym is)
 nth_here (y ∷ ys) (suc i) x below is = nth_here ys i x (omega arith) is
-
-pub nth_got : {A : Type 0} (xs : List A) (i : ℕ) (d x : A) → nth xs i ≡ Some x → get_or xs i d ≡ x
-nth_got [] i d x e = absurd cc
-nth_got (y ∷ ys) zero d x e = cc
-nth_got (y ∷ ys) (suc i) d x e = nth_got ys i d x e
 
 pub set_same : {A : Type 0} (xs : List A) (i : ℕ) (x : A) → nth xs i ≡ Some x → set xs i x ≡ xs
 set_same [] i x e = absurd cc

@@ -12,36 +12,11 @@ use Rattle.clover_rule.specs.Words.{next_of}
 use Rattle.clover_rule.specs.declared.access.Access.{Access}
 use Rattle.clover_rule.specs.declared.access.Act.{Act}
 use Rattle.clover_rule.specs.declared.access.Act.TheVariants.{Load}
-use Rattle.clover_sched.specs.declared.event.Note.{Note}
-use Rattle.clover_sched.specs.declared.event.Note.TheVariants.{Answered}
-use Rattle.clover_sched.specs.Folds.{Doing, nothing, does_of}
-use Rattle.clover_sched.specs.Record.{Record}
 
 -- the tag whose next word the act loaded: that of its buffer at the generation that it showed
 abbrev pub seen_tag : Act → ℕ
 seen_tag (Load (NextOf b) x) = tag_number (record { node = b.node; index = b.index; generation = gen (next_of x) })
 seen_tag act = 0
-
--- the tag at which a call ended: its own where it committed, the tail where it did not; an absent key's tombstone is the tag of the last load
-abbrev pub end_tag : Reply → Act → ℕ
-end_tag (Stored t) act = t
-end_tag (Deleted t) act = t
-end_tag (Found t v) act = t
-end_tag (Differs t) act = t
-end_tag Absent act = seen_tag act
-
--- one answer more, of the task under way
-abbrev pub ended_by : ℕ → Option Task → Note → Option Access → List (List ℕ × ℕ) → List (List ℕ × ℕ)
-ended_by c (Some (ClientTask call written)) (Answered a reply) (Some x) h = if a == c then (key_of call, end_tag reply x.act) ∷ h else h
-ended_by c task note access h = h
-
-abbrev pub ended_from : ℕ → Doing → List (List ℕ × ℕ) → List Record → List (List ℕ × ℕ)
-ended_from c d h [] = h
-ended_from c d h (r ∷ rs) = ended_from c (does_of c d r) (ended_by c d.task r.note r.access h) rs
-
--- the keys of the client's answered calls with the tags at which they ended, the latest first
-abbrev pub ended : ℕ → List Record → List (List ℕ × ℕ)
-ended c rs = ended_from c nothing [] rs
 
 -- the latest call on this key ended at this tag
 abbrev pub IsLatest : List ℕ → ℕ → List (List ℕ × ℕ) → Type 0

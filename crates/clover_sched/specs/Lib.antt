@@ -1,12 +1,8 @@
-pub mod Record
 pub mod Folds
 pub mod Ends
 pub mod Run
-pub mod Lines
 pub mod Text
 pub mod Alone
 pub mod Client
 pub mod Machine
-pub mod Kept
-pub mod Running
 pub mod Stepping

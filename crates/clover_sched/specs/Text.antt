@@ -13,8 +13,6 @@ use Rattle.clover_sched.specs.declared.event.CallRefusal.{CallRefusal}
 use Rattle.clover_sched.specs.declared.event.CallRefusal.TheVariants.{Unreached, Linked, Behind, TooLong}
 use Rattle.clover_sched.specs.declared.event.Note.{Note}
 use Rattle.clover_sched.specs.declared.event.Note.TheVariants.{Quiet, Answered, Refused, Busy, Missing}
-use Rattle.clover_sched.specs.Folds.{entries_in, made_after}
-use Rattle.clover_sched.specs.Record.{Record}
 
 abbrev pub actor_text : Actor → List ℕ
 actor_text (Client n) = decimal n
@@ -69,13 +67,6 @@ abbrev pub traced : Bool → Option Access → List ℕ
 traced true (Some x) = access_line x
 traced trace o = []
 
-abbrev pub said : Bool → Record → List ℕ
-said trace r = traced trace r.access ++ note_line r.note
-
 -- what stands behind the last record's lines
 abbrev pub ending : List Entry → ℕ → List ℕ
 ending h n = codes "history\n" ++ (flat_map entry_line h ++ (codes "accesses " ++ (decimal n ++ codes "\nend\n")))
-
--- the text of some records, behind so many accesses before them
-abbrev pub text : Bool → ℕ → List Record → List ℕ
-text trace made rs = flat_map (said trace) rs ++ ending (entries_in rs) (made_after made rs)

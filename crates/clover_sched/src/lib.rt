@@ -1,17 +1,9 @@
-//! The machine of a script's events: every client's calls, one access at a time, in any order that a script
-//! names; what a run of such events is, and its printed text.
+//! What the runs of a script's events share: the events themselves, why a client's call is refused, what a call that
+//! runs alone comes to, and the printed text of accesses and of a run's end.
 #![tactic(auto)]
 
-mod client;
 mod event;
-mod machine;
-mod runner;
-#[cfg(test)]
-mod tests;
 mod text;
 
-pub use client::ClientState;
 pub use event::{CallRefusal, Event, Note};
-pub use machine::Machine;
-pub use runner::{Advance, Work, begin_line, work_on};
 pub use text::{push_access, push_ending, push_note};

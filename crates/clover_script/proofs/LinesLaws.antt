@@ -1,19 +1,14 @@
 -- scripts are read in one way
-use Rattle.std.proofs.Common.{◌≡◌, ◌<◌, ◌≤◌, ◌+◌, ◌⊎◌, ℕ, List, [], ◌∷◌, ◌++◌, length, refl, sym, ap, subst, ◌∙◌, inl, inr, arith, append_assoc}
+use Rattle.std.proofs.Common.{◌≡◌, ◌<◌, ◌⊎◌, ℕ, List, [], ◌∷◌, ◌++◌, length, refl, sym, ap, subst, ◌∙◌, inl, inr, arith, append_assoc}
 use Rattle.std.proofs.lemmas.List.Elements.{All-head, All-tail}
 use Rattle.std.proofs.lemmas.Bool.Decides.{leb_tells}
-use Rattle.std.proofs.lemmas.Grind.{flat_map-append}
-use Rattle.std.specs.Prelude.{All, flat_map}
+use Rattle.std.specs.Prelude.{All}
 use Rattle.clover_words.specs.declared.setup.Setup.{Setup}
-use Rattle.clover_words.specs.Preset.{buffers_total}
-use Rattle.clover_map.specs.declared.call.Call.{Call}
 use Rattle.clover_script.specs.declared.line.PoolLine.{PoolLine}
 use Rattle.clover_script.specs.Line.{pool_line, numbers_of, IsPoolLine, HasBadNumbers, IsIgnored, Spoken, IsSpoken, line_text}
-use Rattle.clover_script.specs.Naming.{NamesKeys}
-use Rattle.clover_script.specs.Lines.{calls_in, taken_by, taken, Supplies, Say, Opens, Before, unopened, begun, IsBefore, IsLinesOf, IsClientLine, IsUnbuiltLine, without_shape, too_early, bad_opening, second_opening, too_many_keys, too_many_taken, IsFirstUnbuiltLine, IsRefusedLine}
+use Rattle.clover_script.specs.Lines.{Say, Opens, Before, unopened, begun, IsBefore, IsLinesOf, IsClientLine, IsUnbuiltLine, without_shape, too_early, bad_opening, second_opening, IsFirstUnbuiltLine, IsRefusedLine}
 use Rattle.clover_script.proofs.SpokenLemmas.{one_spoken, no_pool, not_ignored, pool_stays}
-use Rattle.clover_script.proofs.PoolLineLemmas.{one_pool, are_numbers, none_bad, dealt_also}
-use Rattle.clover_script.proofs.NamingLemmas.{one_names, names_split, key_next}
+use Rattle.clover_script.proofs.PoolLineLemmas.{one_pool, are_numbers, none_bad}
 
 not_over : (line : List ℕ) → IsClientLine line → IsIgnored line → ⊥
 not_over line (s, is, e) over = not_ignored s (subst IsIgnored e over)
@@ -82,48 +77,23 @@ over_built before line over (without_shape h) = h.over over
 over_built unopened line over (too_early h) = not_over line h over
 over_built unopened line over (bad_opening h) = pool_not_over line (h.0, h.1, h.2) over
 over_built unopened line over (second_opening h) = h
-over_built unopened line over (too_many_keys h) = h
-over_built unopened line over (too_many_taken h) = h
-over_built (begun s said keys) line over (too_early h) = h
-over_built (begun s said keys) line over (bad_opening h) = h
-over_built (begun s said keys) line over (second_opening h) = pool_not_over line h over
-over_built (begun s said keys) line over (too_many_keys h) = not_over line (h.0, h.1, h.2) over
-over_built (begun s said keys) line over (too_many_taken h) = not_over line (h.0, h.1, h.2) over
+over_built (begun s said) line over (too_early h) = h
+over_built (begun s said) line over (bad_opening h) = h
+over_built (begun s said) line over (second_opening h) = pool_not_over line h over
 
 -- nor is the pool line that opens a script
-opening_built : (s : Setup) (line : List ℕ) → s.pool.slots ≤ buffers_total s.pool → line ≡ pool_line (numbers_of s) → IsUnbuiltLine unopened line → ⊥
-opening_built s line enough e (without_shape h) = h.pool (numbers_of s, are_numbers s, e)
-opening_built s line enough e (too_early h) = not_pool line h (numbers_of s, are_numbers s, e)
-opening_built s line enough e (bad_opening (n, fits, f, bad)) = none_bad s enough (subst HasBadNumbers (one_pool n (numbers_of s) fits (are_numbers s) (sym f ∙ e)) bad)
-opening_built s line enough e (second_opening h) = h
-opening_built s line enough e (too_many_keys h) = h
-opening_built s line enough e (too_many_taken h) = h
+opening_built : (s : Setup) (line : List ℕ) → line ≡ pool_line (numbers_of s) → IsUnbuiltLine unopened line → ⊥
+opening_built s line e (without_shape h) = h.pool (numbers_of s, are_numbers s, e)
+opening_built s line e (too_early h) = not_pool line h (numbers_of s, are_numbers s, e)
+opening_built s line e (bad_opening (n, fits, f, bad)) = none_bad s (subst HasBadNumbers (one_pool n (numbers_of s) fits (are_numbers s) (sym f ∙ e)) bad)
+opening_built s line e (second_opening h) = h
 
-pub taken_append : (c : ℕ) (xs ys : List Spoken) → taken c (xs ++ ys) ≡ taken c xs + taken c ys
-taken_append c [] ys = omega arith
-taken_append c (x ∷ xs) ys = let r = taken_append c xs ys in omega (arith, r)
-
--- nor a line behind which what the lines say goes on
-said_built : (s t : Setup) (said other rest : List Spoken) (keys names : List (List ℕ)) (line : List ℕ) (u : Spoken) → numbers_of s ≡ numbers_of t
-    → Supplies s said keys → Supplies t other names → IsSpoken u → line ≡ line_text u → said ≡ other ++ u ∷ rest → IsUnbuiltLine (begun t other names) line → ⊥
-said_built s t said other rest keys names line u same p q is e f (without_shape h) = h.said (u, is, e)
-said_built s t said other rest keys names line u same p q is e f (too_early h) = h
-said_built s t said other rest keys names line u same p q is e f (bad_opening h) = h
-said_built s t said other rest keys names line u same p q is e f (second_opening h) = not_pool line (u, is, e) h
-said_built s t said other rest keys names line u same p q is e f (too_many_keys (v, is', e', call, asks, fresh, full)) =
-    let one = one_spoken v u is' is (sym e' ∙ e) in
-    let now : calls_in u ≡ call ∷ [] = subst (λ (w : Spoken). calls_in w ≡ call ∷ []) one asks in
-    let all : flat_map calls_in said ≡ flat_map calls_in other ++ (call ∷ flat_map calls_in rest) =
-    ap (flat_map calls_in) f ∙ flat_map-append calls_in other (u ∷ rest) ∙ ap (λ (l : List Call). flat_map calls_in other ++ (l ++ flat_map calls_in rest)) now in
-    let parts = names_split [] (flat_map calls_in other) (call ∷ flat_map calls_in rest) keys (subst (λ (l : List Call). NamesKeys [] l keys) all p.named) in
-    let between : parts.0 ≡ names = one_names [] (flat_map calls_in other) parts.0 names parts.1 q.named in
-    let next : NamesKeys names (call ∷ flat_map calls_in rest) keys = subst (λ (l : List (List ℕ)). NamesKeys l (call ∷ flat_map calls_in rest) keys) between parts.2 in
-    key_next names call (flat_map calls_in rest) keys s.pool.slots next fresh p.slots (subst (λ (n : PoolLine). n.slots ≤ length names) (sym same) full)
-said_built s t said other rest keys names line u same p q is e f (too_many_taken (v, is', e', c, takes_one, none)) =
-    let one = one_spoken v u is' is (sym e' ∙ e) in
-    let now : taken_by c u ≡ 1 = subst (λ (w : Spoken). taken_by c w ≡ 1) one takes_one in
-    let all : taken c said ≡ taken c other + (taken_by c u + taken c rest) = ap (taken c) f ∙ taken_append c other (u ∷ rest) in
-    none (dealt_also s t c (taken c other) same (p.stock c (taken c other) (omega (arith, now, all))))
+-- nor a line behind it that says something
+said_built : (t : Setup) (other : List Spoken) (line : List ℕ) (u : Spoken) → IsSpoken u → line ≡ line_text u → IsUnbuiltLine (begun t other) line → ⊥
+said_built t other line u is e (without_shape h) = h.said (u, is, e)
+said_built t other line u is e (too_early h) = h
+said_built t other line u is e (bad_opening h) = h
+said_built t other line u is e (second_opening h) = not_pool line (u, is, e) h
 
 -- what stands behind the opening
 opened_rest : (s t : Setup) (said other : List Spoken) (xs : List (List ℕ)) (line : List ℕ) (more : List (List ℕ)) (o : Opens (xs ++ line ∷ more) s said) (r : Opens xs t other)
@@ -134,27 +104,23 @@ opened_rest s t said other xs line more o r =
     let same = same_opening r.over o.over (pool_line (numbers_of t)) (pool_line (numbers_of s)) (r.rest ++ line ∷ more) o.rest r.ignored o.ignored (its_pool t) (its_pool s) e in
     (one_pool (numbers_of s) (numbers_of t) (are_numbers s) (are_numbers t) (sym same.0), sym same.1)
 
-goes_on : (s t : Setup) (said other last : List Spoken) (keys names : List (List ℕ)) (line : List ℕ) (more : List (List ℕ)) → numbers_of s ≡ numbers_of t
-    → Supplies s said keys → Supplies t other names → said ≡ other ++ last → Say (line ∷ more) last → IsUnbuiltLine (begun t other names) line → ⊥
-goes_on s t said other last keys names line more same p q all (inl (over, _)) bad = over_built (begun t other names) line over bad
-goes_on s t said other last keys names line more same p q all (inr (u, rest, is, e, f, _)) bad =
-    said_built s t said other rest keys names line u same p q is e (all ∙ ap (λ (l : List Spoken). other ++ l) f) bad
+goes_on : (t : Setup) (other last : List Spoken) (line : List ℕ) (more : List (List ℕ)) → Say (line ∷ more) last → IsUnbuiltLine (begun t other) line → ⊥
+goes_on t other last line more (inl (over, _)) bad = over_built (begun t other) line over bad
+goes_on t other last line more (inr (u, rest, is, e, f, _)) bad = said_built t other line u is e bad
 
 -- a line behind which a beginning goes on is not unbuilt there
 built_line : (xs : List (List ℕ)) (line : List ℕ) (more : List (List ℕ)) (longer before : Before) → IsBefore (xs ++ line ∷ more) longer → IsBefore xs before
     → IsUnbuiltLine before line → ⊥
 built_line xs line more unopened before h g bad = over_built before line (all_at IsIgnored xs line more h) bad
-built_line xs line more (begun s said keys) unopened h g bad =
-    elim (over_or_opening xs h.0.over line (pool_line (numbers_of s)) more h.0.rest g h.0.ignored (its_pool s) h.0.parts) [
+built_line xs line more (begun s said) unopened h g bad =
+    elim (over_or_opening xs h.over line (pool_line (numbers_of s)) more h.rest g h.ignored (its_pool s) h.parts) [
       | inl over ↦ over_built unopened line over bad
-      | inr is ↦ opening_built s line h.0.enough is bad
+      | inr is ↦ opening_built s line is bad
     ]
-built_line xs line more (begun s said keys) (begun t other names) h g bad =
-    let on = opened_rest s t said other xs line more h.0 g.0 in
-    let split = say_split g.0.rest (line ∷ more) said (subst (λ (l : List (List ℕ)). Say l said) on.1 h.0.say) in
-    let own : split.0 ≡ other = one_say g.0.rest split.0 other split.3 g.0.say in
-    let all : said ≡ other ++ split.1 = split.2 ∙ ap (λ (l : List Spoken). l ++ split.1) own in
-    goes_on s t said other split.1 keys names line more on.0 h.1 g.1 all split.4 bad
+built_line xs line more (begun s said) (begun t other) h g bad =
+    let on = opened_rest s t said other xs line more h g in
+    let split = say_split g.rest (line ∷ more) said (subst (λ (l : List (List ℕ)). Say l said) on.1 h.say) in
+    goes_on t other split.1 line more split.4 bad
 
 -- one list ends where another goes on
 longer_front : {A : Type 0} (xs ys : List A) (x y : A) (ms ns : List A) → xs ++ x ∷ ms ≡ ys ++ y ∷ ns → length xs < length ys → (zs : List A) × (ys ≡ xs ++ x ∷ zs)
@@ -184,18 +150,16 @@ one_refused_line text n m (inr a) (inl b) = absurd (built_line b.lines b.line b.
 one_refused_line text n m (inr a) (inr b) = a.1 ∙ sym b.1
 
 -- and then it is no script
-pub lines_not_refused : (text : List ℕ) (s : Setup) (said : List Spoken) (keys : List (List ℕ)) (n : ℕ) → IsLinesOf text s said keys → IsRefusedLine text n → ⊥
-lines_not_refused text s said keys n script (inl a) =
-    built_line a.lines a.line a.more (begun s said keys) a.before (subst (λ (l : List (List ℕ)). IsBefore l (begun s said keys)) a.parts script) a.so_far a.bad
-lines_not_refused text s said keys n script (inr none) =
-    let over = all_at IsIgnored script.0.over (pool_line (numbers_of s)) script.0.rest (subst (All IsIgnored) script.0.parts none.0) in
+pub lines_not_refused : (text : List ℕ) (s : Setup) (said : List Spoken) (n : ℕ) → IsLinesOf text s said → IsRefusedLine text n → ⊥
+lines_not_refused text s said n script (inl a) =
+    built_line a.lines a.line a.more (begun s said) a.before (subst (λ (l : List (List ℕ)). IsBefore l (begun s said)) a.parts script) a.so_far a.bad
+lines_not_refused text s said n script (inr none) =
+    let over = all_at IsIgnored script.over (pool_line (numbers_of s)) script.rest (subst (All IsIgnored) script.parts none.0) in
     pool_not_over (pool_line (numbers_of s)) (its_pool s) over
 
 -- a script is read in one way
-pub one_saying : (text : List ℕ) (s t : Setup) (said other : List Spoken) (keys names : List (List ℕ)) → IsLinesOf text s said keys → IsLinesOf text t other names
-    → (numbers_of s ≡ numbers_of t) × (said ≡ other) × (keys ≡ names)
-one_saying text s t said other keys names a b =
-    let same = same_opening a.0.over b.0.over (pool_line (numbers_of s)) (pool_line (numbers_of t)) a.0.rest b.0.rest a.0.ignored b.0.ignored (its_pool s) (its_pool t) (sym a.0.parts ∙ b.0.parts) in
-    let told = one_say b.0.rest said other (subst (λ (l : List (List ℕ)). Say l said) same.1 a.0.say) b.0.say in
-    let named : NamesKeys [] (flat_map calls_in other) keys = subst (λ (l : List Spoken). NamesKeys [] (flat_map calls_in l) keys) told a.1.named in
-    (one_pool (numbers_of s) (numbers_of t) (are_numbers s) (are_numbers t) same.0, told, one_names [] (flat_map calls_in other) keys names named b.1.named)
+pub one_saying : (text : List ℕ) (s t : Setup) (said other : List Spoken) → IsLinesOf text s said → IsLinesOf text t other → (numbers_of s ≡ numbers_of t) × (said ≡ other)
+one_saying text s t said other a b =
+    let same = same_opening a.over b.over (pool_line (numbers_of s)) (pool_line (numbers_of t)) a.rest b.rest a.ignored b.ignored (its_pool s) (its_pool t) (sym a.parts ∙ b.parts) in
+    let told = one_say b.rest said other (subst (λ (l : List (List ℕ)). Say l said) same.1 a.say) b.say in
+    (one_pool (numbers_of s) (numbers_of t) (are_numbers s) (are_numbers t) same.0, told)

@@ -5,7 +5,6 @@ use Rattle.std.proofs.lemmas.Bool.Decides.{nat_tests}
 use Rattle.std.proofs.lemmas.Nat.{mul-le}
 use Rattle.std.specs.Prelude.{decimal, codes, IsSome, nat_le}
 use Rattle.clover_words.specs.declared.setup.Setup.{Setup}
-use Rattle.clover_words.specs.Preset.{HasDealt, buffers_total}
 use Rattle.clover_words.specs.Range.{first_fault, first_setup_fault, from_one}
 use Rattle.clover_script.specs.declared.line.PoolLine.{PoolLine}
 use Rattle.clover_script.specs.Line.{pool_line, numbers_of, AreNumbers, HasBadNumbers}
@@ -155,16 +154,6 @@ no_setup_fault s bad =
     absurd (false≢true (subst IsSome none bad))
 
 -- and none of them is bad
-pub none_bad : (s : Setup) → s.pool.slots ≤ buffers_total s.pool → HasBadNumbers (numbers_of s) → ⊥
-none_bad s enough (inl bad) = no_pool_fault s bad
-none_bad s enough (inr (inl bad)) = no_setup_fault s bad
-none_bad s enough (inr (inr bad)) = omega arith
-
--- a client's stock is one of the numbers alone
-abbrev DealtBy : ℕ → ℕ → PoolLine → Type 0
-DealtBy c put n = (c ≤ n.clients) × (put * n.clients + (c - 1) + n.slots < n.nodes * n.buffers)
-
-pub dealt_also : (s t : Setup) (c put : ℕ) → numbers_of s ≡ numbers_of t → HasDealt s c put → HasDealt t c put
-dealt_also s t c put same h =
-    let d = subst (DealtBy c put) same (h.client, h.number) in
-    record { client = d.0; number = d.1 }
+pub none_bad : (s : Setup) → HasBadNumbers (numbers_of s) → ⊥
+none_bad s (inl bad) = no_pool_fault s bad
+none_bad s (inr bad) = no_setup_fault s bad

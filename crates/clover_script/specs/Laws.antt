@@ -17,14 +17,13 @@ OneKept = (text : List ℕ) (line other : Line) → IsLineOf text line → IsLin
 abbrev pub LinesAreApart : Type 0
 LinesAreApart = (text : List ℕ) → ((line : Line) → IsLineOf text line → (IsPoolLine text → ⊥) × (IsIgnored text → ⊥)) × (IsPoolLine text → IsIgnored text → ⊥)
 
--- A script has one setup, says one thing and names one list of keys.
+-- A script has one setup and says one thing.
 abbrev pub OneSaying : Type 0
-OneSaying = (text : List ℕ) (s t : Setup) (said other : List Spoken) (keys names : List (List ℕ))
-    → IsLinesOf text s said keys → IsLinesOf text t other names → (numbers_of s ≡ numbers_of t) × (said ≡ other) × (keys ≡ names)
+OneSaying = (text : List ℕ) (s t : Setup) (said other : List Spoken) → IsLinesOf text s said → IsLinesOf text t other → (numbers_of s ≡ numbers_of t) × (said ≡ other)
 
 -- No script is refused.
 abbrev pub NoLinesAreRefused : Type 0
-NoLinesAreRefused = (text : List ℕ) (s : Setup) (said : List Spoken) (keys : List (List ℕ)) (n : ℕ) → IsLinesOf text s said keys → IsRefusedLine text n → ⊥
+NoLinesAreRefused = (text : List ℕ) (s : Setup) (said : List Spoken) (n : ℕ) → IsLinesOf text s said → IsRefusedLine text n → ⊥
 
 -- A text that is refused is refused at one line.
 abbrev pub OneRefusedLine : Type 0

@@ -3,9 +3,6 @@ pub mod Form
 pub mod Laws
 pub mod Line
 pub mod Lines
-pub mod Naming
-pub mod Slots
 pub mod Spelling
 pub mod Split
-pub mod Tally
 pub mod Text

@@ -1,5 +1,5 @@
 -- the lines of a script: the pool line, and the lines of clients
-use Rattle.std.specs.Prelude.{◌≡◌, ℕ, ◌*◌, ◌^◌, ◌<◌, ◌≤◌, ◌==◌, ◌⊎◌, if◌then◌else◌, List, [], ◌∷◌, ◌++◌, length, take, decimal, codes, IsSome}
+use Rattle.std.specs.Prelude.{◌≡◌, ℕ, ◌^◌, ◌<◌, ◌≤◌, ◌==◌, ◌⊎◌, if◌then◌else◌, List, [], ◌∷◌, ◌++◌, length, take, decimal, codes, IsSome}
 use Rattle.clover_words.specs.declared.setup.Setup.{Setup}
 use Rattle.clover_words.specs.Pack.{AreBytes}
 use Rattle.clover_words.specs.Range.{first_fault, first_setup_fault}
@@ -56,10 +56,10 @@ numbers_of s = record {
 abbrev pub IsPoolLine : List ℕ → Type 0
 IsPoolLine line = (n : PoolLine) × AreNumbers n × (line ≡ pool_line n)
 
--- a number of the pool line is out of range, or there are fewer buffers than slots
+-- a number of the pool line is out of range
 abbrev pub HasBadNumbers : PoolLine → Type 0
 HasBadNumbers n =
-    IsSome (first_fault n.nodes n.buffers n.slots n.words n.wear) ⊎ (IsSome (first_setup_fault n.clients n.batch) ⊎ (n.nodes * n.buffers < n.slots))
+    IsSome (first_fault n.nodes n.buffers n.slots n.words n.wear) ⊎ IsSome (first_setup_fault n.clients n.batch)
 
 -- the text is a pool line that opens no script
 abbrev pub IsBadPool : List ℕ → Type 0

@@ -1,57 +1,31 @@
 // Checking a whole script in one pass, line by line: what it sets up, or the first line that is not built.
-// Lines that are passed over count, and say nothing. Nothing is kept of a line but what the tally counts, and no memory
-// is taken but for the keys.
-ghost use Rattle.std.specs.Prelude.{◌≡◌, ◌+◌, ◌≤◌, ◌++◌, ◌∷◌, ℕ, List, length, All, IfOk, IfSome, IfNone, IsErrOf};
-ghost use Rattle.clover_words.specs.Preset.{buffers_total};
-ghost use Rattle.clover_script.specs.Line.{lines_of, numbers_of, pool_line, IsIgnored, Spoken};
-ghost use Rattle.clover_script.specs.Lines.{IsLinesOf, IsRefusedLine, IsUnbuiltLine, unopened};
+// Lines that are passed over count, and say nothing. Nothing is kept of a line, and no memory is taken.
+ghost use Rattle.std.specs.Prelude.{◌≡◌, ◌+◌, ◌≤◌, ◌++◌, ◌∷◌, ℕ, List, length, false, All, IsTrue, IfOk, IfErr, IfSome, IfNone};
+ghost use Rattle.clover_words.specs.declared.setup.Setup.{Setup as Numbers};
+ghost use Rattle.clover_script.specs.Line.{lines_of, numbers_of, pool_line, IsIgnored, Spoken, IsSpoken, line_text};
+ghost use Rattle.clover_script.specs.Lines.{IsLinesOf, IsRefusedLine, IsUnbuiltLine, IsBuilt, unopened, begun};
 
-use crate::keys::Names;
 use crate::line::LineFault;
 use crate::pool_line::{pool_line_of, setup_from};
 use crate::reader::{is_ignored, spelled_line};
 use crate::split::first_line;
-use crate::tally::Tally;
-use clover_list::OutOfMemory;
 use clover_words::Setup;
-use std::alloc::Global;
 
-/// What a script sets up before its first event: the pool with its clients, and the keys that it
-/// names, each with its slot.
-#[derive(Drop)]
-pub struct Outline {
-    pub setup: Setup,
-    pub names: Names,
-}
-
-/// Why a text is no script.
+/// The first line of a text, counted from 1, that is not built. In a text without a pool line whose lines are all passed
+/// over it is the line behind the last.
 #[derive(Clone, Copy, Debug, PartialEq, Eq)]
-pub enum ScriptFault {
-    /// This line, the first counted as 1, is the first that is not built. In a text without a pool line
-    /// whose lines are all passed over it is the line behind the last.
-    BadLine { line: u64, fault: LineFault },
-    /// The allocator had no memory left.
-    OutOfMemory,
+pub struct BadLine {
+    pub line: u64,
+    pub fault: LineFault,
 }
 
-impl From<OutOfMemory> for ScriptFault {
-    ghost use Rattle.std.specs.Prelude.{◌≡◌};
-    ghost use Rattle.clover_script.specs.declared.check.ScriptFault.TheVariants.{OutOfMemory};
-
-    ghost from_gives = { λ _ fault. fault ≡ OutOfMemory };
-
-    fn from(_: OutOfMemory) -> Self {
-        ScriptFault::OutOfMemory
-    }
-}
-
-/// Reads a whole script, and says what it sets up.
+/// Reads a whole script, and says what it sets up. It takes no memory.
 ///
-/// `BadLine` names the first line that is not built. `OutOfMemory` for want of memory alone.
-pub fn check_lines(alloc: Global, text: &[u8]) -> Result<Outline, ScriptFault>
+/// `BadLine` names the first line that is not built.
+pub fn check_lines(text: &[u8]) -> Result<Setup, BadLine>
     requires { length text.now ≤ 16777216 }
-    ensures lines { IfOk result (λ o. (said : List Spoken) × IsLinesOf text.now o.setup said o.names) }
-    ensures bad { (n : ℕ) → IsErrOf result (ScriptFault.BadLine n LineFault.Unbuilt) → IsRefusedLine text.now n }
+    ensures lines { IfOk result (λ s. (said : List Spoken) × IsLinesOf text.now s said) }
+    ensures bad { IfErr result (λ bad. (bad.fault ≡ LineFault.Unbuilt) × IsRefusedLine text.now bad.line) }
 {
     let (over, rest) = passed_over(text);
     if rest.is_empty() {
@@ -61,24 +35,31 @@ pub fn check_lines(alloc: Global, text: &[u8]) -> Result<Outline, ScriptFault>
     let Some(setup) = opening_of(line) else {
         return Err(unbuilt(over + 1));
     };
-    let mut tally = Tally::begin(alloc, setup);
     let mut lines = over + 1;
     while !rest.is_empty() {
         let (line, after) = first_line(rest);
-        if !tally.accept(line)? {
+        if !is_built(line) {
             return Err(unbuilt(lines + 1));
         }
         lines += 1;
         rest = after;
     }
-    Ok(tally.outline())
+    Ok(setup)
+}
+
+/// Whether a line behind the pool line is built: it is passed over, or asks something of a client.
+fn is_built(line: &[u8]) -> bool
+    ensures yes { IsTrue result → IsBuilt line.now }
+    ensures no { result ≡ false → (s : Numbers) (said : List Spoken) → IsUnbuiltLine (begun s said) line.now }
+{
+    is_ignored(line) || (pool_line_of(line).is_none() && spelled_line(line).is_some())
 }
 
 /// The fault of a line that is not built.
-fn unbuilt(line: u64) -> ScriptFault
-    ensures { result ≡ ScriptFault.BadLine line LineFault.Unbuilt }
+fn unbuilt(line: u64) -> BadLine
+    ensures { (result.line ≡ line) × (result.fault ≡ LineFault.Unbuilt) }
 {
-    ScriptFault::BadLine {
+    BadLine {
         line,
         fault: LineFault::Unbuilt,
     }
@@ -107,7 +88,7 @@ fn passed_over(text: &[u8]) -> (u64, &[u8])
 /// The setup of the first line that is not passed over. None exactly where that line is not built.
 fn opening_of(line: &[u8]) -> Option<Setup>
     requires { IsIgnored line.now → ⊥ }
-    ensures found { IfSome result (λ s. (line.now ≡ pool_line (numbers_of s)) × (s.pool.slots ≤ buffers_total s.pool)) }
+    ensures found { IfSome result (λ s. line.now ≡ pool_line (numbers_of s)) }
     ensures none { IfNone result (IsUnbuiltLine unopened line.now) }
 {
     if let Some(numbers) = pool_line_of(line) {

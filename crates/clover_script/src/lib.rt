@@ -4,7 +4,6 @@
 
 mod check;
 mod coded;
-mod keys;
 mod laws;
 mod line;
 mod number;
@@ -13,7 +12,6 @@ mod pool_line;
 mod reader;
 mod spelled;
 mod split;
-mod tally;
 mod task;
 #[cfg(test)]
 mod tests;
@@ -21,9 +19,8 @@ mod text;
 mod told;
 mod word_name;
 
-pub use check::{Outline, ScriptFault, check_lines};
+pub use check::{BadLine, check_lines};
 use clover_list::ItemList;
-pub use keys::Names;
 pub use laws::{
     a_text_has_one_line, lines_are_apart, lines_are_refused_at_one, lines_have_one_reading,
     no_lines_are_refused,

@@ -1,6 +1,5 @@
 // The pool line, which opens a script: its numbers, and the setup that they make.
-ghost use Rattle.std.specs.Prelude.{◌≡◌, ◌≤◌, IfSome, IfNone, IsSome};
-ghost use Rattle.clover_words.specs.Preset.{buffers_total};
+ghost use Rattle.std.specs.Prelude.{◌≡◌, IfSome, IfNone, IsSome};
 ghost use Rattle.clover_words.specs.Range.{first_fault, HasNumbers};
 ghost use Rattle.clover_script.specs.Line.{AreNumbers, pool_line, numbers_of, IsPoolLine, HasBadNumbers};
 
@@ -34,18 +33,13 @@ pub fn pool_line_of(line: &[u8]) -> Option<PoolLine>
     })
 }
 
-/// The setup of a pool line's numbers. None exactly where one is out of its range, or where there are
-/// fewer buffers than slots.
+/// The setup of a pool line's numbers. None exactly where one is out of its range.
 pub fn setup_from(numbers: PoolLine) -> Option<Setup>
-    ensures found { IfSome result (λ s. (numbers_of s ≡ numbers) × (s.pool.slots ≤ buffers_total s.pool)) }
+    ensures found { IfSome result (λ s. numbers_of s ≡ numbers) }
     ensures none { IfNone result (HasBadNumbers numbers) }
 {
     let pool = pool_from(numbers)?;
-    let setup = Setup::check(pool, numbers.clients, numbers.batch).ok()?;
-    if u64::from(pool.slots) > pool.total() {
-        return None;
-    }
-    Some(setup)
+    Setup::check(pool, numbers.clients, numbers.batch).ok()
 }
 
 fn pool_from(numbers: PoolLine) -> Option<Pool>

@@ -1,9 +1,7 @@
 // What a line says, with its value still as the line spells it. The first reading of a script makes no more of a line,
 // and takes no memory for it; the second reading decodes the value.
-ghost use Rattle.std.specs.Prelude.{◌≡◌, ℕ, List, false, IsTrue, IfOk};
-ghost use Rattle.clover_map.specs.History.{key_of};
+ghost use Rattle.std.specs.Prelude.{◌≡◌, ℕ, List, IfOk};
 ghost use Rattle.clover_script.specs.Line.{cut_value, task_of, kept_line};
-ghost use Rattle.clover_script.specs.Lines.{takes};
 ghost use Rattle.clover_script.specs.Spelling.{value_with, IsValueText, call_said, HasBytes, said_by, HasLineBytes};
 
 use crate::coded::decode_into;
@@ -94,29 +92,6 @@ impl CallText<'_> {
             ),
         };
         Ok(Task::Client { call, written })
-    }
-
-    /// Whether the call takes a buffer of its client's stock.
-    pub fn takes_buffer(&self) -> bool
-        ensures yes { IsTrue result → (bytes : List ℕ) → takes (call_said self.now bytes) ≡ 1 }
-        ensures no { result ≡ false → (bytes : List ℕ) → takes (call_said self.now bytes) ≡ 0 }
-    {
-        match self {
-            CallText::Get { .. } => false,
-            CallText::Put { .. } | CallText::Delete { .. } | CallText::Swap { .. } => true,
-        }
-    }
-
-    /// The key that the call names.
-    pub fn into_key(self) -> Key
-        ensures { (bytes : List ℕ) → result ≡ key_of (call_said self.entry bytes) }
-    {
-        match self {
-            CallText::Get { key }
-            | CallText::Put { key, .. }
-            | CallText::Delete { key }
-            | CallText::Swap { key, .. } => key,
-        }
     }
 }
 

@@ -1,26 +1,25 @@
 // Whole scripts: what they set up, and which of their lines is refused.
 
-use crate::{LineFault, Outline, ScriptFault, check_lines};
-use clover_map::Key;
+use crate::{BadLine, LineFault, check_lines};
+use clover_words::Setup;
 use std::alloc::Global;
 use std::process::Abort;
 use std::test::Fail;
 
 /// The line that is refused, or 0 where the text is a script.
-fn bad_line(checked: Result<Outline, ScriptFault>) -> Result<u64, Fail> {
+fn bad_line(checked: Result<Setup, BadLine>) -> u64 {
     match checked {
-        Ok(_) => Ok(0),
+        Ok(_) => 0,
         Err(
-            ScriptFault::BadLine {
+            BadLine {
                 line,
                 fault: LineFault::Unbuilt,
             },
-        ) => Ok(line),
-        Err(ScriptFault::OutOfMemory) => Err("out of memory".into()),
+        ) => line,
     }
 }
 
-/// Eight buffers, two slots and two clients: each client has three buffers.
+/// Eight buffers, two slots and two clients.
 const POOL: &[u8] = b"pool nodes=1 buffers=8 slots=2 words=2 wear=3 clients=2 batch=2\n";
 
 /// Asserts which line of these lines behind the pool line is refused, where 0 is none.
@@ -28,14 +27,14 @@ fn assert_refused(rt: &impl Abort, alloc: Global, others: &[u8], want: u64) -> R
     let mut text = POOL.to_vec(alloc)?;
     text.extend_from_slice(others)?;
     assert!(rt; text.len() <= 16_777_216);
-    assert_eq!(rt; bad_line(check_lines(alloc, &text))?, want);
+    assert_eq!(rt; bad_line(check_lines(&text)), want);
     Ok(())
 }
 
 #[test]
 fn names_the_first_bad_line(rt: HostRuntime) -> Result<(), Fail> {
     let alloc = rt.alloc();
-    let cases: [(&[u8], u64); 19] = [
+    let cases: [(&[u8], u64); 16] = [
         (b"", 0),
         (
             b"\n# a\ncall 1 put a =1\nbegin 2 get b\nstep 2 3\nrefuse 2\nfinish 2\n#",
@@ -60,24 +59,13 @@ fn names_the_first_bad_line(rt: HostRuntime) -> Result<(), Fail> {
             b"# a\npool nodes=1 buffers=8 slots=2 words=2 wear=3 clients=2 batch=2",
             3,
         ),
-        // One key more than there are slots.
-        (b"call 1 get a\n\nbegin 2 get b\ncall 1 get c\n", 5),
-        (
-            b"call 1 get a\ncall 2 get b\ncall 1 get b\ncall 2 get a\n",
-            0,
-        ),
-        // No buffer left.
+        // More keys than slots, more puts than buffers, and a client that the setup does not have.
+        (b"call 1 get a\n\nbegin 2 get b\ncall 1 get c\n", 0),
         (
             b"call 1 put a =1\ncall 1 delete a\nbegin 1 swap a 0.0.0 =1\ncall 1 put a =1\n",
-            5,
-        ),
-        (
-            b"call 1 put a =1\ncall 1 delete a\ncall 2 put a =1\ncall 1 delete a\ncall 2 delete a\n",
             0,
         ),
-        // A client that the setup does not have has no buffer.
-        (b"call 16 get a\nfinish 3\n", 0),
-        (b"begin 3 delete a\n", 2),
+        (b"call 16 get a\nfinish 3\nbegin 3 delete a\n", 0),
     ];
     for (others, want) in cases {
         assert_refused(&rt, alloc, others, want)?;
@@ -98,14 +86,15 @@ fn refuses_what_opens_no_script(rt: HostRuntime) -> Result<(), Fail> {
         (b"\n#\nfinish 1\n", 3),
         // A line of no form before it.
         (b"# a\njump 1\n", 2),
-        // A number out of range, and fewer buffers than slots.
+        // A number out of range.
         (
             b"\npool nodes=17 buffers=8 slots=2 words=2 wear=3 clients=2 batch=2",
             2,
         ),
+        // Fewer buffers than slots are enough.
         (
             b"\n\npool nodes=1 buffers=1 slots=2 words=2 wear=3 clients=1 batch=2\njump 1\n",
-            3,
+            4,
         ),
         (
             b"# a\n\npool nodes=1 buffers=8 slots=2 words=2 wear=3 clients=2 batch=2",
@@ -117,7 +106,7 @@ fn refuses_what_opens_no_script(rt: HostRuntime) -> Result<(), Fail> {
         ),
     ];
     for (text, want) in cases {
-        assert_eq!(rt; bad_line(check_lines(alloc, text))?, want);
+        assert_eq!(rt; bad_line(check_lines(text)), want);
     }
     Ok(())
 }
@@ -141,7 +130,7 @@ fn reads_pool_lines(rt: HostRuntime) -> Result<(), Fail> {
         ),
         (
             b"pool nodes=1 buffers=1 slots=2 words=1 wear=1 clients=1 batch=1",
-            1,
+            0,
         ),
         (
             b"pool nodes=0 buffers=4 slots=2 words=2 wear=3 clients=1 batch=2",
@@ -193,7 +182,7 @@ fn reads_pool_lines(rt: HostRuntime) -> Result<(), Fail> {
         ),
     ];
     for (text, want) in cases {
-        assert_eq!(rt; bad_line(check_lines(alloc, text))?, want);
+        assert_eq!(rt; bad_line(check_lines(text)), want);
     }
     Ok(())
 }
@@ -227,23 +216,16 @@ fn reads_coded_texts(rt: HostRuntime) -> Result<(), Fail> {
 }
 
 #[test]
-fn numbers_the_keys(rt: HostRuntime) -> Result<(), Fail> {
-    let alloc = rt.alloc();
-    let text = b"pool nodes=1 buffers=4 slots=2 words=2 wear=3 clients=1 batch=2
-call 1 get b
-call 1 put a =1
-call 1 get b
-";
-    let outline = match check_lines(alloc, text) {
-        Ok(outline) => outline,
-        Err(_) => return Err("a script".into()),
+fn sets_up_the_pool(rt: HostRuntime) -> Result<(), Fail> {
+    let text = b"pool nodes=1 buffers=4 slots=2 words=3 wear=5 clients=6 batch=7\ncall 1 get b\n";
+    let Ok(setup) = check_lines(text) else {
+        return Err("a script".into());
     };
-    let names = &outline.names;
-    assert_eq!(rt; names.len(), 2);
-    assert_eq!(rt; names.keys().len(), 2);
-    assert_eq!(rt; names.find(&Key::of(b"b")?), Some(0));
-    assert_eq!(rt; names.find(&Key::of(b"a")?), Some(1));
-    assert_eq!(rt; names.find(&Key::of(b"c")?), None);
-    assert_eq!(rt; outline.setup.batch, 2);
+    assert_eq!(rt;
+        (setup.pool.nodes, setup.pool.buffers, setup.pool.slots),
+        (1, 4, 2)
+    );
+    assert_eq!(rt; (setup.pool.words, setup.pool.wear), (3, 5));
+    assert_eq!(rt; (setup.clients, setup.batch), (6, 7));
     Ok(())
 }

@@ -1,8 +1,8 @@
 use Rattle.std.proofs.Common.{◌≡◌, ◌≤◌, ◌<◌, ◌∙◌, ℕ, Option, Err, ap, subst, sym}
 use Rattle.std.proofs.lemmas.Result.{err_from_is_err_and}
 use Rattle.std.specs.Prelude.{IfSome}
-use Rattle.clover_sched.specs.Running.{IsLeft, actor_in}
-use Rattle.clover_sched.specs.declared.runner.Work.{Work}
+use Rattle.clover_run.specs.Running.{IsLeft, actor_in}
+use Rattle.clover_run.specs.declared.runner.Work.{Work}
 use Rattle.clover_main.specs.Causes.{HasStopCause}
 use Rattle.clover_main.specs.declared.output.Stop.TheVariants.{Write}
 use Rattle.clover_main.specs.Running.{Runs, most_steps}

@@ -1,6 +1,6 @@
 use Rattle.std.proofs.Common.{◌≡◌, ◌≤◌}
 use Rattle.std.specs.Prelude.{IfSome}
-use Rattle.clover_sched.specs.Running.{IsLeft, actor_in}
+use Rattle.clover_run.specs.Running.{IsLeft, actor_in}
 use Rattle.clover_main.specs.Running.{Runs, most_steps}
 use Rattle.clover_main.proofs.running.run_line.Given as goal
 

@@ -1,20 +1,11 @@
-use Rattle.std.proofs.Common.{ℕ, List, ◌∙◌, subst, sym}
+use Rattle.std.proofs.Common.{ℕ, List, ◌∙◌, refl, subst, sym}
 use Rattle.std.proofs.lemmas.Result.{err_from_is_err_and}
 use Rattle.clover_main.specs.Running.{Reaches}
-use Rattle.clover_main.proofs.Loops.{lines_next, lines_stop, lines_last, lines_none, continues_then}
-use Rattle.clover_main.proofs.Owing.{may_next}
+use Rattle.clover_main.proofs.Loops.{lines_first, lines_next, lines_stop, lines_last, lines_none, continues_then}
 use Rattle.clover_main.proofs.running.run_lines.Goals as goal
 
-pub run_text-requires : goal.run_text-requires
-run_text-requires g c =
-    let l = c.loop-rest in
-    let ready = c.requires.ready.2 in
-    let lines = c.requires.ready.0 in
-    let P : List (List ℕ) → Type 0 = λ texts. Reaches ready.opening c.args.machine.now.pool.traced lines texts l.machine (g.K.Sink.taken c.args.sink.now) (g.K.Sink.taken l.sink) c.args.out.now.waiting.items l.out.waiting.items in
-    record {
-      may = may_next c.args.machine.now.pool.traced c.args.machine.now l.machine lines c.first_line.result.0.now _ _ _ _ _ ready
-          (subst P c.first_line.ensures.lines (l.invariant.ran ready.opening lines ready.at c.requires.ready.1)) l.invariant.goes_on;
-    }
+pub loop-rest-init : goal.loop-rest-init
+loop-rest-init g c = record { ran = λ o lines at heard. lines_first o c.args.machine.now.pool.traced lines _ c.args.machine.now _ _ at heard; goes_on = record { setup = refl; traced = refl }; quiet = refl }
 
 pub returns-in_err-run_text-clause-err : goal.returns-in_err-run_text-clause-err
 returns-in_err-run_text-clause-err g c =

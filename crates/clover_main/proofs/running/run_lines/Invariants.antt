@@ -1,10 +1,10 @@
 use Rattle.std.proofs.Common.{◌≡◌, [], List, length}
 use Rattle.clover_script.specs.Line.{lines_of}
 use Rattle.clover_script.specs.declared.line.Line.{Line}
-use Rattle.clover_sched.specs.Machine.{IsAt}
-use Rattle.clover_sched.specs.Run.{Opening}
+use Rattle.clover_run.specs.Machine.{Continues, IsAt}
+use Rattle.clover_run.specs.Run.{Opening}
 use Rattle.clover_main.specs.Hearing.{Heard}
-use Rattle.clover_main.specs.Running.{Reaches, Continues}
+use Rattle.clover_main.specs.Running.{Reaches}
 use Rattle.clover_main.proofs.running.run_lines.Given as goal
 
 abbrev pub invariant-loop-rest : goal.invariant-loop-rest

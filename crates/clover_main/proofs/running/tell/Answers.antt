@@ -1,10 +1,10 @@
 use Rattle.std.proofs.Common.{◌≡◌, ◌++◌, ◌∷◌, [], ℕ, List, Option, Some, None, inl, subst}
 use Rattle.std.proofs.lemmas.Result.{err_from_is_err_and}
-use Rattle.clover_sched.specs.Machine.{IsAt}
-use Rattle.clover_sched.specs.Record.{Record}
-use Rattle.clover_sched.specs.Running.{Comes, IsLeft, IsPartOrAll}
-use Rattle.clover_sched.specs.declared.runner.Advance.{Advance}
-use Rattle.clover_sched.proofs.Working.{part_none, part_here}
+use Rattle.clover_run.specs.Machine.{IsAt}
+use Rattle.clover_run.specs.Record.{Record}
+use Rattle.clover_run.specs.Running.{Comes, IsLeft, IsPartOrAll}
+use Rattle.clover_run.specs.declared.runner.Advance.{Advance}
+use Rattle.clover_run.proofs.Remainders.{part_none, part_here}
 use Rattle.clover_main.specs.Running.{Puts}
 use Rattle.clover_main.proofs.Pieces.{fails_none, fails_event, ran_silent}
 use Rattle.clover_main.proofs.running.tell.Goals as goal

@@ -1,4 +1,4 @@
-use Rattle.clover_script.proofs.TallyLemmas.{bad_pool}
+use Rattle.clover_script.proofs.Reading.{bad_pool}
 use Rattle.clover_script.proofs.check.opening_of.Goals as goal
 
 pub returns-in-Some-clause-none : goal.returns-in-Some-clause-none

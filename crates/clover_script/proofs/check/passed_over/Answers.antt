@@ -1,5 +1,5 @@
 use Rattle.std.proofs.Common.{arith, rules}
-use Rattle.clover_script.proofs.TallyLemmas.{over_next}
+use Rattle.clover_script.proofs.Reading.{over_next}
 use Rattle.clover_script.proofs.check.passed_over.Goals as goal
 
 pub loop-line-preserved : goal.loop-line-preserved

@@ -1,0 +1,18 @@
+use Rattle.std.proofs.Common.{◌∙◌, [], sym, ap, subst}
+use Rattle.std.specs.Prelude.{None}
+use Rattle.clover_alloc.specs.Ledger.{Ledger}
+use Rattle.clover_dir.specs.Directory.{Bindings, nothing_bound}
+use Rattle.clover_server.specs.Holding.{Agrees}
+use Rattle.clover_server.specs.Server.{ServerState, new_server}
+use Rattle.clover_run.proofs.machine.first_side.Goals as goal
+
+pub returns : goal.returns
+returns c =
+    let s = c.args.setup in
+    let books = c.in_ok-books.books in
+    let is = c.make-3.ensures ∙ ap (λ (d : Bindings). new_server s books d) c.in_ok-directory.ensures in
+    record {
+      value = ap (λ (z : ServerState). record { server = z; holder = None; read = 0; done = 0 }) (is ∙ ap (λ (b : Ledger). new_server s b (nothing_bound s.pool)) c.in_ok-books.ensures.value);
+      agrees = λ w first. subst (λ (z : ServerState). Agrees s.pool [] z w) (sym is)
+          (c.first_law.ensures s books w c.in_ok-books.ensures.whole (ap (λ (l : Ledger). l.pool) c.in_ok-books.ensures.value) c.in_ok-books.ensures.free first);
+    }
