@@ -3,6 +3,7 @@ pub mod Trails
 pub mod Acting
 pub mod Stepping
 pub mod Standing
+pub mod Blanks
 pub mod Handing
 pub mod Books
 pub mod SmallPool

@@ -28,7 +28,7 @@ meaning p = record {
   first = first_of (views_of p.seats.items);
   used = used_of (views_of p.seats.items);
   start = p.begun.me.0.words;
-  words = p.words.items;
+  words = p.words;
   views = views_of p.seats.items;
   absent = p.begun.me.0.views;
   entries = p.entries.items;
@@ -44,7 +44,7 @@ meaning p = record {
 -- what every pool keeps
 pub record IsKept (p : Inside) : Type 0 where
   pub stands : Stands p.opened (meaning p)
-  pub sized : length p.words.items ≡ pool_words p.setup.pool
+  pub sized : length p.words ≡ pool_words p.setup.pool
   pub seated : p.setup.clients ≤ length p.seats.items
   pub seats : AllFit p.knowing.shared.table_id p.seats.items
   pub one : 0 < p.knowing.shared.table_id.words

@@ -3,6 +3,7 @@
 //! first one.
 #![tactic(auto)]
 
+mod blank;
 mod pool;
 mod port;
 mod seats;

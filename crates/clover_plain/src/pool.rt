@@ -14,13 +14,14 @@ mod steps;
 #[cfg(test)]
 mod tests;
 
+use crate::blank::Blank;
 use crate::port::PlainPort;
 use crate::seats::{Becomes, Beginning, Begun, Knowing, begin, open_views};
 use atomic_table::{Seat, Table};
 use clover_list::OutOfMemory;
 use clover_map::Entry;
 use clover_rule::{Access, Actor, View};
-use clover_words::{Pool, Setup};
+use clover_words::Setup;
 use std::alloc::Global;
 use std::marker::{Brand, Model};
 
@@ -29,7 +30,7 @@ use std::marker::{Brand, Model};
 pub struct PlainPool {
     setup: Setup,
     // both copies of each word, by address
-    words: Vec<u64>,
+    words: Blank,
     // what each actor knows, as the meaning of its seat: the clients first, and behind them the server
     seats: Vec<Seat<(), View>>,
     // the table of these seats
@@ -90,16 +91,6 @@ fn seats_of(
     Ok(seats)
 }
 
-// So many words, all 0.
-fn zeros(alloc: Global, pool: &Pool) -> Result<Vec<u64>, OutOfMemory>
-    ensures { IfOk result (λ words. words.items ≡ replicate (pool_words pool.now) 0) }
-{
-    match vec![in alloc; 0; pool.len() as usize] {
-        Ok(words) => Ok(words),
-        Err(_) => Err(OutOfMemory),
-    }
-}
-
 impl PlainPool {
     /// A pool of words that are all 0, as a run begins: the metadata server has every buffer and no binding, and the
     /// clients know nothing. There is no entry and no access; with `trace` the pool lists the accesses. `OutOfMemory`
@@ -110,7 +101,7 @@ impl PlainPool {
         ensures views { IfOk result (λ pool. (length pool.views ≡ setup.clients + 1) × ((i : ℕ) (v : View) → nth pool.views i ≡ Some v → v ≡ first_view setup i)) }
         ensures fresh { IfOk result (λ pool. IsFresh pool) }
     {
-        let words = zeros(alloc, &setup.pool)?;
+        let words = Blank::make(alloc, setup.pool.len() as usize)?;
         let (knowing, first) = Table::of_words(alloc, &[0], &setup)?;
         let (beginning, mut begun) = Table::of_words(alloc, &[0], &())?;
         let mut seats = seats_of(alloc, &knowing, first, setup.clients + 1)?;

@@ -6,6 +6,7 @@ ghost use Rattle.clover_rule.specs.declared.view.View.{View};
 ghost use Rattle.clover_plain.specs.Kept.{AllFit, views_of};
 ghost use Rattle.clover_plain.specs.Plain.{actor_at, first_view};
 
+use crate::blank::Blank;
 use atomic_table::{Play, Seat, Table, TableRule};
 use clover_alloc::Batch;
 use clover_dir::Binding;
@@ -193,7 +194,7 @@ impl<J: WordsName> Play<(), Beginning> for Keeps<J> {
 }
 
 /// The seat keeps the named words. The words that are passed are for that name alone.
-pub fn begin<J: WordsName>(beginning: &Begun, begun: &mut Seat<(), Beginning>, words: &Vec<u64>)
+pub fn begin<J: WordsName>(beginning: &Begun, begun: &mut Seat<(), Beginning>, words: &Blank)
     requires fits { (begun.old.table_id ≡ beginning.now.shared.table_id) × (0 < beginning.now.shared.table_id.words) }
     ensures words { begun.new.me.0.words ≡ J.words }
     ensures views { begun.new.me.0.views ≡ begun.old.me.0.views }

@@ -6,16 +6,17 @@ ghost use Rattle.clover_rule.specs.Accesses.{words_after_act};
 ghost use Rattle.clover_port.specs.Asked.{act_by};
 ghost use Rattle.clover_plain.specs.Plain.{op_word, op_side};
 
+use crate::blank::Blank;
 use clover_port::Op;
 use clover_rule::Act;
 use clover_words::{Setup, Side, Word};
 
 /// Makes the access, and gives the number that stood there.
-pub fn apply(setup: &Setup, words: &mut Vec<u64>, op: &Op) -> u64
+pub fn apply(setup: &Setup, words: &mut Blank, op: &Op) -> u64
     requires within { IsWithin setup.now.pool (op_word op.now) × HasSide (op_word op.now) (op_side op.now) }
-    requires sized { length words.old.items ≡ pool_words setup.now.pool }
-    ensures found { result ≡ slice_index words.old.items (address_of setup.now.pool (op_word op.now) (op_side op.now)) }
-    ensures after { words.new.items ≡ words_after_act setup.now.pool words.old.items (act_by op.now result) }
+    requires sized { length words.old ≡ pool_words setup.now.pool }
+    ensures found { result ≡ slice_index words.old (address_of setup.now.pool (op_word op.now) (op_side op.now)) }
+    ensures after { words.new ≡ words_after_act setup.now.pool words.old (act_by op.now result) }
 {
     match *op {
         Op::Load(word) => {
@@ -67,11 +68,11 @@ pub fn act_of(op: Op, found: u64) -> Act
 }
 
 // Where a copy of a word stands.
-fn place_of(setup: &Setup, words: &Vec<u64>, word: Word, side: Side) -> usize
+fn place_of(setup: &Setup, words: &Blank, word: Word, side: Side) -> usize
     requires within { IsWithin setup.now.pool word × HasSide word side }
-    requires sized { length words.now.items ≡ pool_words setup.now.pool }
+    requires sized { length words.now ≡ pool_words setup.now.pool }
     ensures value { result ≡ address_of setup.now.pool word side }
-    ensures inside { result < length words.now.items }
+    ensures inside { result < length words.now }
 {
     let _ = words.len();
     match setup.pool.address(word, side) {
@@ -81,42 +82,42 @@ fn place_of(setup: &Setup, words: &Vec<u64>, word: Word, side: Side) -> usize
 }
 
 // The number at an address.
-fn load_at(words: &Vec<u64>, at: usize) -> u64
-    requires { at < length words.now.items }
-    ensures { result ≡ slice_index words.now.items at }
+fn load_at(words: &Blank, at: usize) -> u64
+    requires { at < length words.now }
+    ensures { result ≡ slice_index words.now at }
 {
-    words[at]
+    words.get(at)
 }
 
 // Writes the number, and gives the one that stood there.
-fn store_at(words: &mut Vec<u64>, at: usize, value: u64) -> u64
-    requires { at < length words.old.items }
-    ensures found { result ≡ slice_index words.old.items at }
-    ensures after { words.new.items ≡ slice_set words.old.items at value }
+fn store_at(words: &mut Blank, at: usize, value: u64) -> u64
+    requires { at < length words.old }
+    ensures found { result ≡ slice_index words.old at }
+    ensures after { words.new ≡ slice_set words.old at value }
 {
-    let found = words[at];
-    words[at] = value;
+    let found = words.get(at);
+    words.set(at, value);
     found
 }
 
 // Writes the new number where the expected one stands, and gives the one that stood there.
-fn exchange_at(words: &mut Vec<u64>, at: usize, expected: u64, new: u64) -> u64
-    requires { at < length words.old.items }
-    ensures found { result ≡ slice_index words.old.items at }
-    ensures after { words.new.items ≡ slice_set words.old.items at (either (result == expected) new result) }
+fn exchange_at(words: &mut Blank, at: usize, expected: u64, new: u64) -> u64
+    requires { at < length words.old }
+    ensures found { result ≡ slice_index words.old at }
+    ensures after { words.new ≡ slice_set words.old at (either (result == expected) new result) }
 {
-    let found = words[at];
-    words[at] = if found == expected { new } else { found };
+    let found = words.get(at);
+    words.set(at, if found == expected { new } else { found });
     found
 }
 
 // Leaves the greater number, and gives the one that stood there.
-fn raise_at(words: &mut Vec<u64>, at: usize, value: u64) -> u64
-    requires { at < length words.old.items }
-    ensures found { result ≡ slice_index words.old.items at }
-    ensures after { words.new.items ≡ slice_set words.old.items at (max result value) }
+fn raise_at(words: &mut Blank, at: usize, value: u64) -> u64
+    requires { at < length words.old }
+    ensures found { result ≡ slice_index words.old at }
+    ensures after { words.new ≡ slice_set words.old at (max result value) }
 {
-    let found = words[at];
-    words[at] = found.max(value);
+    let found = words.get(at);
+    words.set(at, found.max(value));
     found
 }

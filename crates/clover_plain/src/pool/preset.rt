@@ -14,6 +14,7 @@ ghost use Rattle.clover_plain.specs.Plain.{IsFresh};
 ghost use Rattle.clover_plain.specs.Kept.{AllFit, views_of};
 ghost use Rattle.clover_plain.specs.Preset.{preset_word, or_zero, tomb, IsPreset, start_view, AreDistinct};
 
+use crate::blank::Blank;
 use crate::pool::PlainPool;
 use crate::seats::{Knowing, begin, deal_view};
 use atomic_table::Seat;
@@ -62,18 +63,18 @@ fn is_key(key: &Key)
 }
 
 // Writes each word.
-fn fill(setup: &Setup, words: &mut Vec<u64>, keys: &[Key])
-    requires sized { length words.old.items ≡ pool_words setup.now.pool }
+fn fill(setup: &Setup, words: &mut Blank, keys: &[Key])
+    requires sized { length words.old ≡ pool_words setup.now.pool }
     requires slots { length keys.now ≤ setup.now.pool.slots }
     requires buffers { setup.now.pool.slots ≤ buffers_total setup.now.pool }
-    ensures words { IsPreset setup.now keys.now words.new.items }
-    ensures sized { length words.new.items ≡ length words.old.items }
+    ensures words { IsPreset setup.now keys.now words.new }
+    ensures sized { length words.new ≡ length words.old }
 {
     for at in 0..words.len() {
         let Some((word, _)) = setup.pool.word_at(at as u64) else {
             unreachable!()
         };
-        words[at] = preset_number(setup, keys, word);
+        words.set(at, preset_number(setup, keys, word));
     }
 }
 

@@ -50,11 +50,11 @@ below : (g : _) (c : After-note g) → c.args.seat < length (before g c).views
 below g c = subst (λ (p : Plain). c.args.seat < length p.views) (sym c.self.view_is) c.requires.seat
 
 -- the number that is found is the step's
-found_is : (g : _) (c : After-note g) → c.apply-found.result ≡ found (inside_pool g c) (step g c) c.self.inside.words.items
-found_is g c = let o = op_place c.args.op in found_as (inside_pool g c) c.self.inside.words.items (step g c) (act g c) c.requires.step _ c.apply-found.result (ap (λ (w : Word). address_of (inside_pool g c) w (op_side c.args.op)) o.0 ∙ ap (address_of (inside_pool g c) (act_word (act g c 0))) o.1) c.apply-found.ensures.found
+found_is : (g : _) (c : After-note g) → c.apply-found.result ≡ found (inside_pool g c) (step g c) c.self.inside.words
+found_is g c = let o = op_place c.args.op in found_as (inside_pool g c) c.self.inside.words (step g c) (act g c) c.requires.step _ c.apply-found.result (ap (λ (w : Word). address_of (inside_pool g c) w (op_side c.args.op)) o.0 ∙ ap (address_of (inside_pool g c) (act_word (act g c 0))) o.1) c.apply-found.ensures.found
 
-words_are : (g : _) (c : After-note g) → c.apply-found.new.words.items ≡ words_after_step (inside_pool g c) (step g c) c.self.inside.words.items
-words_are g c = c.apply-found.ensures.after ∙ ap (λ (n : ℕ). words_after_act (inside_pool g c) c.self.inside.words.items (act g c n)) (found_is g c) ∙ sym (words_as (inside_pool g c) c.self.inside.words.items (step g c) (act g c) c.requires.step)
+words_are : (g : _) (c : After-note g) → c.apply-found.new.words ≡ words_after_step (inside_pool g c) (step g c) c.self.inside.words
+words_are g c = c.apply-found.ensures.after ∙ ap (λ (n : ℕ). words_after_act (inside_pool g c) c.self.inside.words (act g c n)) (found_is g c) ∙ sym (words_as (inside_pool g c) c.self.inside.words (step g c) (act g c) c.requires.step)
 
 of_run : (g : _) (c : After-note g) → ((then g c).first ≡ (before g c).first) × ((then g c).used ≡ (before g c).used)
 of_run g c =

@@ -1,6 +1,7 @@
-use Rattle.std.proofs.Common.{◌≡◌, ◌+◌, ◌++◌, append-nil, List, [], length, true, refl, sym, ap, ◌∙◌, subst, arith}
+use Rattle.std.proofs.Common.{◌≡◌, ◌+◌, ◌++◌, append-nil, ℕ, List, [], length, replicate, true, refl, sym, ap, ◌∙◌, subst, arith}
 use Rattle.std.proofs.lemmas.List.{length-replicate}
 use Rattle.std.specs.FinMap as finite
+use Rattle.clover_words.specs.Place.{pool_words}
 use Rattle.clover_map.specs.declared.call.Entry.{Entry}
 use Rattle.clover_rule.specs.Lists.{IsPrefix}
 use Rattle.clover_rule.specs.Moves.{nobody}
@@ -35,8 +36,11 @@ first c = first_there (made c).views finite.empty (let z = seats c in omega arit
 used : (c : After-new-2) → (made c).used ≡ []
 used c = used_there (made c).views [] (let z = seats c in omega arith) (λ i v e. ap (λ (u : View). u.pass.used) (c.open_views.ensures.views i v e))
 
+words_are : (c : After-new-2) → c.in_ok-words.words ≡ replicate (pool_words c.args.setup.pool) 0
+words_are c = c.in_ok-words.ensures ∙ ap (λ (n : ℕ). replicate n 0) c.len.ensures.value
+
 no_history : (c : After-new-2) → history (made c) ≡ []
-no_history c = ap longest (all c) ∙ opened_history c.args.setup c.in_ok-words.words.items c.in_ok-words.ensures (made c).views (seats c) c.open_views.ensures.views
+no_history c = ap longest (all c) ∙ opened_history c.args.setup c.in_ok-words.words (words_are c) (made c).views (seats c) c.open_views.ensures.views
 
 fresh : (c : After-new-2) → IsFresh (made c)
 fresh c = record {
@@ -55,7 +59,7 @@ fresh c = record {
 running : (c : After-new-2) → Running (made c)
 running c = record {
   rule = rule_as _ _ finite.empty (made c).first [] (made c).used _ _ (made c).views _ [] (history (made c)) refl (first c) (used c) refl (all c) (no_history c)
-      (opened_rule c.args.setup c.in_ok-words.words.items c.in_ok-words.ensures (made c).views (seats c) c.open_views.ensures.views);
+      (opened_rule c.args.setup c.in_ok-words.words (words_are c) (made c).views (seats c) c.open_views.ensures.views);
   entered = subst (λ (l : List Entry). IsPrefix l (history (made c))) (sym c.new.ensures.items) (history (made c), refl);
   story = ([], record { replays = tt; ends = c.begin.ensures.words; count = refl }, λ t w. sym c.new-2.ensures.items);
   untraced = λ t. c.new-2.ensures.items;
@@ -65,7 +69,7 @@ running c = record {
 pub invariant_of-result : goal.invariant_of-result
 invariant_of-result c = record {
   stands = running c;
-  sized = ap length c.in_ok-words.ensures ∙ length-replicate _ _;
+  sized = ap length (words_are c) ∙ length-replicate _ _;
   seated = let z = seated c in omega arith;
   seats = c.open_views.ensures.fits;
   one = let e = c.in_ok-knowing.ensures.0 in omega arith;

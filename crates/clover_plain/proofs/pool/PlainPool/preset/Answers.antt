@@ -38,8 +38,8 @@ slots c = subst (λ (p : Plain). length c.args.keys.now ≤ p.setup.pool.slots) 
 buffers : (c : After-begin) → c.self.inside.setup.pool.slots ≤ buffers_total c.self.inside.setup.pool
 buffers c = subst (λ (p : Plain). p.setup.pool.slots ≤ buffers_total p.setup.pool) (sym c.self.view_is) c.requires.buffers
 
-rule : (c : After-begin) → Rule c.self.inside.setup.pool finite.empty [] c.fill.new.words.items (then c).views []
-rule c = preset_rule c.self.inside.setup c.args.keys.now c.fill.new.words.items (c.fill.ensures.sized ∙ c.self.invariant.sized) c.fill.ensures.words (slots c) (buffers c) c.are_keys.ensures c.requires.distinct (then c).views (seats_are c) c.deal_views.ensures.views
+rule : (c : After-begin) → Rule c.self.inside.setup.pool finite.empty [] c.fill.new.words (then c).views []
+rule c = preset_rule c.self.inside.setup c.args.keys.now c.fill.new.words (c.fill.ensures.sized ∙ c.self.invariant.sized) c.fill.ensures.words (slots c) (buffers c) c.are_keys.ensures c.requires.distinct (then c).views (seats_are c) c.deal_views.ensures.views
 
 absent : (c : After-begin) → (then c).absent ≡ []
 absent c = c.begin.ensures.views ∙ (blank c).absent
@@ -54,7 +54,7 @@ used : (c : After-begin) → (then c).used ≡ []
 used c = used_there (then c).views [] (let z = seats_are c in let y = c.self.inside.setup.some_client in omega arith) (λ i v e. ap (λ (u : View). u.pass.used) (c.deal_views.ensures.views i v e))
 
 no_history : (c : After-begin) → history (then c) ≡ []
-no_history c = ap longest (all c) ∙ preset_history c.self.inside.setup c.args.keys.now c.fill.new.words.items (c.fill.ensures.sized ∙ c.self.invariant.sized) c.fill.ensures.words (slots c) (buffers c) c.are_keys.ensures c.requires.distinct (then c).views (seats_are c) c.deal_views.ensures.views
+no_history c = ap longest (all c) ∙ preset_history c.self.inside.setup c.args.keys.now c.fill.new.words (c.fill.ensures.sized ∙ c.self.invariant.sized) c.fill.ensures.words (slots c) (buffers c) c.are_keys.ensures c.requires.distinct (then c).views (seats_are c) c.deal_views.ensures.views
 
 fresh : (c : After-begin) → IsFresh (then c)
 fresh c = record {
@@ -93,7 +93,7 @@ invariant_of-self c = record {
 }
 
 pub returns-clause-words : goal.returns-clause-words
-returns-clause-words c = subst (λ (p : Plain). IsPreset p.setup c.args.keys.now c.fill.new.words.items) c.self.view_is c.fill.ensures.words
+returns-clause-words c = subst (λ (p : Plain). IsPreset p.setup c.args.keys.now c.fill.new.words) c.self.view_is c.fill.ensures.words
 
 pub returns-clause-fresh : goal.returns-clause-fresh
 returns-clause-fresh c = fresh c

@@ -7,6 +7,6 @@ use Rattle.clover_plain.proofs.pool.preset.fill.Given as goal
 
 abbrev pub invariant-loop-at : goal.invariant-loop-at
 invariant-loop-at l = record {
-  long : length l.words.items ≡ length l.initial.words.items;
-  filled : (w : Word) (side : Side) → IsWithin l.setup.pool w → HasSide w side → address_of l.setup.pool w side < l.at → get_or l.words.items (address_of l.setup.pool w side) 0 ≡ preset_word l.setup l.keys w;
+  long : length l.words ≡ length l.initial.words;
+  filled : (w : Word) (side : Side) → IsWithin l.setup.pool w → HasSide w side → address_of l.setup.pool w side < l.at → get_or l.words (address_of l.setup.pool w side) 0 ≡ preset_word l.setup l.keys w;
 }
