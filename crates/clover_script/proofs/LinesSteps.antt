@@ -37,6 +37,6 @@ unopened_over lines l over all = All-append IsIgnored lines (l ∷ []) all (All-
 pub before_first : (lines : List (List ℕ)) (s : Setup) (l : List ℕ) → IsBefore lines unopened → l ≡ pool_line (numbers_of s) → IsBefore (lines ++ l ∷ []) (begun s [])
 before_first lines s l all e = record { over = lines; rest = []; parts = ap (λ (p : List ℕ). lines ++ p ∷ []) e; ignored = all; say = refl }
 
--- a line of a client
+-- a line of an actor
 pub before_said : (lines : List (List ℕ)) (s : Setup) (said : List Spoken) (l : List ℕ) (u : Spoken) → IsBefore lines (begun s said) → IsSpoken u → l ≡ line_text u → IsBefore (lines ++ l ∷ []) (begun s (said ++ u ∷ []))
 before_said lines s said l u o is e = opens_longer lines s said (said ++ u ∷ []) l o (say_one o.rest said l u o.say is e)

@@ -1,26 +1,37 @@
--- the lines of clients, as they are written and as they are kept
-use Rattle.std.proofs.Common.{◌≡◌, ◌<◌, ◌^◌, ℕ, List, ◌∷◌, ◌++◌, length, sym, ap, subst, ◌∙◌, inl, inr, arith}
+-- the lines of actors, as they are written and as they are kept
+use Rattle.std.proofs.Common.{◌≡◌, ◌<◌, ◌^◌, ℕ, List, ◌∷◌, ◌++◌, length, refl, sym, ap, subst, ◌∙◌, inl, inr, arith}
 use Rattle.std.specs.Prelude.{decimal, codes}
 use Rattle.std.proofs.lemmas.Fmt.{decimal_injective}
 use Rattle.clover_script.specs.declared.line.PoolLine.{PoolLine}
 use Rattle.clover_script.specs.declared.line.Line.{Line}
-use Rattle.clover_script.specs.Line.{IsActor, pool_line, IsPoolLine, Asked, client, IsAsked, asked_text, Spoken, says_begin, says_step, says_finish, says_call, says_refuse, IsSpoken, line_text, kept_line, IsLineOf, IsIgnored}
-use Rattle.clover_script.specs.Text.{call_text}
-use Rattle.clover_script.specs.Spelling.{SpellsNoCall, SpellsNothingAsked}
+use Rattle.clover_script.specs.Line.{IsActor, pool_line, IsPoolLine, Asked, client, recycle, sweep, IsAsked, asked_text, Spoken, says_begin, says_step, says_finish, says_call, says_refuse, IsSpoken, line_text, kept_line, IsLineOf, IsIgnored}
+use Rattle.clover_script.specs.Spelling.{SpellsNoTask, SpellsNothingAsked}
 use Rattle.clover_script.proofs.PartLemmas.{number_split}
 use Rattle.clover_script.proofs.SpellingLemmas.{after_same, apart, one_client_call}
 use Rattle.clover_script.proofs.PoolLineLemmas.{pool_parts, nodes_on}
 
-one_asked : (s t : Asked) (a b : ℕ) → IsAsked a s → IsAsked b t → asked_text s ≡ asked_text t → s ≡ t
-one_asked (client c) (client d) a b p q e = ap client (one_client_call c d p.1 q.1 e)
+-- a text is one task of an actor
+one_asked : (s t : Asked) (a : ℕ) → IsAsked a s → IsAsked a t → asked_text s ≡ asked_text t → s ≡ t
+one_asked (client c) (client d) a p q e = ap client (one_client_call c d p.2 q.2 e)
+one_asked (client c) (recycle j) a p q e = absurd (omega (arith, p.0, q.0))
+one_asked (client c) sweep a p q e = absurd (omega (arith, p.0, q))
+one_asked (recycle i) (client d) a p q e = absurd (omega (arith, p.0, q.0))
+one_asked (recycle i) (recycle j) a p q e =
+    ap recycle (decimal_injective i j (omega (arith, p.1)) (omega (arith, q.1)) (after_same (codes "recycle ") (decimal i) (decimal j) e))
+one_asked (recycle i) sweep a p q e = absurd (omega (arith, apart (asked_text (recycle i)) (asked_text sweep) e))
+one_asked sweep (client d) a p q e = absurd (omega (arith, p, q.0))
+one_asked sweep (recycle j) a p q e = absurd (omega (arith, apart (asked_text sweep) (asked_text (recycle j)) e))
+one_asked sweep sweep a p q e = refl
 
 small_actor : (a : ℕ) (s : Asked) → IsAsked a s → a < 2 ^ 64
-small_actor a (client c) is = omega (arith, is.0)
+small_actor a (client c) is = omega (arith, is.1)
+small_actor a (recycle slot) is = omega (arith, is.0)
+small_actor a sweep is = omega (arith, is)
 
 asked_split : (a b : ℕ) (s t : Asked) → IsAsked a s → IsAsked b t → decimal a ++ 32 ∷ asked_text s ≡ decimal b ++ 32 ∷ asked_text t → (a ≡ b) × (s ≡ t)
 asked_split a b s t p q e =
     let r = number_split a b (asked_text s) (asked_text t) (small_actor a s p) (small_actor b t q) e in
-    (r.0, one_asked s t a b p q r.1)
+    (r.0, one_asked s t a p (subst (λ (n : ℕ). IsAsked n t) (sym r.0) q) r.1)
 
 -- a text is one line
 pub one_spoken : (s t : Spoken) → IsSpoken s → IsSpoken t → line_text s ≡ line_text t → s ≡ t
@@ -63,7 +74,7 @@ one_spoken (says_refuse a) (says_call b y) p q e = absurd (omega (arith, apart (
 pub one_line : (text : List ℕ) (l m : Line) → IsLineOf text l → IsLineOf text m → l ≡ m
 one_line text l m (s, p, e, l_is) (t, q, f, m_is) = l_is ∙ ap kept_line (one_spoken s t p q (sym e ∙ f)) ∙ sym m_is
 
--- a line of a client is no pool line
+-- a line of an actor is no pool line
 pub no_pool : (s : Spoken) (n : PoolLine) → line_text s ≡ pool_line n → ⊥
 no_pool (says_begin a x) n e = omega (arith, apart (line_text (says_begin a x)) (pool_line n) e)
 no_pool (says_step a x) n e = omega (arith, apart (line_text (says_step a x)) (pool_line n) e)
@@ -94,7 +105,8 @@ apart_lines text = (
   λ pool over. pool_stays pool.0 (subst IsIgnored pool.2 over),
 )
 
--- a text whose actor is followed by no call
-pub no_asked : (text words : List ℕ) (a : ℕ) → IsActor a → text ≡ decimal a ++ 32 ∷ words → SpellsNoCall words → SpellsNothingAsked text
-no_asked text words a is e none b (client call) p f =
-    none call p.1 (number_split a b words (call_text call) (omega (arith, is)) (omega (arith, p.0)) (sym e ∙ f)).1
+-- a text whose actor is followed by none of its tasks
+pub no_asked : (text words : List ℕ) (a : ℕ) → IsActor a → text ≡ decimal a ++ 32 ∷ words → SpellsNoTask a words → SpellsNothingAsked text
+no_asked text words a is e none b asked p f =
+    let r = number_split a b words (asked_text asked) (omega (arith, is)) (small_actor b asked p) (sym e ∙ f) in
+    none asked (subst (λ (n : ℕ). IsAsked n asked) (sym r.0) p) r.1

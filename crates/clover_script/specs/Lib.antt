@@ -1,5 +1,4 @@
 pub mod Coded
-pub mod Form
 pub mod Laws
 pub mod Line
 pub mod Lines

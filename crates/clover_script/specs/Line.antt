@@ -1,4 +1,4 @@
--- the lines of a script: the pool line, and the lines of clients
+-- the lines of a script: the pool line, and the lines of actors
 use Rattle.std.specs.Prelude.{◌≡◌, ℕ, ◌^◌, ◌<◌, ◌≤◌, ◌==◌, ◌⊎◌, if◌then◌else◌, List, [], ◌∷◌, ◌++◌, length, take, decimal, codes, IsSome}
 use Rattle.clover_words.specs.declared.setup.Setup.{Setup}
 use Rattle.clover_words.specs.Pack.{AreBytes}
@@ -9,7 +9,7 @@ use Rattle.clover_map.specs.declared.call.Call.{Call}
 use Rattle.clover_map.specs.declared.call.Call.TheVariants.{Get, Put, Delete, Swap}
 use Rattle.clover_script.specs.declared.line.PoolLine.{PoolLine}
 use Rattle.clover_script.specs.declared.line.Task.{Task}
-use Rattle.clover_script.specs.declared.line.Task.TheVariants.{Client}
+use Rattle.clover_script.specs.declared.line.Task.TheVariants.{Client, Recycle, Sweep}
 use Rattle.clover_script.specs.declared.line.Line.{Line}
 use Rattle.clover_script.specs.declared.line.Line.TheVariants as kept
 use Rattle.clover_script.specs.Text.{call_text}
@@ -98,9 +98,13 @@ cut_call (Swap k e v) = Swap k e (cut_value v)
 abbrev pub task_of : Call → Task
 task_of call = Client (cut_call call) (written call)
 
--- an actor as a line may name it: a client's number
+-- an actor as a line may name it: a client's number, or 0, the recycler's
 abbrev pub IsActor : ℕ → Type 0
-IsActor a = (1 ≤ a) × (a ≤ 16)
+IsActor a = a ≤ 16
+
+-- a slot as a line may name it
+abbrev pub IsSlot : ℕ → Type 0
+IsSlot slot = slot ≤ 16383
 
 -- how many steps a line may ask for
 abbrev pub AreTimes : ℕ → Type 0
@@ -109,18 +113,26 @@ AreTimes n = (1 ≤ n) × (n ≤ 1000000)
 -- a task as it is written, with its value whole
 pub data Asked : Type 0 where
   client : Call → Asked
+  recycle : ℕ → Asked
+  sweep : Asked
 
--- the actor may be asked for the task
+-- the actor may be asked for the task: a client for a call, and the recycler for the others
 abbrev pub IsAsked : ℕ → Asked → Type 0
-IsAsked a (client call) = IsActor a × IsClientCall call
+IsAsked a (client call) = (1 ≤ a) × (a ≤ 16) × IsClientCall call
+IsAsked a (recycle slot) = (a ≡ 0) × IsSlot slot
+IsAsked a sweep = a ≡ 0
 
 -- the text of a task
 abbrev pub asked_text : Asked → List ℕ
 asked_text (client call) = call_text call
+asked_text (recycle slot) = codes "recycle " ++ decimal slot
+asked_text sweep = codes "sweep"
 
 -- a task as the reader keeps it
 abbrev pub kept_task : Asked → Task
 kept_task (client call) = task_of call
+kept_task (recycle slot) = Recycle slot
+kept_task sweep = Sweep
 
 -- a line behind the pool line as it is written: its actor, and what it asks of it
 pub data Spoken : Type 0 where
@@ -154,11 +166,11 @@ kept_line (says_finish a) = kept.Finish a
 kept_line (says_call a asked) = kept.Call a (kept_task asked)
 kept_line (says_refuse a) = kept.Refuse a
 
--- the text is a line of a client, which is kept so
+-- the text is a line of an actor, which is kept so
 abbrev pub IsLineOf : List ℕ → Line → Type 0
 IsLineOf text line = (spoken : Spoken) × IsSpoken spoken × (text ≡ line_text spoken) × (line ≡ kept_line spoken)
 
--- the text is no line of a client
+-- the text is no line of an actor
 abbrev pub IsNoLine : List ℕ → Type 0
 IsNoLine text = (spoken : Spoken) → IsSpoken spoken → text ≡ line_text spoken → ⊥
 

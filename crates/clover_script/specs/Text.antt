@@ -1,4 +1,4 @@
--- the printed texts of numbers, tags, words, calls, replies, entries and what else a client is told
+-- the printed texts of numbers, tags, words, calls, replies, entries and what else an actor is told
 use Rattle.std.specs.Prelude.{ℕ, ◌/◌, ◌%◌, ◌^◌, List, [], ◌++◌, decimal, codes, flat_map}
 use Rattle.std.specs.Int.{w64, to_be_bytes}
 use Rattle.clover_words.specs.declared.word.Buffer.{Buffer}

@@ -14,14 +14,20 @@ pub struct PoolLine {
     pub batch: u64,
 }
 
-/// What an actor is asked to do: a client's call, and the length in bytes of its value as it is
-/// written (0 for a call without one). The call keeps at most the first 1,024 bytes of the value.
+/// What an actor is asked to do: a client a call, and the recycler to take old versions off.
 #[derive(Drop)]
 pub enum Task {
+    /// A client's call, and the length in bytes of its value as it is written (0 for a call without one). The call keeps
+    /// at most the first 1,024 bytes of the value.
     Client { call: Call, written: u32 },
+    /// The root version of this slot, 0 to 16,383, is taken off where a version stands behind it.
+    Recycle(u32),
+    /// The same for each bound slot, until no version stands behind any root version.
+    Sweep,
 }
 
-/// A line behind the pool line, as the reader keeps it. An actor is a client's number, 1 to 16.
+/// A line behind the pool line, as the reader keeps it. An actor is a client's number, 1 to 16, or 0, which is the
+/// recycler. A task is one of its actor's.
 #[derive(Drop)]
 pub enum Line {
     /// The actor begins a task.

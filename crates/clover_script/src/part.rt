@@ -1,6 +1,6 @@
-// The small words of a line: actors, times and tags. Takes no memory.
+// The small words of a line: actors, slots, times and tags. Takes no memory.
 ghost use Rattle.std.specs.Prelude.{◌≡◌, ◌^◌, ◌<◌, ◌≤◌, ℕ, List, ◌∷◌, ◌++◌, decimal, IfSome, IfNone};
-ghost use Rattle.clover_script.specs.Line.{IsActor, AreTimes};
+ghost use Rattle.clover_script.specs.Line.{IsActor, IsSlot, AreTimes};
 ghost use Rattle.clover_script.specs.Text.{tag_text};
 
 use crate::number::{field, number_front, number_of};
@@ -12,7 +12,7 @@ pub fn actor_of(text: &[u8]) -> Option<u32>
     ensures none { IfNone result ((a : ℕ) → IsActor a → text.now ≡ decimal a → ⊥) }
 {
     match number_of(text)? {
-        number @ 1..=16 => Some(number as u32),
+        number @ 0..=16 => Some(number as u32),
         _ => None,
     }
 }
@@ -25,6 +25,17 @@ pub fn actor_front(text: &[u8]) -> Option<(u32, &[u8])>
     let (word, rest) = split_at_byte(text, b' ')?;
     let actor = actor_of(word)?;
     Some((actor, rest))
+}
+
+/// The slot that a text spells. None exactly where it spells none.
+pub fn slot_of(text: &[u8]) -> Option<u32>
+    ensures found { IfSome result (λ slot. IsSlot slot × (text.now ≡ decimal slot)) }
+    ensures none { IfNone result ((slot : ℕ) → IsSlot slot → text.now ≡ decimal slot → ⊥) }
+{
+    match number_of(text)? {
+        number @ 0..=16_383 => Some(number as u32),
+        _ => None,
+    }
 }
 
 /// The number of steps that a text spells. None exactly where it spells none.

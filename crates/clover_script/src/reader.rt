@@ -11,7 +11,7 @@ use crate::task::asked_of;
 use clover_list::OutOfMemory;
 use std::alloc::Global;
 
-/// What a line says that asks something of a client. None exactly where the text is no such line: a
+/// What a line says that asks something of an actor. None exactly where the text is no such line: a
 /// pool line, an empty line and one that begins with `#` are none.
 ///
 /// Of a value above 1,024 bytes the first 1,024 are kept, and its whole length beside them.
@@ -32,12 +32,12 @@ pub fn spelled_line(line: &[u8]) -> Option<LineText>
     ensures none { IfNone result (IsNoLine line.now) }
 {
     if let Some(rest) = after_word(line, b"begin ") {
-        let (actor, call) = asked_of(rest)?;
-        return Some(LineText::Begin { actor, call });
+        let (actor, task) = asked_of(rest)?;
+        return Some(LineText::Begin { actor, task });
     }
     if let Some(rest) = after_word(line, b"call ") {
-        let (actor, call) = asked_of(rest)?;
-        return Some(LineText::Call { actor, call });
+        let (actor, task) = asked_of(rest)?;
+        return Some(LineText::Call { actor, task });
     }
     taskless_line(line)
 }

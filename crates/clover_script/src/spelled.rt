@@ -1,8 +1,8 @@
 // What a line says, with its value still as the line spells it. The first reading of a script makes no more of a line,
 // and takes no memory for it; the second reading decodes the value.
 ghost use Rattle.std.specs.Prelude.{◌≡◌, ℕ, List, IfOk};
-ghost use Rattle.clover_script.specs.Line.{cut_value, task_of, kept_line};
-ghost use Rattle.clover_script.specs.Spelling.{value_with, IsValueText, call_said, HasBytes, said_by, HasLineBytes};
+ghost use Rattle.clover_script.specs.Line.{cut_value, task_of, kept_task, kept_line};
+ghost use Rattle.clover_script.specs.Spelling.{value_with, IsValueText, call_said, HasBytes, asked_said, HasTaskBytes, said_by, HasLineBytes};
 
 use crate::coded::decode_into;
 use crate::line::{Line, Task};
@@ -39,13 +39,21 @@ pub enum CallText<'a> {
     },
 }
 
+/// What an actor is asked to do, as a line spells it; `Task` says what each of them is.
+#[derive(Drop)]
+pub enum TaskText<'a> {
+    Client(CallText<'a>),
+    Recycle(u32),
+    Sweep,
+}
+
 /// A line behind the pool line, as it is spelled; `Line` says what each of them asks.
 #[derive(Drop)]
 pub enum LineText<'a> {
-    Begin { actor: u32, call: CallText<'a> },
+    Begin { actor: u32, task: TaskText<'a> },
     Step { actor: u32, times: u64 },
     Finish { actor: u32 },
-    Call { actor: u32, call: CallText<'a> },
+    Call { actor: u32, task: TaskText<'a> },
     Refuse { actor: u32 },
 }
 
@@ -95,20 +103,33 @@ impl CallText<'_> {
     }
 }
 
+impl TaskText<'_> {
+    /// The task, its value decoded.
+    fn decode(self, alloc: Global) -> Result<Task, OutOfMemory>
+        ensures { IfOk result (λ task. (bytes : List ℕ) → HasTaskBytes self.entry bytes → task ≡ kept_task (asked_said self.entry bytes)) }
+    {
+        match self {
+            TaskText::Client(call) => call.decode(alloc),
+            TaskText::Recycle(slot) => Ok(Task::Recycle(slot)),
+            TaskText::Sweep => Ok(Task::Sweep),
+        }
+    }
+}
+
 impl LineText<'_> {
     /// The line, its value decoded.
     pub fn decode(self, alloc: Global) -> Result<Line, OutOfMemory>
         ensures { IfOk result (λ line. (bytes : List ℕ) → HasLineBytes self.entry bytes → line ≡ kept_line (said_by self.entry bytes)) }
     {
         Ok(match self {
-            LineText::Begin { actor, call } => {
-                let task = call.decode(alloc)?;
+            LineText::Begin { actor, task } => {
+                let task = task.decode(alloc)?;
                 Line::Begin { actor, task }
             }
             LineText::Step { actor, times } => Line::Step { actor, times },
             LineText::Finish { actor } => Line::Finish { actor },
-            LineText::Call { actor, call } => {
-                let task = call.decode(alloc)?;
+            LineText::Call { actor, task } => {
+                let task = task.decode(alloc)?;
                 Line::Call { actor, task }
             }
             LineText::Refuse { actor } => Line::Refuse { actor },

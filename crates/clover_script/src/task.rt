@@ -1,15 +1,15 @@
-// The call that a text spells, and the actor that is asked for it. Takes no memory: a value stays as it is spelled.
+// The task that a text spells, and the actor that is asked for it. Takes no memory: a value stays as it is spelled.
 ghost use Rattle.std.specs.Prelude.{◌≡◌, ◌^◌, ◌<◌, ◌++◌, ℕ, List, ◌∷◌, codes, IfSome, IfNone};
 ghost use Rattle.clover_map.specs.Key.{IsKey};
 ghost use Rattle.clover_map.specs.declared.bytes.Value.{Value};
 ghost use Rattle.clover_script.specs.Coded.{coded};
 ghost use Rattle.clover_script.specs.Text.{tag_text, value_text};
-ghost use Rattle.clover_script.specs.Line.{IsWritten};
-ghost use Rattle.clover_script.specs.Spelling.{value_with, IsValueText, SpellsCall, SpellsNoCall, SpellsAsked, SpellsNothingAsked};
+ghost use Rattle.clover_script.specs.Line.{IsActor, IsWritten};
+ghost use Rattle.clover_script.specs.Spelling.{value_with, IsValueText, SpellsCall, SpellsNoCall, SpellsTask, SpellsNoTask, SpellsAsked, SpellsNothingAsked};
 
 use crate::coded::{decode_into, spelled_length};
-use crate::part::{actor_front, tag_front};
-use crate::spelled::{CallText, ValueText};
+use crate::part::{actor_front, slot_of, tag_front};
+use crate::spelled::{CallText, TaskText, ValueText};
 use crate::split::{after_word, split_at_byte};
 use clover_map::Key;
 
@@ -19,17 +19,47 @@ const LONGEST_KEY: usize = 250;
 /// How many bytes a value may have as it is written.
 const LONGEST_WRITTEN: usize = 65_535;
 
-/// The actor and the call that a text spells, with one space between them.
-pub fn asked_of(text: &[u8]) -> Option<(u32, CallText)>
+/// The actor and the task of it that a text spells, with one space between them.
+pub fn asked_of(text: &[u8]) -> Option<(u32, TaskText)>
     ensures found { IfSome result (λ p. SpellsAsked text.now p.0 p.1) }
     ensures none { IfNone result (SpellsNothingAsked text.now) }
 {
     let (actor, rest) = actor_front(text)?;
-    let call = call_of(rest)?;
-    Some((actor, call))
+    let task = task_for(actor, rest)?;
+    Some((actor, task))
 }
 
-/// The call of its text, which is the line without its first word and its actor.
+/// The task of its text, which is the line without its first word and its actor. None exactly where it is none of the
+/// actor's.
+fn task_for(actor: u32, text: &[u8]) -> Option<TaskText>
+    requires { IsActor actor }
+    ensures found { IfSome result (SpellsTask actor text.now) }
+    ensures none { IfNone result (SpellsNoTask actor text.now) }
+{
+    if actor == 0 {
+        return chore_of(text);
+    }
+    let call = call_of(text)?;
+    Some(TaskText::Client(call))
+}
+
+/// The recycler's task of its text.
+fn chore_of(text: &[u8]) -> Option<TaskText>
+    ensures found { IfSome result (SpellsTask 0 text.now) }
+    ensures none { IfNone result (SpellsNoTask 0 text.now) }
+{
+    if let Some(rest) = after_word(text, b"recycle ") {
+        let slot = slot_of(rest)?;
+        return Some(TaskText::Recycle(slot));
+    }
+    if text == b"sweep".as_slice() {
+        Some(TaskText::Sweep)
+    } else {
+        None
+    }
+}
+
+/// The client's call of its text.
 fn call_of(text: &[u8]) -> Option<CallText>
     ensures found { IfSome result (SpellsCall text.now) }
     ensures none { IfNone result (SpellsNoCall text.now) }

@@ -6,11 +6,11 @@ ghost use Rattle.clover_script.specs.Text.{told_line, unreached_text, linked_tex
 use crate::text::{push_number, push_tag};
 use std::alloc::AllocError;
 
-/// Puts the line that one of a client's accesses was refused.
-pub fn push_unreached(out: &mut Vec<u8>, client: u32) -> Result<(), AllocError>
-    ensures ok { OnOk result (out.new.items ≡ out.old.items ++ told_line client unreached_text) }
+/// Puts the line that one of an actor's accesses was refused.
+pub fn push_unreached(out: &mut Vec<u8>, actor: u32) -> Result<(), AllocError>
+    ensures ok { OnOk result (out.new.items ≡ out.old.items ++ told_line actor unreached_text) }
 {
-    push_actor(out, client)?;
+    push_actor(out, actor)?;
     out.extend_from_slice(b"unreached\n")
 }
 

@@ -1,9 +1,10 @@
-// Lines of clients, and the numbers in them.
+// Lines of actors, and the numbers in them.
 
 use crate::number::number_of;
 use crate::{Line, Task, first_line, line_of, push_call, push_number};
 use clover_map::Call;
 use std::alloc::Global;
+use std::process::Abort;
 use std::test::Fail;
 
 #[test]
@@ -65,18 +66,34 @@ fn show(out: &mut Vec<u8>, line: &Line) -> Result<(), Fail> {
 }
 
 fn show_task(out: &mut Vec<u8>, name: &[u8], actor: u32, task: &Task) -> Result<(), Fail> {
-    let Task::Client { call, written } = task;
     out.extend_from_slice(name)?;
     show_number(out, b" ", u64::from(actor))?;
     out.push(b' ')?;
-    push_call(out, call)?;
-    show_number(out, b" written ", u64::from(*written))?;
+    match task {
+        Task::Client { call, written } => {
+            push_call(out, call)?;
+            show_number(out, b" written ", u64::from(*written))?;
+        }
+        Task::Recycle(slot) => show_number(out, b"recycle ", u64::from(*slot))?,
+        Task::Sweep => out.extend_from_slice(b"sweep")?,
+    }
     Ok(())
 }
 
 fn show_number(out: &mut Vec<u8>, name: &[u8], number: u64) -> Result<(), Fail> {
     out.extend_from_slice(name)?;
     push_number(out, number)?;
+    Ok(())
+}
+
+/// Asserts that the text is a line, which is shown so.
+fn assert_reads(rt: &impl Abort, alloc: Global, text: &[u8], want: &[u8]) -> Result<(), Fail> {
+    let Some(line) = line_of(alloc, text)? else {
+        return Err("a line".into());
+    };
+    let mut out = Vec::new(alloc);
+    show(&mut out, &line)?;
+    assert_eq!(rt; out.as_slice(), want);
     Ok(())
 }
 
@@ -108,12 +125,65 @@ fn reads_each_line_of_a_client(rt: HostRuntime) -> Result<(), Fail> {
         (b"refuse 16", b"refuse 16"),
     ];
     for (text, want) in cases {
-        let Some(line) = line_of(alloc, text)? else {
-            return Err("a line".into());
-        };
-        let mut out = Vec::new(alloc);
-        show(&mut out, &line)?;
-        assert_eq!(rt; out.as_slice(), want);
+        assert_reads(&rt, alloc, text, want)?;
+    }
+    Ok(())
+}
+
+#[test]
+fn reads_each_line_of_the_recycler(rt: HostRuntime) -> Result<(), Fail> {
+    let alloc = rt.alloc();
+    let cases: [(&[u8], &[u8]); 9] = [
+        (b"begin 0 recycle 0", b"begin 0 recycle 0"),
+        (b"begin 0 recycle 16383", b"begin 0 recycle 16383"),
+        (b"call 0 recycle 3", b"call 0 recycle 3"),
+        (b"begin 0 sweep", b"begin 0 sweep"),
+        (b"call 0 sweep", b"call 0 sweep"),
+        (b"step 0 1", b"step 0 times 1"),
+        (b"step 0 1000000", b"step 0 times 1000000"),
+        (b"finish 0", b"finish 0"),
+        (b"refuse 0", b"refuse 0"),
+    ];
+    for (text, want) in cases {
+        assert_reads(&rt, alloc, text, want)?;
+    }
+    Ok(())
+}
+
+#[test]
+fn reads_no_line_where_the_recycler_has_none(rt: HostRuntime) -> Result<(), Fail> {
+    let alloc = rt.alloc();
+    let cases: [&[u8]; 27] = [
+        b"call 0 recycle 16384",
+        b"begin 0 recycle 4294967299",
+        b"begin 0 recycle 18446744073709551619",
+        b"begin 0 recycle 03",
+        b"begin 0 recycle 00",
+        b"begin 0 recycle +3",
+        b"begin 0 recycle a",
+        b"begin 0 recycle",
+        b"begin 0 recycle ",
+        b"begin 0 recycle 3 ",
+        b"begin 0 recycle  3",
+        b"begin 0 recycle3",
+        b"begin 0 sweep ",
+        b"begin 0 sweep 3",
+        b"begin 0 sweeps",
+        b"begin 0 swee",
+        b"begin 00 sweep",
+        b"begin 0 ",
+        b"begin 1 sweep",
+        b"call 16 sweep",
+        b"call 1 recycle 3",
+        b"begin 0 get a",
+        b"call 0 put a =x",
+        b"call 0 delete a",
+        b"begin 0 swap a 0.0.0 =x",
+        b"step 0 0",
+        b"finish 00",
+    ];
+    for text in cases {
+        assert!(rt; line_of(alloc, text)?.is_none());
     }
     Ok(())
 }
@@ -121,7 +191,7 @@ fn reads_each_line_of_a_client(rt: HostRuntime) -> Result<(), Fail> {
 #[test]
 fn reads_no_line_where_there_is_none(rt: HostRuntime) -> Result<(), Fail> {
     let alloc = rt.alloc();
-    let cases: [&[u8]; 56] = [
+    let cases: [&[u8]; 50] = [
         b"",
         b"#",
         b"# finish 1",
@@ -131,7 +201,6 @@ fn reads_no_line_where_there_is_none(rt: HostRuntime) -> Result<(), Fail> {
         b"step 1 01",
         b"step 1 ",
         b"step 1",
-        b"step 0 1",
         b"step 17 1",
         b"step 1 1 ",
         b"step  1 1",
@@ -141,17 +210,14 @@ fn reads_no_line_where_there_is_none(rt: HostRuntime) -> Result<(), Fail> {
         b"Step 1 1",
         b"finish",
         b"finish ",
-        b"finish 0",
         b"finish 17",
         b"finish 01",
         b"finish 1 ",
         b"finish 1 1",
         b"finish 4294967297",
-        b"refuse 0",
         b"refuse 17",
         b"refuse 1 ",
         b"refuse a",
-        b"begin 0 get a",
         b"begin 17 get a",
         b"begin 1",
         b"begin 1 ",
@@ -176,8 +242,6 @@ fn reads_no_line_where_there_is_none(rt: HostRuntime) -> Result<(), Fail> {
         b"call 1 swap a 0.0.0.0 =x",
         b"call 1 swap a 00.0.0 =x",
         b"call 1 swap a =x",
-        b"call 0 recycle 1",
-        b"call 0 sweep",
     ];
     for text in cases {
         assert!(rt; line_of(alloc, text)?.is_none());
@@ -205,7 +269,9 @@ fn reads_long_keys_and_values(rt: HostRuntime) -> Result<(), Fail> {
         let Some(Line::Begin { actor: _, task }) = line_of(alloc, &text)? else {
             return Err("a begin".into());
         };
-        let Task::Client { call, written } = task;
+        let Task::Client { call, written } = task else {
+            return Err("a call".into());
+        };
         assert_eq!(rt; written, letters);
         let Call::Swap { value, .. } = call else {
             return Err("a swap".into());

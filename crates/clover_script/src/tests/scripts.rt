@@ -34,7 +34,7 @@ fn assert_refused(rt: &impl Abort, alloc: Global, others: &[u8], want: u64) -> R
 #[test]
 fn names_the_first_bad_line(rt: HostRuntime) -> Result<(), Fail> {
     let alloc = rt.alloc();
-    let cases: [(&[u8], u64); 16] = [
+    let cases: [(&[u8], u64); 19] = [
         (b"", 0),
         (
             b"\n# a\ncall 1 put a =1\nbegin 2 get b\nstep 2 3\nrefuse 2\nfinish 2\n#",
@@ -45,6 +45,10 @@ fn names_the_first_bad_line(rt: HostRuntime) -> Result<(), Fail> {
             b"call 1 put a =1\ncall 1 delete a\nbegin 1 swap a 0.0.0 =1\ncall 1 get a\n",
             0,
         ),
+        (
+            b"begin 0 recycle 3\nstep 0 5\nfinish 0\nrefuse 0\ncall 0 sweep",
+            0,
+        ),
         // None of the forms.
         (b"jump 1\n", 2),
         (b" \n", 2),
@@ -53,6 +57,8 @@ fn names_the_first_bad_line(rt: HostRuntime) -> Result<(), Fail> {
         (b"#\n\ncall 1 get a \n#\n", 4),
         (b"call 17 get a\n", 2),
         (b"step 1 0\n", 2),
+        (b"call 0 sweep\ncall 1 sweep\n", 3),
+        (b"begin 0 recycle 16383\nbegin 0 recycle 16384\n", 3),
         // A second pool line.
         (POOL, 2),
         (
@@ -76,13 +82,14 @@ fn names_the_first_bad_line(rt: HostRuntime) -> Result<(), Fail> {
 #[test]
 fn refuses_what_opens_no_script(rt: HostRuntime) -> Result<(), Fail> {
     let alloc = rt.alloc();
-    let cases: [(&[u8], u64); 10] = [
+    let cases: [(&[u8], u64); 11] = [
         // No pool line at all.
         (b"", 1),
         (b"\n", 2),
         (b"# a\n\n# b", 4),
-        // A client's line before it.
+        // An actor's line before it.
         (b"call 1 get a\n", 1),
+        (b"# a\ncall 0 sweep\n", 2),
         (b"\n#\nfinish 1\n", 3),
         // A line of no form before it.
         (b"# a\njump 1\n", 2),
