@@ -9,3 +9,6 @@ pub mod Granting
 pub mod Left
 pub mod Repeating
 pub mod Recycled
+pub mod Lessening
+pub mod Vacant
+pub mod Once

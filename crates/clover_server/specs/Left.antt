@@ -1,5 +1,5 @@
 -- How much is left to do for the server: a number that each access lowers, so calls that repeat steps end.
-use Rattle.std.specs.Prelude.{ℕ, ◌+◌, ◌-◌, ◌*◌, ◌≤◌, List, length, sum_by, Option, Some, None}
+use Rattle.std.specs.Prelude.{ℕ, ◌+◌, ◌-◌, ◌*◌, ◌≤◌, ◌<◌, List, length, sum_by, Option, Some, None}
 use Rattle.clover_alloc.specs.Ledger.{Ledger}
 use Rattle.clover_alloc.specs.declared.line.Line.{Line}
 use Rattle.clover_dir.specs.Directory.{Bindings}
@@ -71,3 +71,13 @@ LowersBy turn before after = after + 2 ≤ before
 abbrev pub OnMore : ServerTurn → Type 0 → Type 0
 OnMore More A = A
 OnMore turn A = Unit {0}
+
+-- what is left for a sweep over all bindings besides those that it has left behind: a binding that another call's task ends is one more of them
+abbrev pub sweep_left : ServerState → ℕ
+sweep_left s = work_left s + length s.directory.list
+
+-- how an access lowers that: a read that showed a root version unlinked may leave it, and any other lowers it
+abbrev pub Lessens : ServerTurn → ℕ → ℕ → Type 0
+Lessens TurnUnlinked before after = after ≤ before
+Lessens TurnUnreached before after = Unit {0}
+Lessens turn before after = after < before

@@ -1,13 +1,14 @@
 -- What a want finds: a key's slot and the lowest unbound slot in the directory, and whether a buffer is free or the sweep has a binding left.
-use Rattle.std.specs.Prelude.{ℕ, ◌<◌, ◌↔◌, nat_lt, nat_eq, Bool, if◌then◌else◌, List, slice_get, Option, Some, None, IsNone, IfSome}
+use Rattle.std.specs.Prelude.{ℕ, ◌+◌, ◌<◌, ◌↔◌, nat_lt, nat_eq, Bool, false, not, if◌then◌else◌, List, slice_get, Option, Some, None, IsNone, IfSome}
 use Rattle.clover_alloc.specs.Ledger.{count_of}
-use Rattle.clover_alloc.specs.declared.line.Place.TheVariants.{Free}
+use Rattle.clover_alloc.specs.declared.line.Place.TheVariants.{Free, Worn}
 use Rattle.clover_dir.specs.Directory.{Bindings, IsBound}
 use Rattle.clover_dir.specs.Names.{IsNew}
 use Rattle.clover_rule.specs.Lists.{Within}
 use Rattle.clover_server.specs.Server.{ServerState}
 use Rattle.clover_server.specs.declared.due.Room.{Room}
 use Rattle.clover_server.specs.declared.due.Room.TheVariants.{Swept, Full, Free as HasFree}
+use Rattle.clover_server.specs.declared.work.Unfinished.{Unfinished}
 
 -- the key's slot, none where it is not bound
 pub record IsSlotOf (key : List ℕ) (d : Bindings) (slot : Option ℕ) : Type 0 where
@@ -29,6 +30,19 @@ position (Some n) = n
 abbrev pub slot_in : Option (ℕ × List ℕ) → Option ℕ
 slot_in None = None
 slot_in (Some q) = Some q.0
+
+-- the slot of the binding at a position, if there is one
+abbrev pub slot_at : ServerState → ℕ → Option ℕ
+slot_at s n = slot_in (slice_get s.directory.list n)
+
+-- the unfinished task was not left to a later call
+abbrev pub is_under_way : Option Unfinished → Bool
+is_under_way None = false
+is_under_way (Some u) = not u.left
+
+-- how many buffers the books have as free or worn: one more behind the last access of any recycling
+abbrev pub given_back : ServerState → ℕ
+given_back s = count_of Free s.books + count_of Worn s.books
 
 -- how many buffers are free
 abbrev pub free_in : ServerState → ℕ

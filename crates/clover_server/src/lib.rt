@@ -11,6 +11,6 @@ mod turn;
 mod whole;
 mod work;
 
-pub use laws::{first_law, handed_law};
+pub use laws::{first_law, free_law, handed_law, once_law};
 pub use server::Server;
 pub use turn::{ServerRefusal, ServerTurn};

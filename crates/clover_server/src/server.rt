@@ -1,5 +1,5 @@
 // The metadata server: its books, its directory, its unfinished task, and the sweep of a want.
-ghost use Rattle.std.specs.Prelude.{◌≡◌, ◌≤◌, ◌<◌, ◌↔◌, ℕ, false, [], drop, length, IsTrue, IsSome, Option, None};
+ghost use Rattle.std.specs.Prelude.{◌≡◌, ◌≤◌, ◌<◌, ◌+◌, ◌↔◌, ℕ, false, [], drop, length, IsTrue, IsSome, Option, None};
 ghost use Rattle.clover_words.specs.declared.pool.Pool.{Pool as PoolShape};
 ghost use Rattle.clover_rule.specs.declared.view.View.{View};
 ghost use Rattle.clover_alloc.specs.Batch.{tags_of};
@@ -8,7 +8,7 @@ ghost use Rattle.clover_alloc.specs.Lines.{number_of, sum_of};
 ghost use Rattle.clover_alloc.specs.Taking.{Takes, AreNew};
 ghost use Rattle.clover_alloc.specs.declared.line.Place.{Place};
 ghost use Rattle.clover_dir.specs.Bindings.{pairs_of};
-ghost use Rattle.clover_dir.specs.Directory.{IsBound};
+ghost use Rattle.clover_dir.specs.Directory.{IsBound, root_of};
 ghost use Rattle.clover_server.specs.Steps.{own_turn};
 
 mod task;
@@ -60,9 +60,9 @@ impl Model for Server {
 impl Server {
     ghost use Rattle.clover_server.specs.Server.{new_server};
     ghost use Rattle.clover_server.specs.Holding.{Agrees};
-    ghost use Rattle.clover_server.specs.Looking.{IsSlotOf, IsLowestFree, free_in};
+    ghost use Rattle.clover_server.specs.Looking.{IsSlotOf, IsLowestFree, free_in, given_back, slot_at, is_under_way};
     ghost use Rattle.clover_server.specs.Steps.{WantStep, RecycleStep, FinishStep, ended, stock_due, named_due, recycle_due, Finishes};
-    ghost use Rattle.clover_server.specs.Left.{work_left, OnMore};
+    ghost use Rattle.clover_server.specs.Left.{work_left, sweep_left, OnMore, Lessens};
     ghost use Rattle.clover_server.specs.Told.{IsFull, IfFull, IfReached, IfUnreached, IsWantTurn, IsOwnTurn, EndsTask};
 
     /// The server of a pool, with these books and this directory. It takes no memory.
@@ -139,6 +139,8 @@ impl Server {
         ensures step { RecycleStep (recycle_due self.old slot) self.old self.new result (λ a x. P.made port.old a false x port.new) (P.failed port.old port.new) }
         ensures ends { IfReached result (EndsTask (P.pool port.old) self.old.task (length self.new.directory.list) (P.view port.old) (P.told port.old) (P.view port.new) (P.told port.new)) }
         ensures lowers { OnMore result (work_left self.new < work_left self.old) }
+        ensures lessens { Lessens result (sweep_left self.old) (sweep_left self.new) }
+        ensures gives { given_back self.new ≤ given_back self.old + 1 }
         ensures refused { IfUnreached result (P.failed port.old port.new) }
         ensures answers { IsOwnTurn result }
         ensures agrees { Agrees (P.pool port.new) [] self.new (P.view port.new) }
@@ -163,6 +165,8 @@ impl Server {
         ensures step { FinishStep self.old self.new result (λ a x. P.made port.old a false x port.new) (P.failed port.old port.new) }
         ensures ends { IfReached result (EndsTask (P.pool port.old) self.old.task (length self.new.directory.list) (P.view port.old) (P.told port.old) (P.view port.new) (P.told port.new)) }
         ensures lowers { OnMore result (work_left self.new < work_left self.old) }
+        ensures lessens { Lessens result (sweep_left self.old) (sweep_left self.new) }
+        ensures gives { given_back self.new ≤ given_back self.old + 1 }
         ensures refused { IfUnreached result (P.failed port.old port.new) }
         ensures answers { IsOwnTurn result }
         ensures agrees { Agrees (P.pool port.new) [] self.new (P.view port.new) }
@@ -195,6 +199,34 @@ impl Server {
         ensures { IsTrue result ↔ IsSome self.now.task }
     {
         self.task.is_some()
+    }
+
+    /// Whether a task is unfinished that no refused access has left to a later call.
+    pub fn under_way(&self) -> bool
+        ensures { result ≡ is_under_way self.now.task }
+    {
+        match &self.task {
+            Some(unfinished) => !unfinished.left,
+            None => false,
+        }
+    }
+
+    /// Whether a slot is bound.
+    pub fn is_bound(&self, slot: u32) -> bool
+        ensures bound { IsTrue result ↔ IsBound slot self.now.directory }
+        ensures root { IsTrue result ↔ IsSome (root_of self.now.directory slot) }
+    {
+        self.directory.root(slot).is_some()
+    }
+
+    /// The slot of the binding at a position; none where there are no more bindings than that.
+    pub fn slot_at(&self, position: u32) -> Option<u32>
+        ensures { result ≡ slot_at self.now position }
+    {
+        match self.directory.list().get(position as usize) {
+            Some(binding) => Some(binding.slot),
+            None => None,
+        }
     }
 
     /// How many buffers the books have in each place.
