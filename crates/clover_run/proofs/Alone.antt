@@ -22,6 +22,7 @@ use Rattle.clover_run.specs.declared.client.ClientState.{ClientState}
 use Rattle.clover_run.specs.declared.event.Note.{Note}
 use Rattle.clover_run.specs.declared.event.Note.TheVariants.{Quiet, Answered, Refused}
 use Rattle.clover_run.specs.declared.want.Want.TheVariants.{Nothing}
+use Rattle.clover_run.proofs.Moments.{no_front}
 use Rattle.clover_run.proofs.Stretch.{no_snoc, Begins, Leaves, alone_more}
 
 -- an own access starts no call
@@ -48,11 +49,7 @@ BeginsAlone p st ws y call (Some slot) = (f : Finds p st slot call) × EndsIn p 
 
 -- nothing has run alone before the first record
 none_before : (o : Opening) → RunsAlone o [] → ⊥
-none_before o x = no_snoc x.started.0 x.started.1 (let l : [] ≡ x.before ++ (x.steps ++ x.after) = x.whole in nothing x.before (x.steps ++ x.after) l ∙ x.started.2)
-  where
-    nothing : (xs ys : List Record) → [] ≡ xs ++ ys → [] ≡ xs
-    nothing [] ys e = refl
-    nothing (x ∷ xs) ys e = absurd cc
+none_before o x = no_snoc x.started.0 x.started.1 (let l : [] ≡ x.before ++ (x.steps ++ x.after) = x.whole in no_front x.before (x.steps ++ x.after) l ∙ x.started.2)
 
 pub alone_first : (o : Opening) (ws : List ℕ) (clients : List ClientState) → AloneSoFar o ws clients []
 alone_first o ws clients = record { all = λ x. absurd (none_before o x); underway = λ x. absurd (none_before o x) }

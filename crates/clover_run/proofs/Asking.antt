@@ -1,5 +1,5 @@
 -- The machine stands behind a begin of a client that has no task: the value is too long, or the client has started its call.
-use Rattle.std.proofs.Common.{◌≡◌, ◌≢◌, ◌⊎◌, ℕ, zero, ◌+◌, ◌≤◌, ◌<◌, suc, set, length, List, [], ◌∷◌, ◌++◌, refl, sym, ap, ◌∙◌, subst, arith, inl, inr}
+use Rattle.std.proofs.Common.{◌≡◌, ◌≢◌, ◌⊎◌, ℕ, zero, ◌≤◌, ◌<◌, suc, set, length, List, [], ◌∷◌, ◌++◌, refl, sym, ap, ◌∙◌, subst, arith, inl, inr}
 use Rattle.std.specs.Prelude.{Some}
 use Rattle.clover_map.specs.History.{key_of}
 use Rattle.clover_map.specs.declared.call.Call.{Call}
@@ -16,7 +16,7 @@ use Rattle.clover_call.specs.declared.under.Underway.TheVariants.{Nothing as NoC
 use Rattle.clover_node.specs.Beginning.{NodeStarts, Refuses}
 use Rattle.clover_node.specs.Node.{NodeState}
 use Rattle.clover_node.specs.declared.answer.NodeRefusal.TheVariants.{NeedsStock}
-use Rattle.clover_sched.specs.Client.{IsTask}
+use Rattle.clover_sched.specs.Client.{IsCallTask}
 use Rattle.clover_sched.specs.Ends.{MayBegin}
 use Rattle.clover_sched.specs.Run.{room}
 use Rattle.clover_sched.specs.declared.event.CallRefusal.TheVariants.{TooLong}
@@ -24,7 +24,7 @@ use Rattle.clover_sched.specs.declared.event.Event.TheVariants.{Begin}
 use Rattle.clover_sched.proofs.Places.{set_same}
 use Rattle.clover_run.specs.Client.{Phase, Rests, HasTask, Stands, Matches, GoesSoFar, Remembers, Begun, Started, call_at}
 use Rattle.clover_run.specs.Ends.{ended}
-use Rattle.clover_run.specs.Folds.{Doing, begun, doing, does, names_of}
+use Rattle.clover_run.specs.Folds.{Doing, begun, doing, names_of, served_after}
 use Rattle.clover_run.specs.Machine.{Parts, IsAt}
 use Rattle.clover_run.specs.Record.{Record}
 use Rattle.clover_run.specs.Run.{Opening, Standing, standing, begin_note, known_slot, want_in}
@@ -86,19 +86,19 @@ module _ (o : Opening) (m : Parts) (rs : List Record) (at : IsAt o m rs) (i : �
   once = names_once o m.pool i x Rests running stands
 
   -- it was turned away, and is as it was
-  away : (call : Call) (written : ℕ) (note : Note) → note ≡ Refused (suc i) (TooLong written (room o.setup)) → note ≡ begin_note o.setup d (suc i) (ClientTask call written) → y ≡ x → IsAt o (with_client m i y) (rs ++ stays o m rs at (Begin (suc i) (ClientTask call written)) note ∷ [])
+  away : (call : Call) (written : ℕ) (note : Note) → note ≡ Refused (suc i) (TooLong written (room o.setup)) → note ≡ begin_note o.setup (served_after o.served rs) d (suc i) (ClientTask call written) → y ≡ x → IsAt o (with_client m i y) (rs ++ stays o m rs at (Begin (suc i) (ClientTask call written)) note ∷ [])
   away call written note is told same = subst (λ (z : List ClientState). IsAt o (record m { clients = z }) (rs ++ stays o m rs at (Begin (suc i) (ClientTask call written)) note ∷ [])) (sym (ap (set m.clients i) same ∙ set_same m.clients i x here)) (go note is told)
     where
       t : Task
       t = ClientTask call written
 
-      go : (n : Note) → n ≡ Refused (suc i) (TooLong written (room o.setup)) → n ≡ begin_note o.setup d (suc i) t → IsAt o m (rs ++ stays o m rs at (Begin (suc i) t) n ∷ [])
+      go : (n : Note) → n ≡ Refused (suc i) (TooLong written (room o.setup)) → n ≡ begin_note o.setup (served_after o.served rs) d (suc i) t → IsAt o m (rs ++ stays o m rs at (Begin (suc i) t) n ∷ [])
       go n e f = subst (λ (k : Note). IsAt o m (rs ++ stays o m rs at (Begin (suc i) t) k ∷ [])) (sym e)
           (stayed o m rs at (Begin (suc i) t) (Refused (suc i) (TooLong written (room o.setup))) (record { access = refl; entry = refl; note_is = sym e ∙ f; served = at.served }) (λ z. refl)
           (silent o m rs at (Begin (suc i) t) (Refused (suc i) (TooLong written (room o.setup))) m.clients (λ c s. s)))
 
   -- it has started the call
-  module _ (call : Call) (written : ℕ) (is : IsTask (ClientTask call written)) (fits : written ≤ room o.setup) (starts : Started (record x { call = Some call }) y call) where
+  module _ (call : Call) (written : ℕ) (is : IsCallTask call written) (fits : written ≤ room o.setup) (starts : Started (record x { call = Some call }) y call) where
     abbrev r : Record
     r = stays o m rs at (Begin (suc i) (ClientTask call written)) Quiet
 
@@ -149,14 +149,14 @@ module _ (o : Opening) (m : Parts) (rs : List Record) (at : IsAt o m rs) (i : �
     alone : AloneSoFar o m.pool.words (set m.clients i y) new
     alone = alone_started o rs r m.pool.words m.pool.words m.clients (set m.clients i y) at.alone i y (set_here m.clients i y x here) call written (λ c s. sym s) refl (ap (λ (k : Doing). k.task) does_task) begins
 
-    goes_on : (f : Phase) → HasBegun o m.pool i x y (ClientTask call written) Quiet d f → IsAt o (with_client m i y) new
+    goes_on : (f : Phase) → HasBegun o m.pool i x y call written Quiet (served_after o.served rs) d f → IsAt o (with_client m i y) new
     goes_on f h = changed o m rs at i x y f (Begin (suc i) (ClientTask call written)) Quiet here refl (record { access = refl; entry = refl; note_is = h.note_is; served = at.served }) h.stands h.matches
         (names ∙ sym (started_names z y call starts)) (remembers_starts z y call (ended (suc i) rs) starts (at.each i x here).cursors) goes (started_lacks z y call v starts) alone
 
-  pub asked_client : (t : Task) (note : Note) → IsTask t → Begun (suc i) o.setup x y t note → IsAt o (with_client m i y) (rs ++ stays o m rs at (Begin (suc i) t) note ∷ [])
-  asked_client (ClientTask call written) note is (inl (over, e, same)) =
-      let h = begun_client o m.pool i x y (ClientTask call written) note d is (inl (over, e, same)) stands matches in
+  pub asked_client : (call : Call) (written : ℕ) (note : Note) → IsCallTask call written → Begun (suc i) o.setup x y call written note → IsAt o (with_client m i y) (rs ++ stays o m rs at (Begin (suc i) (ClientTask call written)) note ∷ [])
+  asked_client call written note is (inl (over, e, same)) =
+      let h = begun_client o m.pool i x y call written note (served_after o.served rs) d is (inl (over, e, same)) stands matches in
       away call written note e h.1.note_is same
-  asked_client (ClientTask call written) note is (inr (fits, e, starts)) =
-      let h = begun_client o m.pool i x y (ClientTask call written) Quiet d is (inr (fits, refl, starts)) stands matches in
+  asked_client call written note is (inr (fits, e, starts)) =
+      let h = begun_client o m.pool i x y call written Quiet (served_after o.served rs) d is (inr (fits, refl, starts)) stands matches in
       subst (λ (n : Note). IsAt o (with_client m i y) (rs ++ stays o m rs at (Begin (suc i) (ClientTask call written)) n ∷ [])) (sym e) (goes_on call written is fits starts h.0 h.1)

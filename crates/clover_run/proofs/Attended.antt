@@ -3,7 +3,6 @@ use Rattle.std.proofs.Common.{◌≡◌, ◌≢◌, ◌⊎◌, ℕ, ◌-◌, suc
 use Rattle.std.specs.Prelude.{Option, Some, None}
 use Rattle.std.proofs.lemmas.List.{length-set}
 use Rattle.clover_alloc.specs.Batch.{tags_of}
-use Rattle.clover_alloc.specs.declared.batch.Batch.{Batch}
 use Rattle.clover_words.specs.Tag.{tag_number}
 use Rattle.clover_words.specs.declared.pool.Pool.{Pool}
 use Rattle.clover_map.specs.History.{key_of}
@@ -31,6 +30,7 @@ use Rattle.clover_run.specs.Ends.{ended}
 use Rattle.clover_run.specs.Folds.{Doing, doing, names_of, served_after, stepped}
 use Rattle.clover_run.specs.Machine.{Parts, IsAt, IsPoolAt, IsClientAt, IsTold}
 use Rattle.clover_run.specs.Record.{Record}
+use Rattle.clover_run.specs.Recycling.{IsRecyclerAt}
 use Rattle.clover_run.specs.Run.{Opening, Standing, Follows, IsStepFor, IsStepOf, standing, known_slot, want_in}
 use Rattle.clover_run.specs.Served.{is_elsewhere}
 use Rattle.clover_run.specs.Serving.{IsServed, Leaves}
@@ -48,6 +48,7 @@ use Rattle.clover_run.proofs.Goes.{goes_first}
 use Rattle.clover_run.proofs.Names.{are_bindings, slot_new}
 use Rattle.clover_run.proofs.Onward.{pushed, is_of, other_client, own_client, standing_behind, each_set, with_step, stands_on, moved_pool}
 use Rattle.clover_run.proofs.Pasts.{ended_more, ended_unanswered, served_more, doing_own}
+use Rattle.clover_run.proofs.Recyclers.{recycler_other, served_counts}
 use Rattle.clover_run.proofs.Remembering.{remembers_more, remembers_starts, may_begin}
 use Rattle.clover_run.proofs.ServedAlone.{alone_served, served_servers}
 use Rattle.clover_run.proofs.Starting.{SaysStart}
@@ -62,7 +63,7 @@ serves_want p st call r Names some s = s
 -- a step that serves answers no call
 leaves_unanswered : (a : ℕ) (d : Doing) (want : Want) (v : Served) (n : ServerState) (turn : ServerTurn) (r : Record) → Leaves a d want v n turn r → (b : ℕ) (reply : Reply) → r.note ≡ Answered b reply → ⊥
 leaves_unanswered a d want v n More r l b reply e = let q : Quiet ≡ Answered b reply = sym l.0 ∙ e in cc
-leaves_unanswered a d want v n Ready r l b reply e = let q : Granted a l.batch (length n.directory.list - d.known) ≡ Answered b reply = sym l.note ∙ e in cc
+leaves_unanswered a d want v n Ready r l b reply e = let q : Granted a (length n.directory.list - d.known) ≡ Answered b reply = sym l.note ∙ e in cc
 leaves_unanswered a d want v n (TurnFull bound worn out) r l b reply e = let q : Full a bound worn out ≡ Answered b reply = sym l.0 ∙ e in cc
 leaves_unanswered a d want v n TurnNoSlot r l b reply e = let q : NoSlot a ≡ Answered b reply = sym l.0 ∙ e in cc
 leaves_unanswered a d want v n TurnUnreached r l b reply e = let q : Refused a WasUnreached ≡ Answered b reply = sym l.0 ∙ e in cc
@@ -77,30 +78,29 @@ served_unanswered a d want call v r s b reply e = by (is_elsewhere v.holder a) r
     by false is = let l = s.serves is in leaves_unanswered a d want v l.server l.turn r l.leaves b reply e
 
 -- the note is a grant's, behind which the client has started its call anew
-record HasGrant (note : Note) (x y : ClientState) (call : Call) : Type 0 where
+record HasGrant (note : Note) (w : Served) (x y : ClientState) (call : Call) : Type 0 where
   pub client : ℕ
-  pub batch : Batch
   pub count : ℕ
-  pub is : note ≡ Granted client batch count
+  pub is : note ≡ Granted client count
   pub added : List (ℕ × List ℕ)
-  pub started : Started (granted_to x (tags_of batch) added) y call
+  pub started : Started (granted_to x (tags_of w.batch) added) y call
 
 -- or its node is as it was
-regarded : (note : Note) (x y : ClientState) (call : Call) → Regards note x y call → (y.node ≡ x.node) ⊎ HasGrant note x y call
-regarded (Granted c batch names) x y call h = inr (record { client = c; batch = batch; count = names; is = refl; added = h.0; started = h.2 })
-regarded Quiet x y call h = inl h
-regarded Waits x y call h = inl h
-regarded (Answered b reply) x y call h = inl h
-regarded (Refused b why) x y call h = inl h
-regarded (Full b bound worn out) x y call h = inl h
-regarded (NoSlot b) x y call h = inl h
-regarded (Recycled old) x y call h = inl h
-regarded Unlinked x y call h = inl h
-regarded Unbound x y call h = inl h
-regarded (Swept count) x y call h = inl h
-regarded Unreached x y call h = inl h
-regarded (Busy b) x y call h = inl h
-regarded (Missing b) x y call h = inl h
+regarded : (note : Note) (w : Served) (x y : ClientState) (call : Call) → Regards note w x y call → (y.node ≡ x.node) ⊎ HasGrant note w x y call
+regarded (Granted c names) w x y call h = inr (record { client = c; count = names; is = refl; added = h.0; started = h.2 })
+regarded Quiet w x y call h = inl h
+regarded Waits w x y call h = inl h
+regarded (Answered b reply) w x y call h = inl h
+regarded (Refused b why) w x y call h = inl h
+regarded (Full b bound worn out) w x y call h = inl h
+regarded (NoSlot b) w x y call h = inl h
+regarded (Recycled old) w x y call h = inl h
+regarded Unlinked w x y call h = inl h
+regarded Unbound w x y call h = inl h
+regarded (Swept count) w x y call h = inl h
+regarded Unreached w x y call h = inl h
+regarded (Busy b) w x y call h = inl h
+regarded (Missing b) w x y call h = inl h
 
 -- a start keeps the names and the stock
 started_kept : (x y : ClientState) (call : Call) → Started x y call → (y.node.names ≡ x.node.names) × (y.node.stock ≡ x.node.stock)
@@ -158,6 +158,9 @@ module _ (o : Opening) (m : Parts) (rs : List Record) (at : IsAt o m rs) (i : �
   pool : IsPoolAt o q new
   pool = moved_pool o m.pool q rs r at.pool had.moved
 
+  recycler : IsRecyclerAt q w m.recycler (doing 0 new)
+  recycler = recycler_other rs r m.pool q m.served w m.recycler had.access None at.recycler (λ (e : suc i ≡ 0). absurd (omega (arith, e))) had.moved had.grows (served_counts (suc i) st.does x.want call m.served r serves)
+
   names : names_of w (stepped st.does r) ≡ y.node.names
   names = names_behind o q i y had.after w (stepped st.does r) running had.server had.stands behind
 
@@ -165,23 +168,23 @@ module _ (o : Opening) (m : Parts) (rs : List Record) (at : IsAt o m rs) (i : �
   none_ended : (c : ℕ) → ended c new ≡ ended c rs
   none_ended c = ended_more c rs r ∙ ended_unanswered c (doing c rs).task note had.access (ended c rs) (served_unanswered (suc i) st.does x.want call m.served r serves)
 
-  how : (y.node ≡ x.node) ⊎ HasGrant note x y call
-  how = regarded note x y call had.regards
+  how : (y.node ≡ x.node) ⊎ HasGrant note w x y call
+  how = regarded note w x y call had.regards
 
   cursors : Remembers y.node.names y.node.caller.cursors (ended (suc i) rs)
   cursors = go how
     where
-      go : (y.node ≡ x.node) ⊎ HasGrant note x y call → Remembers y.node.names y.node.caller.cursors (ended (suc i) rs)
+      go : (y.node ≡ x.node) ⊎ HasGrant note w x y call → Remembers y.node.names y.node.caller.cursors (ended (suc i) rs)
       go (inl same) = subst (λ (n : NodeState). Remembers n.names n.caller.cursors (ended (suc i) rs)) (sym same) was.cursors
-      go (inr g) = remembers_starts (granted_to x (tags_of g.batch) g.added) y call (ended (suc i) rs) g.started (remembers_more x.node.names g.added x.node.caller.cursors (ended (suc i) rs) was.cursors)
+      go (inr g) = remembers_starts (granted_to x (tags_of w.batch) g.added) y call (ended (suc i) rs) g.started (remembers_more x.node.names g.added x.node.caller.cursors (ended (suc i) rs) was.cursors)
 
   are : AreBindings y.node.names
   are = are_bindings y.node.names had.stands.holds.once (keys_behind o q i y had.after w.server running had.server had.stands)
 
   -- the call that started anew stands at its beginning
-  module _ (g : HasGrant note x y call) (called : y.node.caller.under ≢ NoCall) where
+  module _ (g : HasGrant note w x y call) (called : y.node.caller.under ≢ NoCall) where
     abbrev z : ClientState
-    z = granted_to x (tags_of g.batch) g.added
+    z = granted_to x (tags_of w.batch) g.added
 
     abbrev st1 : Standing
     st1 = standing_behind o (suc i) rs r
@@ -229,7 +232,7 @@ module _ (o : Opening) (m : Parts) (rs : List Record) (at : IsAt o m rs) (i : �
   goes : y.node.caller.under ≢ NoCall → GoesSoFar o.setup.pool (standing_behind o (suc i) rs r) y (call_at y (view_at q i))
   goes called = go how
     where
-      go : (y.node ≡ x.node) ⊎ HasGrant note x y call → GoesSoFar o.setup.pool (standing_behind o (suc i) rs r) y (call_at y (view_at q i))
+      go : (y.node ≡ x.node) ⊎ HasGrant note w x y call → GoesSoFar o.setup.pool (standing_behind o (suc i) rs r) y (call_at y (view_at q i))
       go (inl same) = absurd (called (ap (λ (n : NodeState). n.caller.under) same ∙ stands.phase.0.calls))
       go (inr g) = anew_goes g called
 
@@ -251,11 +254,12 @@ module _ (o : Opening) (m : Parts) (rs : List Record) (at : IsAt o m rs) (i : �
   alone_may slot named = may_begin y.node.names are y.node.caller.cursors (ended (suc i) new) slot (key_of call) (subst (Remembers y.node.names y.node.caller.cursors) (sym (none_ended (suc i))) cursors) named
 
   pub attended_client : IsAt o (with_step m i y w q) new
-  attended_client = pushed o m (with_step m i y w q) rs r at follows refl pool refl had.server (length-set m.clients i y)
+  attended_client = pushed o m (with_step m i y w q) rs r at follows refl pool refl had.server recycler (length-set m.clients i y)
       (each_set (λ (j : ℕ) (c : ClientState). IsClientAt o q j c new) m.clients i y mine others)
       (λ d above h. absurd (let l = was.stands.seat in omega arith))
       (legal_in o q new pool running)
       (found_behind o rs r q w.server at.found pool.setup running had.server pool.words (ap (λ (v : Served). v.server) (sym (served_more o.served rs r))))
+      (inl running)
       (alone_served o rs m.clients (set m.clients i y) i x y m.served w m.pool q note stands of matches side had at.alone (set_here m.clients i y x here) running (doing_own (suc i) rs r refl) (is_of o q i y new pool mine) alone_may)
 
   -- its access is none of a client

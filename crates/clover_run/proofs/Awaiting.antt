@@ -172,7 +172,7 @@ module _ (o : Opening) (i : ℕ) (x y : ClientState) (v w : Served) (p q : Plain
   -- the server works on
   works : n ≡ note.Quiet → left_by y.want w.server y (view_at q i) < left_by x.want v.server x (view_at p i)
   works e =
-      let same : y.node ≡ x.node = subst (λ (z : Note). Regards z x y call) e was.regards in
+      let same : y.node ≡ x.node = subst (λ (z : Note). Regards z w x y call) e was.regards in
       let idle : IsIdle y.node = subst IsIdle (sym same) may.stands.phase.0 in
       let a = idle_most w.server y (view_at q i) idle in
       let r : rounds y * round_size y.node.caller.pool ≡ rounds x * round_size x.node.caller.pool = ap (λ (z : NodeState). rounds (record x { node = z }) * round_size z.caller.pool) same in

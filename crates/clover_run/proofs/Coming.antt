@@ -27,12 +27,10 @@ use Rattle.clover_node.specs.declared.answer.NodeTurn.TheVariants.{More, Decided
 use Rattle.clover_node.specs.declared.counting.Counting.{Counting}
 use Rattle.clover_node.specs.declared.counting.Counting.TheVariants.{No, Names as CountsNames, Absence}
 use Rattle.clover_sched.specs.Stepping.{next_entry}
-use Rattle.clover_sched.specs.declared.event.CallRefusal.TheVariants as why
 use Rattle.clover_run.specs.Client.{Phase, Rests, Wants, Calls, Ends, IsOwnPhase, Stands, call_at, call_or}
 use Rattle.clover_run.specs.Run.{Opening}
 use Rattle.clover_run.specs.Stepping.{Accesses, Enters, IsFound, IsValue}
 use Rattle.clover_run.specs.declared.client.ClientState.{ClientState}
-use Rattle.clover_run.specs.declared.client.came.Came.TheVariants as came
 use Rattle.clover_run.proofs.Accessing.{open_apart}
 use Rattle.clover_run.proofs.CountLoads.{OnCount, absent_counts, on_count}
 use Rattle.clover_run.proofs.Deciding.{commit_adds, end_adds}

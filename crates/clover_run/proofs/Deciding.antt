@@ -4,7 +4,7 @@ use Rattle.std.proofs.Common.{◌≡◌, ◌≢◌, ℕ, ◌-◌, ◌^◌, ◌<�
 use Rattle.std.specs.Prelude.{Option, Some, None}
 use Rattle.clover_words.specs.Tag.{TagParts, tag_number}
 use Rattle.clover_words.specs.Version.{unlinked}
-use Rattle.clover_map.specs.History.{own, key_of, is_commit}
+use Rattle.clover_map.specs.History.{key_of, is_commit}
 use Rattle.clover_map.specs.declared.call.Call.{Call}
 use Rattle.clover_map.specs.declared.call.Entry.{Entry}
 use Rattle.clover_map.specs.declared.call.Reply.{Reply}

@@ -4,7 +4,6 @@ use Rattle.std.specs.Prelude.{Option, Some, None, ◌⊎◌}
 use Rattle.std.proofs.lemmas.Option.{same_Some}
 use Rattle.clover_map.specs.History.{key_of}
 use Rattle.clover_map.specs.declared.call.Call.{Call}
-use Rattle.clover_script.specs.Form.{call_in}
 use Rattle.clover_script.specs.declared.line.Task.{Task}
 use Rattle.clover_script.specs.declared.line.Task.TheVariants.{Client as ClientTask}
 use Rattle.clover_rule.specs.declared.access.Act.{Act}
@@ -76,7 +75,7 @@ called_own Ends x called h = tt
 
 -- the same task has the same call
 one_call : (t u : Option Task) (a b : Call) (m n : ℕ) → u ≡ t → t ≡ Some (ClientTask a m) → u ≡ Some (ClientTask b n) → b ≡ a
-one_call t u a b m n same first second = ap call_in (same_Some (ClientTask b n) (ClientTask a m) (sym second ∙ same ∙ first))
+one_call t u a b m n same first second = let task : ClientTask b n ≡ ClientTask a m = same_Some (ClientTask b n) (ClientTask a m) (sym second ∙ same ∙ first) in cc
 
 -- a call on no slot that has made an access wants names
 wants_names : (call : Call) (stock : List ℕ) (acts : List Act) (act : Act) → wants call None stock (acts ++ act ∷ []) ≡ Names
@@ -185,7 +184,7 @@ module _ (o : Opening) (i : ℕ) (f : Phase) (x y : ClientState) (p q : Plain) (
   -- where the task ends with the note, nothing is under way on a slot
   over : (st1 : Standing) → ends note ≡ true → st1.does ≡ stepped st.does r → y.node.caller.under ≢ NoCall → ⊥
   over st1 ended does called =
-      let none : (stepped st.does r).task ≡ None = ap (λ (b : Bool). (ended_if b (granted (entered (accessed st.does r.access) r.entry) note)).task) ended in
+      let none : (stepped st.does r).task ≡ None = ap (λ (b : Bool). (ended_if b (granted (entered (accessed st.does r.access) r.entry) r.served note)).task) ended in
       let task = own_task w.after y (view_at q i) (stepped st.does r) (called_own w.after y called w.stands.phase) (w.follows st of m).1.doing in
       let both : None ≡ Some (ClientTask (call_at y (view_at q i)) task.0) = sym none ∙ task.1 in
       absurd cc

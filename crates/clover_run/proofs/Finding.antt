@@ -1,5 +1,5 @@
 -- What is found at any moment in a pool that runs: from its root the chain of each bound slot leads over some tags to a tail, which has a version.
-use Rattle.std.proofs.Common.{◌≡◌, ◌⊎◌, ℕ, ◌<◌, List, [], ◌∷◌, ◌++◌, length, refl, sym, ap, ◌∙◌, subst, arith, inl, inr, append_assoc, append-nil}
+use Rattle.std.proofs.Common.{◌≡◌, ◌⊎◌, ℕ, ◌<◌, List, [], ◌∷◌, ◌++◌, length, sym, ap, ◌∙◌, subst, arith, inl, inr}
 use Rattle.std.specs.Prelude.{Some}
 use Rattle.clover_words.specs.declared.setup.Setup.{Setup}
 use Rattle.clover_rule.specs.Lists.{nth, Within}
@@ -20,13 +20,12 @@ use Rattle.clover_plain.proofs.Stepping.{nth_default}
 use Rattle.clover_server.specs.Server.{ServerState}
 use Rattle.clover_sched.specs.Alone.{HasChain}
 use Rattle.clover_sched.proofs.Finding.{from_root}
-use Rattle.clover_sched.proofs.Places.{same_snoc}
 use Rattle.clover_run.specs.Alone.{AllFound}
 use Rattle.clover_run.specs.Folds.{words_after, served_after}
 use Rattle.clover_run.specs.Record.{Record}
 use Rattle.clover_run.specs.Run.{Opening}
 use Rattle.clover_run.specs.Working.{HasServer}
-use Rattle.clover_run.proofs.Stretch.{ending}
+use Rattle.clover_run.proofs.Moments.{at_first, at_more}
 
 -- an element of two lists in a row is one of the first or of the second
 within_one : {A : Type 0} (x : A) (xs ys : List A) → Within x (xs ++ ys) → Within x xs ⊎ Within x ys
@@ -57,7 +56,7 @@ module _ (o : Opening) (p : Plain) (s : ServerState) (setup : p.setup ≡ o.setu
   met : Meets p.setup.pool p.first p.used p.words (p.views ++ p.absent) story (history p)
   met = running.rule.helped
 
-  is_serving : v.pass.role ≡ Serving
+  pub is_serving : v.pass.role ≡ Serving
   is_serving = running.roles p.setup.clients v (nth_default p.views p.setup.clients nobody server.seat) ∙ server_role p.setup p.setup.clients (omega arith)
 
   waiting_key : (T : ServerTask) → AtStage p.setup.pool (mem_of p.setup.pool p.words) story T → (slot : ℕ) (key : List ℕ) → Within (slot, key) (waiting_name T) → story.keys slot ≡ Some key
@@ -89,26 +88,18 @@ module _ (o : Opening) (p : Plain) (s : ServerState) (setup : p.setup ≡ o.setu
       let f = from_root o.setup.pool p.first p.used p.words (p.views ++ p.absent) story (history p) (met_in o p setup running) slot key (bound_key slot key named) in
       record { tags = f.tags; tail = f.tail; leads = f.leads; version = f.version; has = f.has }
 
+-- each slot that is bound behind these records has a chain
+abbrev BoundFound : Opening → List Record → Type 0
+BoundFound o rs = (slot : ℕ) (key : List ℕ) → Within (slot, key) (served_after o.served rs).server.directory.list → HasChain o.setup.pool (words_after o.setup.pool o.words rs) slot
+
 -- nothing is bound at the beginning
 pub found_first : (o : Opening) → o.served.server.directory.list ≡ [] → AllFound o []
-found_first o none before after slot key whole named = absurd (subst (Within (slot, key)) (subst (λ (l : List Record). (served_after o.served l).server.directory.list ≡ []) (nothing before after whole) none) named)
-  where
-    nothing : (xs ys : List Record) → [] ≡ xs ++ ys → [] ≡ xs
-    nothing [] ys e = refl
-    nothing (x ∷ xs) ys e = absurd cc
+found_first o none before after slot key whole = at_first (BoundFound o) (λ s k named. absurd (subst (Within (s, k)) none named)) before after whole slot key
 
 -- the chain of each bound slot behind one record more
 pub found_more : (o : Opening) (rs : List Record) (r : Record) → AllFound o rs
     → ((slot : ℕ) (key : List ℕ) → Within (slot, key) (served_after o.served (rs ++ r ∷ [])).server.directory.list → HasChain o.setup.pool (words_after o.setup.pool o.words (rs ++ r ∷ [])) slot) → AllFound o (rs ++ r ∷ [])
-found_more o rs r all now before after slot key whole named = go (ending after)
-  where
-    go : (after ≡ []) ⊎ ((ys : List Record) × (y : Record) × (after ≡ ys ++ y ∷ [])) → HasChain o.setup.pool (words_after o.setup.pool o.words before) slot
-    go (inl e) =
-        let here : rs ++ r ∷ [] ≡ before = whole ∙ ap (λ (l : List Record). before ++ l) e ∙ append-nil before in
-        subst (λ (l : List Record). HasChain o.setup.pool (words_after o.setup.pool o.words l) slot) here (now slot key (subst (λ (l : List Record). Within (slot, key) (served_after o.served l).server.directory.list) (sym here) named))
-    go (inr (ys, y, e)) =
-        let there : rs ++ r ∷ [] ≡ (before ++ ys) ++ y ∷ [] = whole ∙ ap (λ (l : List Record). before ++ l) e ∙ sym (append_assoc before ys (y ∷ [])) in
-        all before ys slot key (same_snoc rs (before ++ ys) r y there).0 named
+found_more o rs r all now before after slot key whole = at_more (BoundFound o) rs r (λ front back w s k named. all front back s k w named) now before after whole slot key
 
 -- the chains behind one record more are those of the pool and the server there
 pub found_behind : (o : Opening) (rs : List Record) (r : Record) (p : Plain) (s : ServerState) → AllFound o rs → p.setup ≡ o.setup → Running p → HasServer p s → p.words ≡ words_after o.setup.pool o.words (rs ++ r ∷ []) → s ≡ (served_after o.served (rs ++ r ∷ [])).server → AllFound o (rs ++ r ∷ [])

@@ -21,7 +21,6 @@ use Rattle.clover_rule.proofs.Keeping.{inside_of}
 use Rattle.clover_alloc.specs.Batch.{tags_of}
 use Rattle.clover_alloc.specs.Ledger.{Ledger, IsLedger}
 use Rattle.clover_alloc.specs.Taking.{Given, with_out}
-use Rattle.clover_alloc.specs.declared.batch.Batch.{Batch}
 use Rattle.clover_alloc.proofs.TakingLemmas.{due_within, due_serves, out_whole}
 use Rattle.clover_plain.specs.Handing.{Handed, numbers_of}
 use Rattle.clover_plain.specs.Plain.{Plain, history, view_at}
@@ -173,24 +172,23 @@ module _ (o : Opening) (i : ℕ) (x : ClientState) (v : Served) (p : Plain) (g :
 
   -- the server's side has granted what the call wants
   pub was_granted : (client : ℕ) → suc i ≡ client → (added : List (ℕ × List ℕ)) → added ≡ drop (length names) s.directory.list
-      → (batch : Batch) (s1 : ServerState) → s1 ≡ record s { books = s1.books } → TakesFor x.want s.books s.setup.batch (tags_of batch) s1.books
-      → Agrees p.setup.pool (tags_of batch) s1 sv → Each (λ (t : TagParts). InRange p.setup.pool (tag_number t)) (tags_of batch)
-      → (q : Plain) → Handed client (numbers_of batch) added p q → history q ≡ history p
-      → (y : ClientState) → ((call : Call) → x.call ≡ Some call → Started (granted_to x (tags_of batch) added) y call)
-      → (w : Served) → w ≡ record v { server = s1; holder = None } → (note : Note) → note ≡ Granted client batch (length added) → WasGranted i x y v w p q note
-  was_granted client is added rest batch s1 books takes ahead ranged q h same y started w side note note_is =
-      let given = subst (λ (k : ℕ). Handed k (numbers_of batch) added p q) (sym is) h in
+      → (s1 : ServerState) → s1 ≡ record s { books = s1.books } → (w : Served) → w ≡ record v { server = s1; holder = None; batch = w.batch } → TakesFor x.want s.books s.setup.batch (tags_of w.batch) s1.books
+      → Agrees p.setup.pool (tags_of w.batch) s1 sv → Each (λ (t : TagParts). InRange p.setup.pool (tag_number t)) (tags_of w.batch)
+      → (q : Plain) → Handed client (numbers_of w.batch) added p q → history q ≡ history p
+      → (y : ClientState) → ((call : Call) → x.call ≡ Some call → Started (granted_to x (tags_of w.batch) added) y call)
+      → (note : Note) → note ≡ Granted client (length added) → WasGranted i x y v w p q note
+  was_granted client is added rest s1 books w side takes ahead ranged q h same y started note note_is =
+      let given = subst (λ (k : ℕ). Handed k (numbers_of w.batch) added p q) (sym is) h in
       record {
-        batch = batch;
         books = s1.books;
         added = added;
         takes = takes;
         names = all_names added rest;
-        note_is = note_is ∙ ap (λ (k : ℕ). Granted k batch (length added)) (sym is);
-        side = side ∙ ap (λ (z : ServerState). let_go z v) books;
+        note_is = note_is ∙ ap (λ (k : ℕ). Granted k (length added)) (sym is);
+        side = side ∙ ap (λ (z : ServerState). record (let_go z v) { batch = w.batch }) books;
         handed = given;
         history_same = same;
-        holds = node_handed added rest s1 (tags_of batch) books ahead ranged q given same;
-        server = subst (λ (z : Served). HasServer q z.server) (sym side) (server_handed added rest s1 (tags_of batch) books ahead ranged q given same);
+        holds = node_handed added rest s1 (tags_of w.batch) books ahead ranged q given same;
+        server = subst (λ (z : Served). HasServer q z.server) (sym side) (server_handed added rest s1 (tags_of w.batch) books ahead ranged q given same);
         started = started;
       }

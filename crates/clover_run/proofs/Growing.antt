@@ -1,10 +1,10 @@
 -- A step of the server leaves the bindings as they are, or one more behind them.
-use Rattle.std.proofs.Common.{◌≡◌, ℕ, List, [], ◌∷◌, ◌++◌, Bool, true, false, refl, sym, ap, ◌∙◌, subst, append-nil}
+use Rattle.std.proofs.Common.{◌≡◌, ℕ, List, [], ◌∷◌, ◌++◌, Bool, true, false, refl, sym, ap, ◌∙◌, append-nil}
 use Rattle.std.specs.Prelude.{Option, Some, None}
 use Rattle.clover_words.specs.Tag.{TagParts}
 use Rattle.clover_map.specs.declared.call.Call.{Call}
 use Rattle.clover_map.specs.declared.call.Call.TheVariants.{Get, Put, Delete, Swap}
-use Rattle.clover_dir.specs.Directory.{Bindings, with_binding}
+use Rattle.clover_dir.specs.Directory.{with_binding}
 use Rattle.clover_dir.specs.Task.{UnderWay}
 use Rattle.clover_dir.specs.declared.stage.Stage.{Stage}
 use Rattle.clover_dir.specs.declared.stage.Stage.TheVariants.{Tombstone, FlushedTombstone, Key, FlushedKey, Root, FlushedRoot, Count, Over}
@@ -13,15 +13,16 @@ use Rattle.clover_recycle.specs.declared.turn.RecycleTurn.{RecycleTurn}
 use Rattle.clover_recycle.specs.declared.turn.RecycleTurn.TheVariants.{More as MoreOf, Unlinked as UnlinkedOf, Recycled as RecycledOf, Unreached as UnreachedOf}
 use Rattle.clover_rule.specs.Lists.{IsPrefix}
 use Rattle.clover_rule.specs.Steps.{Step}
-use Rattle.clover_server.specs.Going.{at_last, bind_outcome, recycle_outcome, refused, server_step, taken_in, went, work_on, answer_of}
+use Rattle.clover_server.specs.Going.{at_last, bind_outcome, recycle_outcome, refused, taken_in, went, work_on, answer_of}
 use Rattle.clover_server.specs.Server.{ServerState}
-use Rattle.clover_server.specs.Steps.{Due, Finishes, Sweeps, Recycles, Binds as BindsFor, Answers, Begins, FinishStep, OnAccess, WantStep, all_swept, ended, ended_if, named_due, stock_due, swept, swept_on, want_after}
+use Rattle.clover_server.specs.Steps.{Due, Finishes, Sweeps, Recycles, Binds as BindsFor, Answers, Begins, FinishStep, RecycleStep, WantStep, recycle_due, all_swept, ended, ended_if, named_due, stock_due, swept, swept_on, want_after}
 use Rattle.clover_server.specs.declared.turn.ServerTurn.{ServerTurn}
 use Rattle.clover_server.specs.declared.turn.ServerTurn.TheVariants.{More, Ready, Unlinked, Recycled, Full, NoSlot, Unreached}
 use Rattle.clover_server.specs.declared.work.Unfinished.{Unfinished}
 use Rattle.clover_server.specs.declared.work.Work.{Work}
 use Rattle.clover_server.specs.declared.work.Work.TheVariants.{Binding, Recycling}
 use Rattle.clover_server.proofs.Repeating.{access_leaves}
+use Rattle.clover_run.specs.Cleaning.{Cleans}
 use Rattle.clover_run.specs.Serving.{Binds, Clears, Serves, Telling}
 use Rattle.clover_run.specs.declared.want.Want.{Want}
 use Rattle.clover_run.specs.declared.want.Want.TheVariants.{Nothing, Stock, Names}
@@ -114,6 +115,12 @@ module _ (s n : ServerState) (r : ServerTurn) (made : Step → ℕ → Type 0) (
       (λ x m. let g = went_grows s x in (g.0, ap (λ (z : ServerState). z.directory.list) m.1 ∙ g.1))
       (λ m. grows_same s n (ap (λ (z : ServerState). z.directory.list) m.1))
 
+  -- and one of a recycling
+  pub recycling_grows : (due : Due) → RecycleStep due s n r made failed → Grows s n
+  recycling_grows due t = access_leaves r _ _ t.2
+      (λ x m. let g = went_grows t.0 x in (g.0, ap (λ (z : ServerState). z.directory.list) m.1 ∙ g.1 ∙ ap (λ (l : List (ℕ × List ℕ)). l ++ g.0) (begins_same s t.0 due t.1)))
+      (λ m. grows_same s n (ap (λ (z : ServerState). z.directory.list) m.1 ∙ begins_same s t.0 due t.1))
+
 -- a step of the server for a call
 module _ (s n : ServerState) (r : ServerTurn) (t : Telling) where
   binds_grows : (u : Option Unfinished) (key : List ℕ) → Binds u key s n r t → Grows s n
@@ -131,3 +138,8 @@ module _ (s n : ServerState) (r : ServerTurn) (t : Telling) where
   serves_grows Names (Get key) h = clears_grows s.task h
   serves_grows Names (Delete key) h = clears_grows s.task h
   serves_grows Names (Swap key expected value) h = clears_grows s.task h
+
+  -- and one for the recycler
+  pub cleans_grows : (slot : Option ℕ) → Cleans slot s n r t → Grows s n
+  cleans_grows (Some slot) h = recycling_grows s n r t.made t.failed t.still (recycle_due s slot) h
+  cleans_grows None h = finish_grows s n r t.made t.failed t.still h

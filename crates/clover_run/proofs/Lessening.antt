@@ -1,5 +1,5 @@
 -- That an access of a client's own call leaves less to do of its task.
-use Rattle.std.proofs.Common.{◌≡◌, ◌≢◌, ℕ, ◌+◌, ◌-◌, ◌*◌, ◌<◌, List, [], ◌∷◌, length, set, map, Bool, true, false, refl, sym, ap, ◌∙◌, subst, arith}
+use Rattle.std.proofs.Common.{◌≡◌, ◌≢◌, ℕ, suc, ◌+◌, ◌-◌, ◌*◌, ◌<◌, List, [], ◌∷◌, length, set, map, Bool, true, false, refl, sym, ap, ◌∙◌, subst, arith}
 use Rattle.std.specs.Prelude.{Option, Some, None}
 use Rattle.clover_words.specs.Tag.{TagParts, tag_number}
 use Rattle.clover_words.specs.declared.pool.Pool.{Pool}
@@ -38,12 +38,12 @@ use Rattle.clover_run.specs.declared.want.Want.TheVariants.{Nothing, Stock, Name
 
 -- a grant's note
 abbrev pub IsGrant : Note → Type 0
-IsGrant (note.Granted c batch names) = Unit {0}
+IsGrant (note.Granted c names) = Unit {0}
 IsGrant n = ⊥
 
 -- what a step leaves of what the actor has under way
-abbrev behind : Doing → Option Access → Option Entry → Note → Doing
-behind d x e n = ended_if (ends n) (granted (entered (accessed d x) e) n)
+abbrev behind : Doing → Option Access → Option Entry → Served → Note → Doing
+behind d x e w n = ended_if (ends n) (granted (entered (accessed d x) e) w n)
 
 -- an access leaves the task, the reply and the stock
 accessed_keeps : (d : Doing) (x : Option Access) → ((accessed d x).task ≡ d.task) × ((accessed d x).decided ≡ d.decided) × ((accessed d x).stock ≡ d.stock)
@@ -61,16 +61,16 @@ entered_open d None undone = (undone, refl)
 entered_open d (Some e) undone = absurd (let z : ◌≡◌ {A = Option Reply} (Some e.reply) None = undone in cc)
 
 -- Where a step that is no grant's leaves a call under way that is not decided, it was not decided before, and the stock is what it was.
-behind_open : (d : Doing) (x : Option Access) (e : Option Entry) (n : Note) → (IsGrant n → ⊥) → (behind d x e n).task ≢ None → (behind d x e n).decided ≡ None → (d.decided ≡ None) × ((behind d x e n).stock ≡ d.stock)
-behind_open d x e n quiet some undone = by n quiet some undone
+behind_open : (d : Doing) (x : Option Access) (e : Option Entry) (w : Served) (n : Note) → (IsGrant n → ⊥) → (behind d x e w n).task ≢ None → (behind d x e w n).decided ≡ None → (d.decided ≡ None) × ((behind d x e w n).stock ≡ d.stock)
+behind_open d x e w n quiet some undone = by n quiet some undone
   where
     goes : (entered (accessed d x) e).decided ≡ None → (d.decided ≡ None) × ((entered (accessed d x) e).stock ≡ d.stock)
     goes h = let k = accessed_keeps d x in let z = entered_open (accessed d x) e h in (sym k.1 ∙ z.0, z.1 ∙ k.2)
 
-    by : (n : Note) → (IsGrant n → ⊥) → (behind d x e n).task ≢ None → (behind d x e n).decided ≡ None → (d.decided ≡ None) × ((behind d x e n).stock ≡ d.stock)
+    by : (n : Note) → (IsGrant n → ⊥) → (behind d x e w n).task ≢ None → (behind d x e w n).decided ≡ None → (d.decided ≡ None) × ((behind d x e w n).stock ≡ d.stock)
     by note.Quiet quiet some undone = goes undone
     by note.Waits quiet some undone = goes undone
-    by (note.Granted c batch names) quiet some undone = absurd (quiet tt)
+    by (note.Granted c names) quiet some undone = absurd (quiet tt)
     by (note.Answered c reply) quiet some undone = absurd (some refl)
     by (note.Refused c y) quiet some undone = absurd (some refl)
     by (note.Full c bound worn out) quiet some undone = absurd (some refl)
@@ -88,7 +88,7 @@ own_grants : (p : Pool) (st : Standing) (r : Record) (x : Access) → IsOwnAcces
 own_grants p st r x own grant = by x.refused refl
   where
     cause : (n : Note) → IsGrant n → IsCause p st r.entry x.act n → ⊥
-    cause (note.Granted c batch names) g h = h
+    cause (note.Granted c names) g h = h
     cause note.Quiet g h = g
     cause note.Waits g h = g
     cause (note.Answered c reply) g h = g
@@ -190,7 +190,7 @@ module _ (o : Opening) (i : ℕ) (f : Phase) (x y : ClientState) (p q : Plain) (
   undone : (g : Phase) → Matches y (view_at q i) g next → next.task ≢ None → next.decided ≡ None → ((call : Call) × (x.call ≡ Some call)) × (rounds y ≡ rounds x)
   undone g k some none =
       let r = step_record st (Some w.access) w.entry n st.served in
-      let z = behind_open st.does (Some w.access) w.entry n (own_grants o.setup.pool st r w.access (w.follows st is m).0) some none in
+      let z = behind_open st.does (Some w.access) w.entry st.served n (own_grants o.setup.pool st r w.access (w.follows st is m).0) some none in
       let stock : if_empty y.node.stock ≡ if_empty x.node.stock = if_empty_same y.node.stock x.node.stock (sym k.stock ∙ z.1 ∙ m.stock) in
       let names : length y.node.names ≡ length x.node.names = ap length w.names in
       let slots : y.node.caller.pool.slots ≡ x.node.caller.pool.slots = ap (λ (z : Pool). z.slots) same_pool in
@@ -230,13 +230,13 @@ module _ (o : Opening) (i : ℕ) (f : Phase) (x y : ClientState) (p q : Plain) (
   pub own_less : left_by y.want s y (view_at q i) < left_by x.want s x (view_at p i)
   own_less = by w.after w.stands.phase (w.follows st is m).1
 
--- what is left of the actor's task where its client is this one
-pub left_at : (m : Parts) (a : ℕ) (x : ClientState) → nth m.clients (a - 1) ≡ Some x → left m a ≡ left_by x.want m.served.server x (view_at m.pool (a - 1))
-left_at m a x here = ap (left_of m (a - 1)) here
+-- what is left of a client's task
+pub left_at : (m : Parts) (i : ℕ) (x : ClientState) → nth m.clients i ≡ Some x → left m (suc i) ≡ left_by x.want m.served.server x (view_at m.pool i)
+left_at m i x here = ap (left_of m i) here
 
--- An actor's step that lowers what is left of its client lowers what is left of its task.
-pub left_less : (m : Parts) (a : ℕ) (x y : ClientState) (q : Plain) (w : Served) → nth m.clients (a - 1) ≡ Some x → left_by y.want w.server y (view_at q (a - 1)) < left_by x.want m.served.server x (view_at m.pool (a - 1)) → left (record m { pool = q; served = w; clients = set m.clients (a - 1) y }) a < left m a
-left_less m a x y q w here less =
-    let old = left_at m a x here in
-    let new = left_at (record m { pool = q; served = w; clients = set m.clients (a - 1) y }) a y (set_here m.clients (a - 1) y x here) in
+-- A step that lowers what is left of a client lowers what is left of its task.
+pub left_less : (m : Parts) (i : ℕ) (x y : ClientState) (q : Plain) (w : Served) → nth m.clients i ≡ Some x → left_by y.want w.server y (view_at q i) < left_by x.want m.served.server x (view_at m.pool i) → left (record m { pool = q; served = w; clients = set m.clients i y }) (suc i) < left m (suc i)
+left_less m i x y q w here less =
+    let old = left_at m i x here in
+    let new = left_at (record m { pool = q; served = w; clients = set m.clients i y }) i y (set_here m.clients i y x here) in
     omega (arith, old, new, less)

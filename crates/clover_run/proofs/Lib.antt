@@ -13,6 +13,7 @@ pub mod Outcomes
 pub mod Keeping
 pub mod Reaching
 pub mod Pasts
+pub mod Recyclers
 pub mod Onward
 pub mod Refusing
 pub mod NoAccess
@@ -21,7 +22,9 @@ pub mod Busies
 pub mod Happening
 pub mod Stretch
 pub mod Alone
+pub mod Moments
 pub mod Finding
+pub mod Freed
 pub mod Started
 pub mod Stepped
 pub mod ServedAlone
@@ -57,4 +60,14 @@ pub mod Occurring
 pub mod Workload
 pub mod Lessening
 pub mod Awaiting
+pub mod RecyclerStays
 pub mod OnlyWaiting
+pub mod CleaningTells
+pub mod BehindRecycler
+pub mod Cleaned
+pub mod Chores
+pub mod CleanedSteps
+pub mod RecyclerMoves
+pub mod Recycled
+pub mod RecyclerSteps
+pub mod RecyclerKept

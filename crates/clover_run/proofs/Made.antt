@@ -1,7 +1,6 @@
 -- The machine as it is made: a pool of words that are 0, the server's side with all buffers, and clients that have done nothing.
-use Rattle.std.proofs.Common.{◌≡◌, ℕ, ◌+◌, ◌≤◌, ◌<◌, suc, length, map, replicate, List, [], ◌∷◌, ◌++◌, Bool, true, false, refl, sym, ap, ◌∙◌, subst, arith}
-use Rattle.std.specs.FinMap as finite
-use Rattle.std.specs.Prelude.{Some, None, if◌then◌else◌}
+use Rattle.std.proofs.Common.{◌≡◌, ℕ, ◌+◌, ◌≤◌, ◌<◌, suc, length, map, replicate, List, [], Bool, true, false, refl, sym, ap, ◌∙◌, subst, arith}
+use Rattle.std.specs.Prelude.{Option, Some, None, if◌then◌else◌}
 use Rattle.std.proofs.lemmas.List.Elements.{All-nil}
 use Rattle.clover_words.specs.Tag.{TagParts, tag_number}
 use Rattle.clover_words.specs.Place.{pool_words}
@@ -13,7 +12,7 @@ use Rattle.clover_rule.specs.Moves.{nobody}
 use Rattle.clover_rule.specs.declared.access.Access.{Access}
 use Rattle.clover_rule.specs.declared.view.View.{View}
 use Rattle.clover_rule.proofs.Tools.{nth_within}
-use Rattle.clover_plain.specs.Plain.{Plain, IsFresh, first_view, history, view_at}
+use Rattle.clover_plain.specs.Plain.{Plain, IsFresh, Running, first_view, view_at}
 use Rattle.clover_plain.proofs.Opening.{client_role, server_role}
 use Rattle.clover_plain.proofs.Stepping.{nth_default}
 use Rattle.clover_walk.specs.Walking.{key_at}
@@ -21,14 +20,19 @@ use Rattle.clover_node.specs.Node.{NodeState, IsIdle}
 use Rattle.clover_server.specs.Holding.{Agrees}
 use Rattle.clover_sched.specs.Client.{HasLinked}
 use Rattle.clover_sched.specs.Ends.{IsLatest}
-use Rattle.clover_run.specs.Alone.{AllFound}
 use Rattle.clover_run.specs.Client.{IsFirst, Rests, Stands, Remembers, call_at}
-use Rattle.clover_run.specs.Folds.{served_after}
-use Rattle.clover_run.specs.Machine.{Parts, IsAt, IsClientAt, IsFirstSide, first_opening, first_served}
-use Rattle.clover_run.specs.Record.{Record}
+use Rattle.clover_run.specs.Folds.{nothing}
+use Rattle.clover_run.specs.Freed.{FreeLie}
+use Rattle.clover_run.specs.Machine.{Parts, IsAt, IsPoolAt, IsClientAt, IsFirstSide, first_opening}
+use Rattle.clover_run.specs.Recycling.{IsOnBound, IsRecyclerAt, chore_task}
 use Rattle.clover_run.specs.SoFar.{AloneSoFar}
 use Rattle.clover_run.specs.Working.{HasServer}
 use Rattle.clover_run.specs.declared.client.ClientState.{ClientState}
+use Rattle.clover_run.specs.declared.recycler.Chore.{Chore}
+use Rattle.clover_run.specs.declared.served.Served.{Served}
+use Rattle.clover_run.proofs.Finding.{found_first}
+use Rattle.clover_run.proofs.Freed.{free_lie}
+use Rattle.clover_run.proofs.Moments.{at_first}
 use Rattle.clover_run.proofs.Lacking.{free_lacks}
 
 -- what the pool is made as
@@ -39,16 +43,11 @@ pub record IsNew (s : Setup) (p : Plain) : Type 0 where
   pub views : (i : ℕ) (v : View) → nth p.views i ≡ Some v → v ≡ first_view s i
   pub fresh : IsFresh p
 
--- no front of no records has a last one
-no_front : (xs ys : List Record) → [] ≡ xs ++ ys → [] ≡ xs
-no_front [] ys e = refl
-no_front (x ∷ xs) ys e = absurd (let q : 0 ≡ suc (length (xs ++ ys)) = ap length e in omega arith)
-
 -- a client that has made no call remembers nothing
 remembers_first : (names : List (ℕ × List ℕ)) → Remembers names (record { last = None; list = [] }) []
 remembers_first names = record { last = refl; list = All-nil (λ (q : ℕ × TagParts). IsLatest (key_at names q.0) (tag_number q.1) [] × Within (q.0, key_at names q.0) names) }
 
-module _ (m : Parts) (s : Setup) (setup : m.setup ≡ s) (made : IsNew s m.pool) (side : IsFirstSide s m.served) (count : length m.clients ≡ s.clients) (firsts : (i : ℕ) (x : ClientState) → nth m.clients i ≡ Some x → IsFirst s (i + 1) x) where
+module _ (m : Parts) (s : Setup) (setup : m.setup ≡ s) (made : IsNew s m.pool) (side : IsFirstSide s m.served) (idle : (m.recycler.chore ≡ None) × (m.recycler.refusing ≡ false)) (count : length m.clients ≡ s.clients) (firsts : (i : ℕ) (x : ClientState) → nth m.clients i ≡ Some x → IsFirst s (i + 1) x) where
   view : (i : ℕ) → i ≤ s.clients → view_at m.pool i ≡ first_view s i
   view i below = made.views i (view_at m.pool i) (nth_default m.pool.views i nobody (omega (arith, below, made.seats)))
 
@@ -106,39 +105,49 @@ module _ (m : Parts) (s : Setup) (setup : m.setup ≡ s) (made : IsNew s m.pool)
         lacks = free_lacks x (view_at m.pool i) f.want;
       }
 
-  -- nothing is bound
-  found : AllFound (first_opening s) []
-  found before after slot key whole named =
-      absurd (subst (λ (l : List Record). Within (slot, key) (served_after (first_served s) l).server.directory.list) (sym (no_front before after whole)) named)
+  -- the recycler has no task, and nothing is read or done
+  recycler : IsRecyclerAt m.pool m.served m.recycler nothing
+  recycler = record {
+    task = ap chore_task (sym idle.0);
+    refusing = idle.1;
+    bound = subst (λ (k : Option Chore). IsOnBound k m.served) (sym idle.0) tt;
+    read = let e : m.served.read ≡ 0 = ap (λ (v : Served). v.read) side.value in omega arith;
+    done = let e : m.served.done ≡ 0 = ap (λ (v : Served). v.done) side.value in omega arith;
+  }
 
   none : (b : Bool) → ◌≡◌ {A = List Access} [] (if b then [] else [])
   none true = refl
   none false = refl
 
-  pub made_at : AloneSoFar (first_opening s) m.pool.words m.clients [] → IsAt (first_opening s) m []
-  made_at alone = record {
+  pool : IsPoolAt (first_opening s) m.pool []
+  pool = record {
+    setup = made.setup;
+    start = made.fresh.start ∙ made.words;
+    first = made.fresh.first;
+    used = made.fresh.used;
+    opened = made.fresh.opened;
+    whole = made.fresh.whole;
+    words = made.words;
+    entries = made.fresh.entries;
+    entered = made.fresh.entries ∙ sym made.fresh.history;
+    accesses = made.fresh.accesses ∙ none m.pool.traced;
+    made = made.fresh.made;
+    seats = made.seats;
+  }
+
+  pub made_at : Running m.pool → AloneSoFar (first_opening s) m.pool.words m.clients [] → IsAt (first_opening s) m []
+  made_at running alone = record {
     run = tt;
     setup = setup;
-    pool = record {
-      setup = made.setup;
-      start = made.fresh.start ∙ made.words;
-      first = made.fresh.first;
-      used = made.fresh.used;
-      opened = made.fresh.opened;
-      whole = made.fresh.whole;
-      words = made.words;
-      entries = made.fresh.entries;
-      entered = made.fresh.entries ∙ sym made.fresh.history;
-      accesses = made.fresh.accesses ∙ none m.pool.traced;
-      made = made.fresh.made;
-      seats = made.seats;
-    };
+    pool = pool;
     served = side.value;
     server = server;
+    recycler = recycler;
     clients = count;
     each = each;
     far = λ a above. refl;
     legal = tt;
-    found = found;
+    found = found_first (first_opening s) refl;
+    free = at_first (FreeLie (first_opening s)) (free_lie (first_opening s) [] m.pool m.served.server m.clients pool running server (ap (λ (v : Served). v.server) side.value) count each);
     alone = alone;
   }

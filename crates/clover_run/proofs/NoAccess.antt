@@ -1,11 +1,12 @@
 -- The machine stands behind one record more that has no access: a begin that is turned away, a refuse, or a step of an actor without a task.
-use Rattle.std.proofs.Common.{◌≡◌, ◌≢◌, ℕ, ◌+◌, ◌≤◌, ◌<◌, suc, set, List, [], ◌∷◌, ◌++◌, Bool, true, false, refl, sym, ap, ◌∙◌, subst, arith, append-nil, ltb, inl, inr}
+use Rattle.std.proofs.Common.{◌≡◌, ◌≢◌, ℕ, ◌≤◌, ◌<◌, suc, set, List, [], ◌∷◌, ◌++◌, Bool, true, false, refl, sym, ap, ◌∙◌, subst, arith, append-nil, ltb, inl, inr}
 use Rattle.std.specs.Prelude.{Option, Some, None, if◌then◌else◌}
 use Rattle.std.proofs.lemmas.Bool.{lt-ltb, le-ltb}
 use Rattle.std.proofs.lemmas.List.{length-set}
 use native.Mathlib.Decide.{ℕ_discrete}
 use mathlib.Core.Logic.{dite}
 use Rattle.clover_map.specs.Legal.{Legal}
+use Rattle.clover_map.specs.declared.call.Call.{Call}
 use Rattle.clover_map.specs.declared.call.Entry.{Entry}
 use Rattle.clover_script.specs.declared.line.Task.{Task}
 use Rattle.clover_script.specs.declared.line.Task.TheVariants.{Client as ClientTask}
@@ -24,13 +25,14 @@ use Rattle.clover_run.specs.Ends.{ended}
 use Rattle.clover_run.specs.Folds.{Doing, entries_in, served_after, doing, does, names_of}
 use Rattle.clover_run.specs.Machine.{Parts, IsAt, IsPoolAt, IsClientAt}
 use Rattle.clover_run.specs.Record.{Record}
+use Rattle.clover_run.specs.Recycling.{IsRecyclerAt}
 use Rattle.clover_run.specs.Run.{Opening, Standing, Follows, IsStepOf, standing, begin_note}
 use Rattle.clover_run.specs.SoFar.{AloneSoFar}
 use Rattle.clover_run.specs.declared.client.ClientState.{ClientState}
 use Rattle.clover_run.specs.declared.event.Note.{Note}
 use Rattle.clover_run.specs.declared.event.Note.TheVariants.{Quiet, Busy, Missing}
 use Rattle.clover_run.specs.declared.served.Served.{Served}
-use Rattle.clover_run.proofs.Pasts.{entries_more, words_more, served_more, ended_more, ended_still}
+use Rattle.clover_run.proofs.Pasts.{entries_more, words_more, served_more, ended_more, ended_still, doing_own, doing_other}
 use Rattle.clover_run.proofs.Alone.{alone_aside}
 use Rattle.clover_run.proofs.Finding.{found_more}
 use Rattle.clover_run.proofs.Onward.{pushed, goes_as, goes_same, other_client, own_client, standing_behind, each_set, with_client, moved_pool}
@@ -116,10 +118,17 @@ module _ (o : Opening) (m : Parts) (rs : List Record) (at : IsAt o m rs) where
   goes_still : (e : Event) (note : Note) (i : ℕ) (x : ClientState) → nth m.clients i ≡ Some x → (d : Doing) → d ≡ doing (suc i) rs → names_of m.served d ≡ (standing o (suc i) rs).names
   goes_still e note i x here d same = λ j. names_of (at.served j) (same j)
 
+  others_recycler : (e : Event) (note : Note) → actor_of e ≢ 0 → IsRecyclerAt m.pool m.served m.recycler (doing 0 (rs ++ stays e note ∷ []))
+  others_recycler e note apart = subst (IsRecyclerAt m.pool m.served m.recycler) (sym (doing_other 0 rs (stays e note) apart)) at.recycler
+
   -- nothing is another
   pub stayed : (e : Event) (note : Note) → Follows o rs (stays e note) → ((d : Doing) → does d (stays e note) e ≡ d) → AloneSoFar o m.pool.words m.clients (rs ++ stays e note ∷ []) → IsAt o m (rs ++ stays e note ∷ [])
-  stayed e note follows same alone = pushed o m m rs (stays e note) at follows refl (still_pool e note) refl at.server refl each (λ d above h. ap (λ (z : Doing). z.task) (same d) ∙ h) (still_legal e note) (still_found e note) alone
+  stayed e note follows same alone = pushed o m m rs (stays e note) at follows refl (still_pool e note) refl at.server kept refl each (λ d above h. ap (λ (z : Doing). z.task) (same d) ∙ h) (still_legal e note) (still_found e note) (inr (refl, refl)) alone
     where
+      kept : IsRecyclerAt m.pool m.served m.recycler (doing 0 (rs ++ stays e note ∷ []))
+      kept = subst (IsRecyclerAt m.pool m.served m.recycler)
+          (sym (dite (ℕ_discrete (actor_of e) 0) (λ h. doing_own 0 rs (stays e note) h ∙ same (doing 0 rs)) (λ h. doing_other 0 rs (stays e note) h))) at.recycler
+
       each : (i : ℕ) (x : ClientState) → nth m.clients i ≡ Some x → IsClientAt o m.pool i x (rs ++ stays e note ∷ [])
       each i x here =
           let was = at.each i x here in
@@ -143,12 +152,12 @@ module _ (o : Opening) (m : Parts) (rs : List Record) (at : IsAt o m rs) where
   pub changed : (i : ℕ) (x y : ClientState) (f : Phase) (e : Event) (note : Note) → nth m.clients i ≡ Some x → actor_of e ≡ suc i → Follows o rs (stays e note) → Stands o m.pool i y f → Matches y (view_at m.pool i) f (does (doing (suc i) rs) (stays e note) e)
       → names_of m.served (does (doing (suc i) rs) (stays e note) e) ≡ y.node.names → Remembers y.node.names y.node.caller.cursors (ended (suc i) rs) → (y.node.caller.under ≢ NoCall → GoesSoFar o.setup.pool (standing_behind o (suc i) rs (stays e note)) y (call_at y (view_at m.pool i))) → LacksNames y (view_at m.pool i)
       → AloneSoFar o m.pool.words (set m.clients i y) (rs ++ stays e note ∷ []) → IsAt o (with_client m i y) (rs ++ stays e note ∷ [])
-  changed i x y f e note here actor follows stands matches names cursors goes lacks alone = pushed o m (with_client m i y) rs (stays e note) at follows refl (still_pool e note) refl at.server (length-set m.clients i y)
+  changed i x y f e note here actor follows stands matches names cursors goes lacks alone = pushed o m (with_client m i y) rs (stays e note) at follows refl (still_pool e note) refl at.server (others_recycler e note (λ (h : actor_of e ≡ 0). omega (arith, h, actor))) (length-set m.clients i y)
       (each_set (λ (j : ℕ) (z : ClientState). IsClientAt o m.pool j z (rs ++ stays e note ∷ [])) m.clients i y
       (own_client o m.pool i y f rs (stays e note) actor stands matches names (subst (Remembers y.node.names y.node.caller.cursors) (sym (ends_none (suc i) e note)) cursors) goes lacks)
       (λ j z apart there. other_still e note j z there (λ (s : actor_of e ≡ suc j). apart (omega (arith, s, actor)))))
       (λ d above h. absurd (absent i x here (subst (λ (b : ℕ). o.setup.clients < b) actor above)))
-      (still_legal e note) (still_found e note) alone
+      (still_legal e note) (still_found e note) (inr (refl, refl)) alone
 
   if_true : (b : Bool) (x y : Note) → b ≡ true → (if b then x else y) ≡ x
   if_true true x y e = refl
@@ -159,46 +168,40 @@ module _ (o : Opening) (m : Parts) (rs : List Record) (at : IsAt o m rs) where
   if_false false y z e = refl
 
   -- an actor that there is not
-  begin_missing : (a : ℕ) (t : Task) → o.setup.clients < a → Missing a ≡ begin_note o.setup (doing a rs) a t
-  begin_missing a (ClientTask call written) above = sym (if_true _ _ _ (lt-ltb o.setup.clients a above))
+  begin_missing : (a : ℕ) (call : Call) (written : ℕ) → o.setup.clients < a → Missing a ≡ begin_note o.setup (served_after o.served rs) (doing a rs) a (ClientTask call written)
+  begin_missing a call written above = sym (if_true _ _ _ (lt-ltb o.setup.clients a above))
 
   -- an actor whose task is not over
-  busy_note : (i : ℕ) (x : ClientState) → nth m.clients i ≡ Some x → (d : Doing) (s u : Task) → d.task ≡ Some s → begin_note o.setup d (suc i) u ≡ Busy (suc i)
-  busy_note i x here d s (ClientTask call written) e =
-      ap (λ (z : Option Task). begin_note o.setup (record d { task = z }) (suc i) (ClientTask call written)) e
+  busy_note : (i : ℕ) (x : ClientState) → nth m.clients i ≡ Some x → (d : Doing) (s : Task) (call : Call) (written : ℕ) → d.task ≡ Some s → begin_note o.setup (served_after o.served rs) d (suc i) (ClientTask call written) ≡ Busy (suc i)
+  busy_note i x here d s call written e =
+      ap (λ (z : Option Task). begin_note o.setup (served_after o.served rs) (record d { task = z }) (suc i) (ClientTask call written)) e
       ∙ if_false (ltb o.setup.clients (suc i)) (Missing (suc i)) (Busy (suc i)) (le-ltb o.setup.clients (suc i) (seated i x here))
 
   -- it starts no call
   pub silent : (e : Event) (note : Note) (clients : List ClientState) → ((c : ℕ) → Starts c e note → ⊥) → AloneSoFar o m.pool.words clients (rs ++ stays e note ∷ [])
   silent e note clients none = alone_aside o rs (stays e note) m.pool.words m.pool.words m.clients clients at.alone (λ c call written s t f. none c s) (no_step e note)
 
-  pub begun_missing : (a : ℕ) (t : Task) → o.setup.clients < a → IsAt o m (rs ++ stays (Begin a t) (Missing a) ∷ [])
-  begun_missing a t above = stayed (Begin a t) (Missing a) (record { access = refl; entry = refl; note_is = begin_missing a t above; served = at.served }) (λ d. refl) (silent (Begin a t) (Missing a) m.clients (λ c s. s))
+  pub begun_missing : (a : ℕ) (call : Call) (written : ℕ) → o.setup.clients < a → IsAt o m (rs ++ stays (Begin a (ClientTask call written)) (Missing a) ∷ [])
+  begun_missing a call written above = stayed (Begin a (ClientTask call written)) (Missing a) (record { access = refl; entry = refl; note_is = begin_missing a call written above; served = at.served }) (λ d. refl) (silent (Begin a (ClientTask call written)) (Missing a) m.clients (λ c s. s))
 
-  pub begun_busy : (i : ℕ) (x : ClientState) (t : Task) → nth m.clients i ≡ Some x → HasTask x → IsAt o m (rs ++ stays (Begin (suc i) t) (Busy (suc i)) ∷ [])
-  begun_busy i x t here busy = stayed (Begin (suc i) t) (Busy (suc i)) (record { access = refl; entry = refl; note_is = told; served = at.served }) (λ d. refl) (silent (Begin (suc i) t) (Busy (suc i)) m.clients (λ c s. s))
+  pub begun_busy : (i : ℕ) (x : ClientState) (call : Call) (written : ℕ) → nth m.clients i ≡ Some x → HasTask x → IsAt o m (rs ++ stays (Begin (suc i) (ClientTask call written)) (Busy (suc i)) ∷ [])
+  begun_busy i x call written here busy = stayed (Begin (suc i) (ClientTask call written)) (Busy (suc i)) (record { access = refl; entry = refl; note_is = told; served = at.served }) (λ d. refl) (silent (Begin (suc i) (ClientTask call written)) (Busy (suc i)) m.clients (λ c s. s))
     where
-      told : Busy (suc i) ≡ begin_note o.setup (doing (suc i) rs) (suc i) t
-      told = let was = at.each i x here in let s = task_some o m.pool i x was.phase (view_at m.pool i) (doing (suc i) rs) busy was.stands was.matches in sym (busy_note i x here (doing (suc i) rs) s.0 t s.1)
+      told : Busy (suc i) ≡ begin_note o.setup (served_after o.served rs) (doing (suc i) rs) (suc i) (ClientTask call written)
+      told = let was = at.each i x here in let s = task_some o m.pool i x was.phase (view_at m.pool i) (doing (suc i) rs) busy was.stands was.matches in sym (busy_note i x here (doing (suc i) rs) s.0 call written s.1)
 
   -- an actor with no task steps
-  idled : (a : ℕ) → (doing a rs).task ≡ None → IsAt o m (rs ++ stays (Step a) Quiet ∷ [])
+  pub idled : (a : ℕ) → (doing a rs).task ≡ None → IsAt o m (rs ++ stays (Step a) Quiet ∷ [])
   idled a none = stayed (Step a) Quiet (record {
     accesses = tt;
     is = subst (λ (t : Option Task). IsStepOf o.setup.pool (standing o a rs) t (stays (Step a) Quiet)) (sym none) (record { access = refl; entry = refl; note_is = refl; served = at.served });
   }) (λ d. refl) (silent (Step a) Quiet m.clients (λ c s. s))
 
-  pub idled_far : (a : ℕ) → o.setup.clients < a → IsAt o m (rs ++ stays (Step a) Quiet ∷ [])
-  idled_far a above = idled a (at.far a above)
-
-  pub idled_client : (i : ℕ) (x : ClientState) → nth m.clients i ≡ Some x → (HasTask x → ⊥) → IsAt o m (rs ++ stays (Step (suc i)) Quiet ∷ [])
-  idled_client i x here idle = let was = at.each i x here in idled (suc i) (task_none o m.pool i x was.phase (view_at m.pool i) (doing (suc i) rs) idle was.stands was.matches)
-
   -- the next access of an actor is to be refused
   pub refused_far : (a : ℕ) → o.setup.clients < a → IsAt o m (rs ++ stays (Refuse a) Quiet ∷ [])
-  refused_far a above = pushed o m m rs (stays (Refuse a) Quiet) at (record { access = refl; entry = refl; note_is = refl; served = at.served }) refl (still_pool (Refuse a) Quiet) refl at.server refl
+  refused_far a above = pushed o m m rs (stays (Refuse a) Quiet) at (record { access = refl; entry = refl; note_is = refl; served = at.served }) refl (still_pool (Refuse a) Quiet) refl at.server (others_recycler (Refuse a) Quiet (λ (h : a ≡ 0). omega (arith, h, above))) refl
       (λ i x here. other_still (Refuse a) Quiet i x here (λ (e : a ≡ suc i). absent i x here (subst (λ (b : ℕ). o.setup.clients < b) e above)))
-      (λ d over h. h) (still_legal (Refuse a) Quiet) (still_found (Refuse a) Quiet) (silent (Refuse a) Quiet m.clients (λ c s. s))
+      (λ d over h. h) (still_legal (Refuse a) Quiet) (still_found (Refuse a) Quiet) (inr (refl, refl)) (silent (Refuse a) Quiet m.clients (λ c s. s))
 
   pub refused_client : (i : ℕ) (x : ClientState) → nth m.clients i ≡ Some x → IsAt o (with_client m i (refusing x)) (rs ++ stays (Refuse (suc i)) Quiet ∷ [])
   refused_client i x here =

@@ -1,5 +1,5 @@
 -- What the machine's steps of a client with a task come to, by what the client, or the server's side for it, did; and that want of memory changes nothing.
-use Rattle.std.proofs.Common.{◌≡◌, ◌≢◌, ◌⊎◌, ℕ, ◌+◌, ◌-◌, ◌<◌, suc, length, set, get_or, cond, List, [], ◌++◌, Bool, true, false, inl, inr, refl, sym, ap, ◌∙◌, subst, arith}
+use Rattle.std.proofs.Common.{◌≡◌, ◌≢◌, ◌⊎◌, ℕ, ◌+◌, ◌<◌, suc, length, set, get_or, cond, List, [], ◌++◌, Bool, true, false, inl, inr, refl, sym, ap, ◌∙◌, subst, arith}
 use Rattle.std.specs.Prelude.{Some, Result, Ok, Err, IfOk, OnErr, if◌then◌else◌}
 use Rattle.std.proofs.lemmas.Result.{IfOk-weaker}
 use Rattle.clover_list.specs.declared.memory.OutOfMemory.{OutOfMemory}
@@ -18,12 +18,14 @@ use Rattle.clover_run.specs.Folds.{accesses_in, doing}
 use Rattle.clover_run.specs.Left.{left, left_by}
 use Rattle.clover_run.specs.Machine.{Parts, IsAt, IsBehind, IsSame, IsBusy, IsClientAt, Continues, Happens, OnlyWaits, WaitsFor, WantsNothing}
 use Rattle.clover_run.specs.Record.{Record}
+use Rattle.clover_run.specs.Recycling.{IsRecyclerAt}
 use Rattle.clover_run.specs.Run.{Opening, standing}
 use Rattle.clover_run.specs.Served.{is_elsewhere}
 use Rattle.clover_run.specs.Working.{HasServer, MayServe, WasServed}
 use Rattle.clover_run.specs.SoFar.{AloneSoFar}
 use Rattle.clover_run.specs.declared.client.ClientState.{ClientState}
 use Rattle.clover_run.specs.declared.event.Note.{Note}
+use Rattle.clover_run.specs.declared.recycler.Recycler.{Recycler}
 use Rattle.clover_run.specs.declared.served.Served.{Served}
 use Rattle.clover_run.specs.declared.want.Want.TheVariants.{Nothing}
 use Rattle.clover_run.proofs.Attended.{attended_client, attended_told}
@@ -63,6 +65,7 @@ kept_at o m n rs same at =
       };
       served = same.served ∙ at.served;
       server = subst (λ (v : Served). HasServer n.pool v.server) (sym same.served) (server_kept m.pool n.pool k m.served.server at.server);
+      recycler = recycler;
       clients = ap length same.clients ∙ at.clients;
       each = λ i x here. let was = at.each i x (subst (λ (l : List ClientState). nth l i ≡ Some x) same.clients here) in record {
         phase = was.phase;
@@ -76,22 +79,25 @@ kept_at o m n rs same at =
       far = at.far;
       legal = at.legal;
       found = at.found;
+      free = at.free;
       alone = subst (λ (ws : List ℕ). AloneSoFar o ws n.clients rs) (sym k.words) (subst (λ (cs : List ClientState). AloneSoFar o m.pool.words cs rs) (sym same.clients) at.alone);
     }
   where
+    recycler : IsRecyclerAt n.pool n.served n.recycler (doing 0 rs)
+    recycler = subst (λ (v : Served). IsRecyclerAt n.pool v n.recycler (doing 0 rs)) (sym same.served)
+        (subst (λ (x : Recycler). IsRecyclerAt n.pool m.served x (doing 0 rs)) (sym same.recycler)
+        (record { task = at.recycler.task; refusing = at.recycler.refusing; bound = at.recycler.bound; read = at.recycler.read; done = (let d = at.recycler.done in let e = same.pool.made in omega arith) }))
+
     view : (i : ℕ) → view_at n.pool i ≡ view_at m.pool i
     view i = ap (λ (vs : List View). get_or vs i nobody) same.pool.views
 
 -- a step that found no memory
 pub same_parts : (m : Parts) (i : ℕ) (x y : ClientState) (w : Served) (q : Plain) → nth m.clients i ≡ Some x → y ≡ x → w ≡ m.served → Kept m.pool q → IsSame m (with_step m i y w q)
-same_parts m i x y w q here e side k = record { setup = refl; pool = k; served = side; clients = ap (set m.clients i) e ∙ set_same m.clients i x here }
+same_parts m i x y w q here e side k = record { setup = refl; pool = k; served = side; recycler = refl; clients = ap (set m.clients i) e ∙ set_same m.clients i x here }
 
 -- a step that lowers what is left of the client at this seat lowers what is left of its actor's task
 seat_less : (m : Parts) (i a : ℕ) → suc i ≡ a → (x y : ClientState) (w : Served) (q : Plain) → nth m.clients i ≡ Some x → left_by y.want w.server y (view_at q i) < left_by x.want m.served.server x (view_at m.pool i) → left (with_step m i y w q) a < left m a
-seat_less m i a seat x y w q here less =
-    let place : i ≡ a - 1 = omega arith in
-    subst (λ (n : ℕ). left (with_step m n y w q) a < left m a) (sym place)
-    (left_less m a x y q w (subst (λ (n : ℕ). nth m.clients n ≡ Some x) place here) (subst (λ (n : ℕ). left_by y.want w.server y (view_at q n) < left_by x.want m.served.server x (view_at m.pool n)) place less))
+seat_less m i a seat x y w q here less = subst (λ (b : ℕ). left (with_step m i y w q) b < left m b) seat (left_less m i x y q w here less)
 
 -- what is read at the seat of an actor that has a task and wants nothing
 pub record OwnSeat (m : Parts) (i a : ℕ) (x : ClientState) : Type 0 where
@@ -103,13 +109,12 @@ pub record OwnSeat (m : Parts) (i a : ℕ) (x : ClientState) : Type 0 where
 pub own_seat : (m p : Parts) (i a : ℕ) (x : ClientState) → m ≡ p → i + 1 ≡ a → IsBusy p a → WantsNothing (nth p.clients i) → x ≡ get_or m.clients i x → OwnSeat m i a x
 own_seat m p i a x same seat busy own read =
     let b : IsBusy m a = subst (λ (z : Parts). IsBusy z a) (sym same) busy in
-    let inside = busy_within m a b in
-    let here : nth m.clients i ≡ Some x = nth_here m.clients i x (omega arith) read in
-    let place : i ≡ a - 1 = omega arith in
+    let place : suc i ≡ a = omega arith in
+    let here : nth m.clients i ≡ Some x = nth_here m.clients i x (busy_within m i a place b) read in
     record {
-      seat = omega arith;
+      seat = place;
       here = here;
-      has = busy_here m a x (subst (λ (n : ℕ). nth m.clients n ≡ Some x) place here) b;
+      has = busy_here m i a x place here b;
       free = subst WantsNothing (ap (λ (z : Parts). nth z.clients i) (sym same) ∙ here) own;
     }
 
@@ -229,7 +234,7 @@ module _ (m : Parts) (i a : ℕ) (seat : suc i ≡ a) (x : ClientState) (here : 
       where
         go : (b : Bool) → is_elsewhere m.served.holder (suc i) ≡ b → is_elsewhere m.served.holder (suc i) ≡ false
         go false e = e
-        go true e = absurd (not (i, seat, subst (WaitsFor m.served a) (sym here) (some, subst (λ (n : ℕ). is_elsewhere m.served.holder n ≡ true) seat e)))
+        go true e = absurd (not (subst (OnlyWaits m) seat (subst (WaitsFor m.served (suc i)) (sym here) (some, e))))
 
     less_served : (note : Note) → GoesServed m a x y w q note → IsBehind m → (OnlyWaits m a → ⊥) → left (with_step m i y w q) a < left m a
     less_served note went (o, rs, at) not =

@@ -5,7 +5,7 @@ use Rattle.std.specs.Prelude.{Option, Some, None}
 use Rattle.clover_words.specs.declared.pool.Pool.{Pool}
 use Rattle.clover_words.specs.declared.setup.Setup.{Setup}
 use Rattle.clover_words.specs.Tag.{TagParts, tag_number}
-use Rattle.clover_map.specs.History.{own, key_of}
+use Rattle.clover_map.specs.History.{key_of}
 use Rattle.clover_map.specs.declared.call.Call.{Call}
 use Rattle.clover_rule.specs.Lists.{Within}
 use Rattle.clover_rule.specs.Steps.{Step, act_of, reply_of}
@@ -36,7 +36,7 @@ use Rattle.clover_sched.proofs.Going.{number_same}
 use Rattle.clover_sched.proofs.Linking.{linked_more, lost_commit}
 use Rattle.clover_sched.proofs.Turns.{quiet_history, quiet_act}
 use Rattle.clover_run.specs.Client.{Phase, Rests, Calls, Ends, IsOwnPhase, Stands, IsDoing, Went, call_at, since_of}
-use Rattle.clover_run.specs.Folds.{Doing, stepped}
+use Rattle.clover_run.specs.Folds.{Doing}
 use Rattle.clover_run.specs.Run.{Opening}
 use Rattle.clover_run.specs.Stepping.{Accesses}
 use Rattle.clover_run.specs.declared.client.ClientState.{ClientState}

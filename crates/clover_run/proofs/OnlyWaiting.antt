@@ -1,20 +1,18 @@
--- The machine stands behind a step that only waits; and whether an actor has a task, by the records.
+-- The machine stands behind a step that only waits, and behind one of an actor without a task; and whether an actor has one, by the records.
 use Prim.Native.Nat.{zero, suc}
-use Rattle.std.proofs.Common.{◌≡◌, ◌≢◌, ℕ, ◌-◌, ◌≤◌, ◌<◌, List, [], ◌∷◌, ◌++◌, length, true, false, refl, sym, ap, ◌∙◌, subst, arith, inl, inr}
+use Rattle.std.proofs.Common.{◌≡◌, ◌≢◌, ℕ, List, [], ◌∷◌, ◌++◌, true, false, refl, sym, ap, ◌∙◌, subst, arith}
 use Rattle.std.specs.Prelude.{Option, Some, None}
-use Rattle.std.proofs.lemmas.Bool.Decides.{leb_tells}
 use Rattle.clover_words.specs.declared.pool.Pool.{Pool}
 use Rattle.clover_map.specs.History.{key_of}
 use Rattle.clover_map.specs.declared.call.Call.{Call}
 use Rattle.clover_script.specs.declared.line.Task.{Task}
-use Rattle.clover_script.specs.declared.line.Task.TheVariants.{Client as ClientTask}
 use Rattle.clover_rule.specs.Lists.{nth}
 use Rattle.clover_rule.specs.declared.access.Access.{Access}
-use Rattle.clover_rule.specs.declared.view.View.{View}
-use Rattle.clover_plain.specs.Plain.{Plain, view_at}
+use Rattle.clover_rule.proofs.Tools.{nth_past}
+use Rattle.clover_plain.specs.Plain.{view_at}
 use Rattle.clover_sched.specs.declared.event.Event.TheVariants.{Step}
-use Rattle.clover_run.specs.Client.{Phase, Rests, Wants, Calls, Ends, IsDoing, IsIn, Stands, call_at}
-use Rattle.clover_run.specs.Folds.{Doing, doing, served_after}
+use Rattle.clover_run.specs.Client.{Phase, Rests, Wants, Calls, Ends, IsDoing, IsIn, call_at}
+use Rattle.clover_run.specs.Folds.{doing}
 use Rattle.clover_run.specs.Machine.{Parts, IsAt, IsBusy, IsTasked, IsTold, Happens, OnlyWaits, WaitsFor}
 use Rattle.clover_run.specs.Record.{Record}
 use Rattle.clover_run.specs.Run.{Opening, Standing, IsStepFor, IsStepOf, standing, want_in}
@@ -22,11 +20,12 @@ use Rattle.clover_run.specs.Served.{is_elsewhere}
 use Rattle.clover_run.specs.Serving.{IsServed}
 use Rattle.clover_run.specs.Wanting.{slot_for, wants}
 use Rattle.clover_run.specs.declared.client.ClientState.{ClientState}
-use Rattle.clover_run.specs.declared.event.Note.TheVariants.{Waits}
+use Rattle.clover_run.specs.declared.event.Note.TheVariants.{Quiet, Waits}
 use Rattle.clover_run.specs.declared.served.Served.{Served}
 use Rattle.clover_run.specs.declared.want.Want.{Want}
 use Rattle.clover_run.specs.declared.want.Want.TheVariants.{Nothing, Stock, Names}
-use Rattle.clover_run.proofs.NoAccess.{silent, stayed, stays, task_none, task_some}
+use Rattle.clover_run.proofs.NoAccess.{idled, silent, stayed, stays, task_none, task_some}
+use Rattle.clover_run.proofs.RecyclerStays.{recycler_tasked, recycler_untasked, recycler_waited}
 
 -- a step that serves whatever is wanted serves this
 for_want : (p : Pool) (st : Standing) (call : Call) (r : Record) (w : Want) → w ≢ Nothing → ((u : Want) → IsServed st.actor st.does u call st.served r) → IsStepFor p st call w r
@@ -78,33 +77,29 @@ module _ (o : Opening) (m : Parts) (rs : List Record) (at : IsAt o m rs) where
   tasked i (Some x) e busy none = let was = at.each i x e in let t = task_some o m.pool i x was.phase (view_at m.pool i) (doing (suc i) rs) busy was.stands was.matches in let no : Some t.0 ≡ None = sym t.1 ∙ none in cc
 
   pub busy_task : (a : ℕ) → IsBusy m a → (doing a rs).task ≢ None
-  busy_task a (i, is, busy) = subst (λ (b : ℕ). (doing b rs).task ≢ None) is (tasked i (nth m.clients i) refl busy)
+  busy_task zero busy = recycler_tasked o m rs at busy
+  busy_task (suc i) busy = tasked i (nth m.clients i) refl busy
 
-  untasked : (i : ℕ) (z : Option ClientState) → nth m.clients i ≡ z → (IsTasked z → ⊥) → z ≢ None → (doing (suc i) rs).task ≡ None
-  untasked i None e idle some = absurd (some refl)
-  untasked i (Some x) e idle some = let was = at.each i x e in task_none o m.pool i x was.phase (view_at m.pool i) (doing (suc i) rs) idle was.stands was.matches
+  untasked : (i : ℕ) (z : Option ClientState) → nth m.clients i ≡ z → (IsTasked z → ⊥) → (doing (suc i) rs).task ≡ None
+  untasked i None e idle = at.far (suc i) (let l = nth_past m.clients i e in let n = at.clients in omega arith)
+  untasked i (Some x) e idle = let was = at.each i x e in task_none o m.pool i x was.phase (view_at m.pool i) (doing (suc i) rs) idle was.stands was.matches
 
-  pub idle_none : (a : ℕ) → 1 ≤ a → (IsBusy m a → ⊥) → (doing a rs).task ≡ None
-  idle_none a one idle =
-      let same : suc (a - 1) ≡ a = omega arith in
-      elim (leb_tells a o.setup.clients) [
-        | inl few ↦ subst (λ (b : ℕ). (doing b rs).task ≡ None) same
-            (untasked (a - 1) (nth m.clients (a - 1)) refl (λ busy. idle (a - 1, same, busy)) (there m.clients (a - 1) (omega (arith, at.clients))))
-        | inr many ↦ at.far a (omega arith)
-      ]
-    where
-      there : {A : Type 0} (xs : List A) (i : ℕ) → i < length xs → nth xs i ≢ None
-      there [] i below e = absurd (omega arith)
-      there (x ∷ xs) zero below e = cc
-      there (x ∷ xs) (suc i) below e = there xs i (omega arith) e
+  pub idle_none : (a : ℕ) → (IsBusy m a → ⊥) → (doing a rs).task ≡ None
+  idle_none zero idle = recycler_untasked o m rs at idle
+  idle_none (suc i) idle = untasked i (nth m.clients i) refl idle
 
--- a step that only waits happens, and the machine stays
+no_access : (x : Access) → None ≡ Some x → ⊥
+no_access x e = cc
+
+-- a step of an actor without a task happens, and the machine stays
+pub idle_happens : (m : Parts) (a : ℕ) → (IsBusy m a → ⊥) → Happens m m (Step a) Quiet
+idle_happens m a idle o rs at = (_, refl, refl, idled o m rs at a (idle_none o m rs at a idle), λ z j q. absurd (no_access z q))
+
+-- and so does one that only waits
 pub waits_happens : (m : Parts) (a : ℕ) → OnlyWaits m a → Happens m m (Step a) Waits
-waits_happens m a (i, is, waits) o rs at = by (nth m.clients i) refl waits
+waits_happens m zero w o rs at = (stays o m rs at (Step 0) Waits, refl, refl, recycler_waited o m rs at w.1 w.0, λ z j q. absurd (no_access z q))
+waits_happens m (suc i) w o rs at = by (nth m.clients i) refl w
   where
-    none_made : (x : Access) → None ≡ Some x → ⊥
-    none_made x e = cc
-
-    by : (z : Option ClientState) → nth m.clients i ≡ z → WaitsFor m.served a z → (r : Record) × (r.event ≡ Step a) × (r.note ≡ Waits) × IsAt o m (rs ++ r ∷ []) × IsTold m r
+    by : (z : Option ClientState) → nth m.clients i ≡ z → WaitsFor m.served (suc i) z → (r : Record) × (r.event ≡ Step (suc i)) × (r.note ≡ Waits) × IsAt o m (rs ++ r ∷ []) × IsTold m r
     by None e w = absurd w
-    by (Some x) e w = (stays o m rs at (Step (suc i)) Waits, ap Step is, refl, waited o m rs at i x e w.0 (subst (λ (b : ℕ). is_elsewhere m.served.holder b ≡ true) (sym is) w.1), λ z j q. absurd (none_made z q))
+    by (Some x) e w = (stays o m rs at (Step (suc i)) Waits, refl, refl, waited o m rs at i x e w.0 w.1, λ z j q. absurd (no_access z q))

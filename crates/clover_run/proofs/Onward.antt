@@ -1,5 +1,5 @@
 -- The machine stands behind one record more: what that owes, and what a client that the record is not of keeps.
-use Rattle.std.proofs.Common.{◌≡◌, ◌≢◌, ℕ, ◌+◌, ◌≤◌, ◌<◌, suc, length, set, take, List, [], ◌∷◌, ◌++◌, Bool, true, false, refl, sym, ap, ◌∙◌, subst, arith, append-nil, ne_eqb, ⊎_elim, option_to_list}
+use Rattle.std.proofs.Common.{◌≡◌, ◌≢◌, ℕ, ◌≤◌, ◌<◌, suc, length, set, take, List, [], ◌∷◌, ◌++◌, Bool, true, false, refl, sym, ap, ◌∙◌, subst, arith, append-nil, ne_eqb, ⊎_elim, option_to_list}
 use Rattle.std.specs.Prelude.{Option, Some, None, ◌==◌, if◌then◌else◌, IfSome}
 use Rattle.std.proofs.lemmas.List.{length-take, take-append-le}
 use Rattle.std.proofs.lemmas.List.Elements.{filter-append}
@@ -32,25 +32,28 @@ use Rattle.clover_run.specs.Ends.{ended}
 use Rattle.clover_run.specs.Folds.{Doing, accesses_in, entries_in, served_after, doing, does, names_of}
 use Rattle.clover_run.specs.Machine.{Parts, IsAt, IsPoolAt, IsClientAt}
 use Rattle.clover_run.specs.Record.{Record}
+use Rattle.clover_run.specs.Recycling.{IsRecyclerAt}
 use Rattle.clover_run.specs.Run.{Opening, Standing, Follows, standing, own_tag, first_of}
 use Rattle.clover_run.specs.SoFar.{AloneSoFar}
 use Rattle.clover_run.specs.Wanting.{slot_for}
 use Rattle.clover_run.specs.Working.{HasServer}
 use Rattle.clover_run.specs.declared.client.ClientState.{ClientState}
 use Rattle.clover_run.specs.declared.served.Served.{Served}
+use Rattle.clover_run.proofs.Freed.{RunsOrStays, free_behind}
 use Rattle.clover_run.proofs.Pasts.{accesses_more, entries_more, words_more, made_more, served_more, goes_more, doing_own, doing_other}
 
 -- one record more, from what it owes
-pub pushed : (o : Opening) (m n : Parts) (rs : List Record) (r : Record) → IsAt o m rs → Follows o rs r → n.setup ≡ m.setup → IsPoolAt o n.pool (rs ++ r ∷ []) → n.served ≡ r.served → HasServer n.pool n.served.server → length n.clients ≡ length m.clients
+pub pushed : (o : Opening) (m n : Parts) (rs : List Record) (r : Record) → IsAt o m rs → Follows o rs r → n.setup ≡ m.setup → IsPoolAt o n.pool (rs ++ r ∷ []) → n.served ≡ r.served → HasServer n.pool n.served.server → IsRecyclerAt n.pool n.served n.recycler (doing 0 (rs ++ r ∷ [])) → length n.clients ≡ length m.clients
     → ((i : ℕ) (x : ClientState) → nth n.clients i ≡ Some x → IsClientAt o n.pool i x (rs ++ r ∷ []))
     → ((d : Doing) → o.setup.clients < actor_of r.event → d.task ≡ None → (does d r r.event).task ≡ None)
-    → Legal o.first o.used (entries_in (rs ++ r ∷ [])) → AllFound o (rs ++ r ∷ []) → AloneSoFar o n.pool.words n.clients (rs ++ r ∷ []) → IsAt o n (rs ++ r ∷ [])
-pushed o m n rs r at follows setup pool served server clients each far legal found alone = record {
+    → Legal o.first o.used (entries_in (rs ++ r ∷ [])) → AllFound o (rs ++ r ∷ []) → RunsOrStays m n → AloneSoFar o n.pool.words n.clients (rs ++ r ∷ []) → IsAt o n (rs ++ r ∷ [])
+pushed o m n rs r at follows setup pool served server recycler clients each far legal found runs alone = record {
   run = goes_more o [] rs r at.run follows;
   setup = setup ∙ at.setup;
   pool = pool;
   served = served ∙ sym (served_more o.served rs r);
   server = server;
+  recycler = recycler;
   clients = clients ∙ at.clients;
   each = each;
   far = λ a above. dite (ℕ_discrete (actor_of r.event) a)
@@ -58,6 +61,7 @@ pushed o m n rs r at follows setup pool served server clients each far legal fou
       (λ e. ap (λ (d : Doing). d.task) (doing_other a rs r e) ∙ at.far a above);
   legal = legal;
   found = found;
+  free = free_behind o m n rs r at pool server (served ∙ sym (served_more o.served rs r)) (clients ∙ at.clients) each runs;
   alone = alone;
 }
 

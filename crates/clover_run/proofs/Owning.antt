@@ -1,5 +1,5 @@
 -- The machine behind a step of a client's own: the record is one of its own in the run, and the machine stands behind it.
-use Rattle.std.proofs.Common.{◌≡◌, ◌≢◌, ℕ, suc, set, List, [], ◌∷◌, ◌++◌, Bool, true, false, refl, sym, ap, ◌∙◌, subst, arith, append-nil}
+use Rattle.std.proofs.Common.{◌≡◌, ◌≢◌, ℕ, suc, set, List, [], ◌∷◌, ◌++◌, Bool, true, false, refl, sym, ap, ◌∙◌, subst, arith, append-nil, inl}
 use Rattle.std.specs.Prelude.{Option, Some, IfSome}
 use Rattle.std.proofs.lemmas.List.{length-set}
 use Rattle.std.proofs.lemmas.Option.{same_Some, IfSome_then}
@@ -13,7 +13,7 @@ use Rattle.clover_rule.specs.Lists.{nth}
 use Rattle.clover_rule.specs.Names.{KeysOnce}
 use Rattle.clover_rule.specs.declared.access.Access.{Access}
 use Rattle.clover_rule.specs.declared.access.Actor.TheVariants.{Client}
-use Rattle.clover_rule.proofs.Steps.{set_here}
+use Rattle.clover_rule.proofs.Steps.{prefix_self, set_here}
 use Rattle.clover_plain.specs.Plain.{Plain, Running, view_at}
 use Rattle.clover_call.specs.declared.under.Underway.TheVariants.{Nothing as NoCall}
 use Rattle.clover_sched.specs.Client.{IsLast}
@@ -23,6 +23,7 @@ use Rattle.clover_run.specs.Ends.{ended}
 use Rattle.clover_run.specs.Folds.{doing, ends, names_of, stepped}
 use Rattle.clover_run.specs.Machine.{Parts, IsAt, IsPoolAt, IsClientAt, IsTold}
 use Rattle.clover_run.specs.Record.{Record}
+use Rattle.clover_run.specs.Recycling.{IsRecyclerAt}
 use Rattle.clover_run.specs.Run.{Opening, Standing, Follows, IsCause, IsEntry, IsOwn, IsOwnAccess, IsStepFor, IsStepOf, standing}
 use Rattle.clover_run.specs.Working.{HasServer}
 use Rattle.clover_run.specs.declared.client.ClientState.{ClientState}
@@ -36,6 +37,7 @@ use Rattle.clover_run.proofs.Finding.{found_behind}
 use Rattle.clover_run.proofs.Onward.{pushed, is_of, other_client, own_client, standing_behind, each_set, with_step, stands_on, moved_pool}
 use Rattle.clover_run.proofs.Pasts.{AnswersOnly, ended_more, ended_other, ended_unanswered, served_more}
 use Rattle.clover_run.proofs.Recalling.{went_remembers}
+use Rattle.clover_run.proofs.Recyclers.{recycler_other}
 use Rattle.clover_run.proofs.Stepped.{alone_went}
 
 -- a note of an own access answers its client alone
@@ -96,6 +98,9 @@ module _ (o : Opening) (m : Parts) (rs : List Record) (at : IsAt o m rs) (i : �
   server : HasServer q m.served.server
   server = server_same m.pool q m.served.server (Some w.access) w.entry at.pool.opened w.moved (w.others m.pool.setup.clients not_server) at.server
 
+  recycler : IsRecyclerAt q m.served m.recycler (doing 0 new)
+  recycler = recycler_other rs r m.pool q m.served m.served m.recycler (Some w.access) w.entry at.recycler (λ (e : suc i ≡ 0). absurd (omega (arith, e))) w.moved (prefix_self m.served.server.directory.list) (refl, refl)
+
   side : r.served ≡ m.served
   side = sym at.served
 
@@ -129,11 +134,12 @@ module _ (o : Opening) (m : Parts) (rs : List Record) (at : IsAt o m rs) (i : �
       ([], sym (append-nil r.served.server.directory.list))
 
   pub owned_client : IsAt o (with_step m i y m.served q) new
-  owned_client = pushed o m (with_step m i y m.served q) rs r at follows refl pool at.served server (length-set m.clients i y)
+  owned_client = pushed o m (with_step m i y m.served q) rs r at follows refl pool at.served server recycler (length-set m.clients i y)
       (each_set (λ (j : ℕ) (z : ClientState). IsClientAt o q j z new) m.clients i y mine others)
       (λ d above h. absurd (let l = was.stands.seat in omega arith))
       (legal_in o q new pool running)
       (found_behind o rs r q m.served.server at.found pool.setup running server pool.words (ap (λ (v : Served). v.server) (at.served ∙ sym (served_more o.served rs r))))
+      (inl running)
       (alone_went o rs m.clients (set m.clients i y) i was.phase x y m.pool q note own was.stands of was.matches w at.alone here (set_here m.clients i y x here))
 
   -- the access is the last that the client was told

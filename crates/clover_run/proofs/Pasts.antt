@@ -7,7 +7,7 @@ use Rattle.clover_map.specs.History.{key_of}
 use Rattle.clover_map.specs.declared.call.Entry.{Entry}
 use Rattle.clover_map.specs.declared.call.Reply.{Reply}
 use Rattle.clover_script.specs.declared.line.Task.{Task}
-use Rattle.clover_script.specs.declared.line.Task.TheVariants.{Client as ClientTask}
+use Rattle.clover_script.specs.declared.line.Task.TheVariants.{Client as ClientTask, Recycle, Sweep}
 use Rattle.clover_rule.specs.declared.access.Access.{Access}
 use Rattle.clover_sched.specs.Folds.{words_by, made_by, actor_of}
 use Rattle.clover_run.specs.Ends.{with_end, end_tags, ended_by, ended_from, ended}
@@ -57,13 +57,15 @@ ended_more c rs r = ended_from_more c nothing [] rs r
 -- a note that answers nothing ends no call
 pub ended_unanswered : (c : ℕ) (task : Option Task) (note : Note) (x : Option Access) (h : List (List ℕ × ℕ)) → ((b : ℕ) (reply : Reply) → note ≡ Answered b reply → ⊥) → ended_by c task note x h ≡ h
 ended_unanswered c None note x h none = refl
+ended_unanswered c (Some (Recycle slot)) note x h none = refl
+ended_unanswered c (Some Sweep) note x h none = refl
 ended_unanswered c (Some (ClientTask call n)) Quiet x h none = refl
 ended_unanswered c (Some (ClientTask call n)) Waits x h none = refl
 ended_unanswered c (Some (ClientTask call n)) (Answered b reply) x h none = absurd (none b reply refl)
 ended_unanswered c (Some (ClientTask call n)) (Refused b why) x h none = refl
 ended_unanswered c (Some (ClientTask call n)) (Full b bound worn out) x h none = refl
 ended_unanswered c (Some (ClientTask call n)) (NoSlot b) x h none = refl
-ended_unanswered c (Some (ClientTask call n)) (Granted b batch names) x h none = refl
+ended_unanswered c (Some (ClientTask call n)) (Granted b names) x h none = refl
 ended_unanswered c (Some (ClientTask call n)) (Recycled old) x h none = refl
 ended_unanswered c (Some (ClientTask call n)) Unlinked x h none = refl
 ended_unanswered c (Some (ClientTask call n)) Unbound x h none = refl
@@ -75,13 +77,15 @@ ended_unanswered c (Some (ClientTask call n)) (Missing b) x h none = refl
 -- where no access was made no call ended
 pub ended_still : (c : ℕ) (task : Option Task) (note : Note) (h : List (List ℕ × ℕ)) → ended_by c task note None h ≡ h
 ended_still c None note h = refl
+ended_still c (Some (Recycle slot)) note h = refl
+ended_still c (Some Sweep) note h = refl
 ended_still c (Some (ClientTask call n)) Quiet h = refl
 ended_still c (Some (ClientTask call n)) Waits h = refl
 ended_still c (Some (ClientTask call n)) (Answered b reply) h = refl
 ended_still c (Some (ClientTask call n)) (Refused b why) h = refl
 ended_still c (Some (ClientTask call n)) (Full b bound worn out) h = refl
 ended_still c (Some (ClientTask call n)) (NoSlot b) h = refl
-ended_still c (Some (ClientTask call n)) (Granted b batch names) h = refl
+ended_still c (Some (ClientTask call n)) (Granted b names) h = refl
 ended_still c (Some (ClientTask call n)) (Recycled old) h = refl
 ended_still c (Some (ClientTask call n)) Unlinked h = refl
 ended_still c (Some (ClientTask call n)) Unbound h = refl
@@ -100,6 +104,8 @@ ended_other c a task note x h only apart = go task note x only
   where
     go : (t : Option Task) (n : Note) (y : Option Access) → AnswersOnly a n → ended_by c t n y h ≡ h
     go None n y only = refl
+    go (Some (Recycle slot)) n y only = refl
+    go (Some Sweep) n y only = refl
     go (Some (ClientTask call k)) n None only = ended_still c (Some (ClientTask call k)) n h
     go (Some (ClientTask call k)) (Answered b reply) (Some y) only = ap (λ (z : Bool). if z then with_end (key_of call) (end_tags reply y.act) h else h) (ne_eqb b c (λ e. apart (sym (only b reply refl) ∙ e)))
     go (Some (ClientTask call k)) Quiet (Some y) only = refl
@@ -107,7 +113,7 @@ ended_other c a task note x h only apart = go task note x only
     go (Some (ClientTask call k)) (Refused b why) (Some y) only = refl
     go (Some (ClientTask call k)) (Full b bound worn out) (Some y) only = refl
     go (Some (ClientTask call k)) (NoSlot b) (Some y) only = refl
-    go (Some (ClientTask call k)) (Granted b batch names) (Some y) only = refl
+    go (Some (ClientTask call k)) (Granted b names) (Some y) only = refl
     go (Some (ClientTask call k)) (Recycled old) (Some y) only = refl
     go (Some (ClientTask call k)) Unlinked (Some y) only = refl
     go (Some (ClientTask call k)) Unbound (Some y) only = refl

@@ -1,21 +1,17 @@
 -- Where a client stands that wanted something of the server, once a step of the server has changed the pool and the client.
 use Prim.Native.Nat.{suc}
-use Rattle.std.proofs.Common.{◌≡◌, ◌≢◌, ℕ, ◌+◌, ◌<◌, ◌≤◌, ◌⊎◌, inl, inr, List, [], ◌∷◌, ◌++◌, length, get_or, Bool, true, false, if◌then◌else◌, append-nil, refl, sym, ap, ◌∙◌, subst, arith, option_to_list}
+use Rattle.std.proofs.Common.{◌≡◌, ℕ, ◌⊎◌, inl, inr, List, [], ◌++◌, length, Bool, true, false, if◌then◌else◌, append-nil, refl, sym, ap, ◌∙◌, subst}
 use Rattle.std.specs.Prelude.{Option, Some, None}
 use Rattle.std.proofs.lemmas.Option.{same_Some}
 use Rattle.clover_words.specs.declared.bytes.ValueBuf.{ValueBuf}
-use Rattle.clover_words.specs.declared.setup.Setup.{Setup}
-use Rattle.clover_words.specs.Tag.{TagParts}
 use Rattle.clover_map.specs.History.{own}
 use Rattle.clover_map.specs.declared.call.Call.{Call}
 use Rattle.clover_map.specs.declared.call.Entry.{Entry}
-use Rattle.clover_rule.specs.Moves.{nobody}
-use Rattle.clover_rule.specs.Rule.{longest}
 use Rattle.clover_rule.specs.declared.access.Access.{Access}
 use Rattle.clover_rule.specs.declared.access.Act.{Act}
 use Rattle.clover_rule.specs.declared.view.View.{View}
 use Rattle.clover_plain.specs.Handing.{Handed}
-use Rattle.clover_plain.specs.Plain.{Kept, Plain, Running, history, view_at}
+use Rattle.clover_plain.specs.Plain.{Plain, history, view_at}
 use Rattle.clover_call.specs.Caller.{CallHolds, CallerState}
 use Rattle.clover_call.specs.declared.under.Underway.{Underway}
 use Rattle.clover_call.specs.declared.under.Underway.TheVariants.{Nothing as NoCall, Get as GetUnder, Write}
@@ -27,8 +23,7 @@ use Rattle.clover_node.specs.Node.{NodeState, NodeHolds, IsAsked, IsIdle, IsUnde
 use Rattle.clover_node.specs.declared.answer.NodeRefusal.TheVariants.{NeedsStock}
 use Rattle.clover_node.specs.declared.counting.Counting.{Counting}
 use Rattle.clover_sched.specs.Client.{HasLinked, LinkedAt}
-use Rattle.clover_sched.specs.Folds.{made_by, words_by}
-use Rattle.clover_run.specs.Client.{Calls, IsCall, IsIn, Moved, Phase, Rests, Stands, Started, Wants, call_at, call_or, granted_to}
+use Rattle.clover_run.specs.Client.{Calls, IsCall, IsIn, Moved, Phase, Stands, Started, Wants, call_at, call_or}
 use Rattle.clover_run.specs.Run.{Opening}
 use Rattle.clover_run.specs.declared.client.ClientState.{ClientState}
 use Rattle.clover_run.specs.declared.want.Want.TheVariants.{Nothing, Stock}

@@ -4,11 +4,10 @@ use Rattle.std.specs.Prelude.{Option, Some, None}
 use Rattle.clover_map.specs.History.{key_of}
 use Rattle.clover_map.specs.declared.call.Call.{Call}
 use Rattle.clover_map.specs.declared.call.Call.TheVariants.{Get, Put, Delete, Swap}
-use Rattle.clover_rule.specs.Steps.{Step}
 use Rattle.clover_server.specs.Going.{went, answer_of}
 use Rattle.clover_server.specs.Looking.{free_in, room_of}
 use Rattle.clover_server.specs.Server.{ServerState}
-use Rattle.clover_server.specs.Steps.{Due, Finishes, Sweeps, Recycles, Binds as BindsFor, Answers, FinishStep, OnAccess, WantStep, all_swept, by_room, ended, full_if, full_turn, named_due, or_finish, stock_due, swept_on, swept_turn, want_turn}
+use Rattle.clover_server.specs.Steps.{Due, Finishes, Sweeps, Recycles, Binds as BindsFor, Answers, OnAccess, WantStep, all_swept, by_room, full_if, full_turn, named_due, or_finish, stock_due, swept_on, swept_turn}
 use Rattle.clover_server.specs.Told.{IsWantTurn}
 use Rattle.clover_server.specs.Whole.{IsNamed}
 use Rattle.clover_node.specs.Node.{IsPut}

@@ -78,7 +78,7 @@ module _ (names : List (ℕ × List ℕ)) (are : AreBindings names) (c s : ℕ) 
   remembers_step (Refused b why) only on sets = stays sets
   remembers_step (Full b bound worn out) only on sets = stays sets
   remembers_step (NoSlot b) only on sets = stays sets
-  remembers_step (Granted b batch added) only on sets = stays sets
+  remembers_step (Granted b added) only on sets = stays sets
   remembers_step (Recycled t) only on sets = stays sets
   remembers_step Unlinked only on sets = stays sets
   remembers_step Unbound only on sets = stays sets

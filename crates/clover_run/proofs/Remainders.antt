@@ -5,7 +5,6 @@ use Rattle.std.proofs.lemmas.List.Elements.{All-nil, All-cons}
 use Rattle.clover_script.specs.declared.line.Line.{Line}
 use Rattle.clover_script.specs.declared.line.Line.TheVariants as line
 use Rattle.clover_script.specs.declared.line.Task.{Task}
-use Rattle.clover_script.specs.declared.line.Task.TheVariants.{Client as ClientTask}
 use Rattle.clover_sched.specs.declared.event.Event.TheVariants.{Begin, Step}
 use Rattle.clover_sched.specs.declared.event.Event.{Event}
 use Rattle.clover_run.specs.declared.event.Note.{Note}
@@ -17,10 +16,9 @@ use Rattle.clover_run.specs.Folds.{doing}
 use Rattle.clover_run.specs.Lines.{Calls, IsTurnedAway, CoversLine, WaitsLast}
 use Rattle.clover_run.specs.Machine.{Parts, Continues, IsAt, IsBusy, OnlyWaits, Happens}
 use Rattle.clover_run.specs.Record.{Record}
-use Rattle.clover_run.specs.Run.{Opening, Fits, standing}
-use Rattle.clover_run.specs.Running.{IsPartOf, IsPartOrAll, IsSilent, steps_line, actor_in, Leaves, IsLeft, Comes, Advances}
-use Rattle.clover_run.proofs.OnlyWaiting.{idle_none, waits_happens}
-use Rattle.clover_run.proofs.Happening.{quiet_happens}
+use Rattle.clover_run.specs.Run.{Opening}
+use Rattle.clover_run.specs.Running.{IsPartOf, IsPartOrAll, IsSilent, steps_line, Leaves, IsLeft, Comes, Advances}
+use Rattle.clover_run.proofs.OnlyWaiting.{idle_happens, idle_none, waits_happens}
 use Rattle.clover_run.proofs.Waiting.{last_follows, follows_waits, idle_silent, waits_silent}
 
 none_long : (rs : List Record) → length rs ≤ 0 → rs ≡ []
@@ -83,18 +81,18 @@ module _ (o : Opening) (m : Parts) (a : ℕ) (note : Note) (happens : Happens m 
       )
 
 -- An actor without a task makes as many steps as it is asked for, and nothing changes.
-pub idle_steps : (o : Opening) (m : Parts) (a : ℕ) → 1 ≤ a → (IsBusy m a → ⊥) → (n : ℕ) (rs : List Record) → IsAt o m rs → (more : List Record) × IsAt o m (rs ++ more) × Comes (line.Step a n) None rs more
-idle_steps o m a one idle = silent_steps o m a Quiet (quiet_happens m a one idle) (λ rs r at next is note. idle_silent o a rs r (last_follows o [] rs r next.run) is (idle_none o m rs at a one idle))
+pub idle_steps : (o : Opening) (m : Parts) (a : ℕ) → (IsBusy m a → ⊥) → (n : ℕ) (rs : List Record) → IsAt o m rs → (more : List Record) × IsAt o m (rs ++ more) × Comes (line.Step a n) None rs more
+idle_steps o m a idle = silent_steps o m a Quiet (idle_happens m a idle) (λ rs r at next is note. idle_silent o a rs r (last_follows o [] rs r next.run) is (idle_none o m rs at a idle))
 
 -- And so does one that only waits.
 pub waiting_steps : (o : Opening) (m : Parts) (a : ℕ) → OnlyWaits m a → (n : ℕ) (rs : List Record) → IsAt o m rs → (more : List Record) × IsAt o m (rs ++ more) × Comes (line.Step a n) None rs more
 waiting_steps o m a only = silent_steps o m a Waits (waits_happens m a only) (λ rs r at next is note. waits_silent _ _ r (follows_waits o a rs r (last_follows o [] rs r next.run) is note))
 
 -- Where an actor has no task, nothing is left of a line that asks for its steps until then.
-pub idle_finish : (o : Opening) (m : Parts) (a : ℕ) → 1 ≤ a → (IsBusy m a → ⊥) → (rs : List Record) → IsAt o m rs → (more : List Record) × IsAt o m (rs ++ more) × Comes (line.Finish a) None rs more
-idle_finish o m a one idle rs at =
+pub idle_finish : (o : Opening) (m : Parts) (a : ℕ) → (IsBusy m a → ⊥) → (rs : List Record) → IsAt o m rs → (more : List Record) × IsAt o m (rs ++ more) × Comes (line.Finish a) None rs more
+idle_finish o m a idle rs at =
     let here : IsAt o m (rs ++ []) = subst (IsAt o m) (sym (append-nil rs)) at in
-    ([], here, (record { works = tt; ends = inl (idle_none o m (rs ++ []) here a one idle) }, All-nil IsSilent))
+    ([], here, (record { works = tt; ends = inl (idle_none o m (rs ++ []) here a idle) }, All-nil IsSilent))
 
 -- And where it only waits, one step that waits ends it.
 pub waiting_finish : (o : Opening) (m : Parts) (a : ℕ) → OnlyWaits m a → (rs : List Record) → IsAt o m rs → (more : List Record) × IsAt o m (rs ++ more) × Comes (line.Finish a) None rs more
@@ -104,7 +102,7 @@ waiting_finish o m a only rs at =
     let x = follows_waits o a rs r (last_follows o [] rs r h.3.run) h.1 h.2 in (
       r ∷ [],
       h.3,
-      (record { works = (h.1, (λ none. absurd (let e : Some (ClientTask x.call x.written) ≡ None = sym x.is ∙ none in cc)), (λ w. refl), tt); ends = inr ([], r, refl, h.2) }, All-cons IsSilent r [] (waits_silent _ _ r x) (All-nil IsSilent)),
+      (record { works = (h.1, x.some, (λ w. refl), tt); ends = inr ([], r, refl, h.2) }, All-cons IsSilent r [] (waits_silent _ _ r x) (All-nil IsSilent)),
     )
 
 -- no step is left
@@ -113,23 +111,22 @@ no_steps o m a rs at = ([], subst (IsAt o m) (sym (append-nil rs)) at, ((All-nil
 
 -- nothing that prints is left
 pub advances_idle : (m : Parts) (l k : Line) → l ≡ k → ((o : Opening) (rs : List Record) → IsAt o m rs → (more : List Record) × IsAt o m (rs ++ more) × Comes k None rs more) → Advances m m l None
-advances_idle m l k is ran = subst (λ (z : Line). Advances m m z None) (sym is) (record { ran = ran; goes_on = record { setup = refl; traced = refl }; actor = tt })
+advances_idle m l k is ran = subst (λ (z : Line). Advances m m z None) (sym is) (record { ran = ran; goes_on = record { setup = refl; traced = refl } })
 
 pub advances_nowhere : (m : Parts) (l : Line) (a n : ℕ) → l ≡ line.Step a n → n ≡ 0 → Advances m m l None
 advances_nowhere m l a n is none = advances_idle m l (line.Step a 0) (is ∙ ap (line.Step a) none) (λ o rs at. no_steps o m a rs at)
 
 -- an event happened, and this is left of the line behind it
 module _ (m n : Parts) (l k : Line) (e : Event) (note : Note) (is : l ≡ k) (happens : Happens m n e note) (parts : Continues m n) where
-  pub advances_on : (x : Advance) → x.note ≡ note → 1 ≤ actor_in x.left → ((o : Opening) (rs : List Record) (r : Record) → IsAt o m rs → IsAt o n (rs ++ r ∷ []) → r.event ≡ e → r.note ≡ note → Leaves k x.left rs (r ∷ [])) → Advances m n l (Some x)
-  advances_on x says one leaves = subst (λ (z : Line). Advances m n z (Some x)) (sym is) (record {
+  pub advances_on : (x : Advance) → x.note ≡ note → ((o : Opening) (rs : List Record) (r : Record) → IsAt o m rs → IsAt o n (rs ++ r ∷ []) → r.event ≡ e → r.note ≡ note → Leaves k x.left rs (r ∷ [])) → Advances m n l (Some x)
+  advances_on x says leaves = subst (λ (z : Line). Advances m n z (Some x)) (sym is) (record {
     ran = λ o rs at. let h = happens o rs at in (h.0 ∷ [], h.3, (h.0, refl, h.2 ∙ sym says, leaves o rs h.0 at h.3 h.1 h.2));
     goes_on = parts;
-    actor = one;
   })
 
   -- and nothing is left of it
-  pub advances_last : (x : Advance) (a : ℕ) → x.note ≡ note → x.left ≡ Steps a 0 → 1 ≤ a → ((rs : List Record) (r : Record) → r.event ≡ e → r.note ≡ note → CoversLine k rs (r ∷ [])) → Advances m n l (Some x)
-  advances_last x a says left one stands = advances_on x says (subst (λ (w : Work). 1 ≤ actor_in w) (sym left) one)
+  pub advances_last : (x : Advance) (a : ℕ) → x.note ≡ note → x.left ≡ Steps a 0 → ((rs : List Record) (r : Record) → r.event ≡ e → r.note ≡ note → CoversLine k rs (r ∷ [])) → Advances m n l (Some x)
+  advances_last x a says left stands = advances_on x says
       (λ o rs r at next is_event is_note. subst (λ (w : Work). Leaves k w rs (r ∷ [])) (sym left) (leaves_nothing k a rs (r ∷ []) (stands rs r is_event is_note)))
 
 -- a part, or all, of what is left of a line ends a part, or all, of the line

@@ -2,7 +2,6 @@
 use Prim.Native.Nat.{suc}
 use Rattle.std.proofs.Common.{◌≡◌, ◌⊎◌, ℕ, List, [], ◌∷◌, ◌++◌, map, Bool, true, false, refl, sym, ap, ◌∙◌, subst, arith, inl, inr}
 use Rattle.std.specs.Prelude.{Option, Some, None}
-use Rattle.clover_alloc.specs.declared.batch.Batch.{Batch}
 use Rattle.clover_alloc.specs.Batch.{tags_of}
 use Rattle.clover_words.specs.Tag.{tag_number}
 use Rattle.clover_map.specs.History.{key_of}
@@ -50,13 +49,13 @@ use Rattle.clover_run.proofs.Stepped.{entered_task, accessed_task}
 abbrev pub IsServers : Option Access → Type 0
 IsServers o = (x : Access) → o ≡ Some x → x.actor ≡ Server
 
-makes_servers : (o : Option Access) (step : Due) (n : ℕ) → Makes o step n → IsServers o
+pub makes_servers : (o : Option Access) (step : Due) (n : ℕ) → Makes o step n → IsServers o
 makes_servers o step n h x e = let q : Some x ≡ Some (record { actor = Server; act = act_of step n; refused = false }) = sym e ∙ h in let k : x ≡ record { actor = Server; act = act_of step n; refused = false } = cc in ap (λ (a : Access). a.actor) k
 
-fails_servers : (o : Option Access) → Fails o → IsServers o
+pub fails_servers : (o : Option Access) → Fails o → IsServers o
 fails_servers o h x e = let q : Some x ≡ Some (record { actor = Server; act = h.0; refused = true }) = sym e ∙ h.1 in let k : x ≡ record { actor = Server; act = h.0; refused = true } = cc in ap (λ (a : Access). a.actor) k
 
-still_servers : (o : Option Access) → o ≡ None → IsServers o
+pub still_servers : (o : Option Access) → o ≡ None → IsServers o
 still_servers o h x e = absurd (let q : Some x ≡ None = sym e ∙ h in cc)
 
 module _ (s n : ServerState) (r : ServerTurn) (o : Option Access) where
@@ -92,14 +91,14 @@ pub served_not_own : (a : ℕ) (d : Doing) (want : Want) (call : Call) (v : Serv
 served_not_own a d want call v r h c own = absurd (let q : Client c ≡ Server = sym own.actor ∙ served_servers a d want call v r h own.access own.is in cc)
 
 -- a note is a grant's, or starts no call
-granted_or : (n : Note) → ((c : ℕ) × (batch : Batch) × (names : ℕ) × (n ≡ Granted c batch names)) ⊎ ((c a : ℕ) → Starts c (Step a) n → ⊥)
+granted_or : (n : Note) → ((c : ℕ) × (names : ℕ) × (n ≡ Granted c names)) ⊎ ((c a : ℕ) → Starts c (Step a) n → ⊥)
 granted_or Quiet = inr (λ c a s. s)
 granted_or Waits = inr (λ c a s. s)
 granted_or (Answered b reply) = inr (λ c a s. s)
 granted_or (Refused b y) = inr (λ c a s. s)
 granted_or (Full b bound worn out) = inr (λ c a s. s)
 granted_or (NoSlot b) = inr (λ c a s. s)
-granted_or (Granted b batch names) = inl (b, batch, names, refl)
+granted_or (Granted b names) = inl (b, names, refl)
 granted_or (Recycled old) = inr (λ c a s. s)
 granted_or Unlinked = inr (λ c a s. s)
 granted_or Unbound = inr (λ c a s. s)
@@ -109,11 +108,11 @@ granted_or (Busy b) = inr (λ c a s. s)
 granted_or (Missing b) = inr (λ c a s. s)
 
 -- a grant leaves the task, and the call starts anew
-granted_task_same : (d : Doing) (a : Option Access) (e : Option Entry) (n : Note) (c : ℕ) (batch : Batch) (names : ℕ) → n ≡ Granted c batch names → (ended_if (ends n) (granted (entered (accessed d a) e) n)).task ≡ d.task
-granted_task_same d a e n c batch names is = subst (λ (k : Note). (ended_if (ends k) (granted (entered (accessed d a) e) k)).task ≡ d.task) (sym is) (entered_task (accessed d a) e ∙ accessed_task d a)
+granted_task_same : (d : Doing) (a : Option Access) (e : Option Entry) (w : Served) (n : Note) (c names : ℕ) → n ≡ Granted c names → (ended_if (ends n) (granted (entered (accessed d a) e) w n)).task ≡ d.task
+granted_task_same d a e w n c names is = subst (λ (k : Note). (ended_if (ends k) (granted (entered (accessed d a) e) w k)).task ≡ d.task) (sym is) (entered_task (accessed d a) e ∙ accessed_task d a)
 
-granted_anew : (d : Doing) (n : Note) (c : ℕ) (batch : Batch) (names : ℕ) → n ≡ Granted c batch names → (ended_if (ends n) (granted d n)).since ≡ []
-granted_anew d n c batch names is = subst (λ (k : Note). (ended_if (ends k) (granted d k)).since ≡ []) (sym is) refl
+granted_anew : (d : Doing) (w : Served) (n : Note) (c names : ℕ) → n ≡ Granted c names → (ended_if (ends n) (granted d w n)).since ≡ []
+granted_anew d w n c names is = subst (λ (k : Note). (ended_if (ends k) (granted d w k)).since ≡ []) (sym is) refl
 
 -- a client that has started its call has the stock and the names that it had
 started_node : (x y : ClientState) (call : Call) → Started x y call → (y.node.stock ≡ x.node.stock) × (y.node.names ≡ x.node.names)
@@ -145,18 +144,18 @@ module _ (o : Opening) (rs : List Record) (clients clients1 : List ClientState) 
   not_own c = served_not_own (suc i) st.does x.want call v r follows.0 c
 
   module _ (does : behind.does ≡ stepped st.does r) (is_behind : IsOf i y q behind) (may : (slot : ℕ) → Within (slot, key_of call) y.node.names → MayBegin behind.ended (key_of call) (number_of (cursor_at slot y.node.caller.cursors))) where
-    anew : (c : ℕ) (batch : Batch) (names : ℕ) → note ≡ Granted c batch names → AloneSoFar o q.words clients1 (rs ++ r ∷ [])
-    anew c batch names e =
-        let regards : Regards (Granted c batch names) x y call = subst (λ (n : Note). Regards n x y call) e had.regards in
-        let x1 : ClientState = granted_to x (tags_of batch) regards.0 in
+    anew : (c names : ℕ) → note ≡ Granted c names → AloneSoFar o q.words clients1 (rs ++ r ∷ [])
+    anew c names e =
+        let regards : Regards (Granted c names) w x y call = subst (λ (n : Note). Regards n w x y call) e had.regards in
+        let x1 : ClientState = granted_to x (tags_of w.batch) regards.0 in
         let started : Started x1 y call = regards.2 in
         let same = started_node x1 y call started in
         let task = matches.doing.0 in
         let stock : behind.does.stock ≡ map tag_number x1.node.stock = ap (λ (d : Doing). d.stock) does ∙ follows.1.stock ∙ ap (map tag_number) same.0 in
-        let since : behind.does.since ≡ [] = ap (λ (d : Doing). d.since) does ∙ granted_anew (entered (accessed st.does had.access) None) note c batch names e in
+        let since : behind.does.since ≡ [] = ap (λ (d : Doing). d.since) does ∙ granted_anew (entered (accessed st.does had.access) None) w note c names e in
         alone_begins o rs r p.words q.words clients clients1 at i y there call task.0
         (λ d s. sym (subst (Starts d (Step (suc i))) e s)) not_own
-        (ap (λ (d : Doing). d.task) does ∙ granted_task_same st.does had.access None note c batch names e ∙ task.1)
+        (ap (λ (d : Doing). d.task) does ∙ granted_task_same st.does had.access None w note c names e ∙ task.1)
         (λ free. behind_alone o q had.stands.setup running i (let a = had.stands.seats in let b = had.stands.seat in omega arith) x1 y call (call_at y (view_at q i)) stands.pool had.stands.pool
         (record { counts = stands.phase.0.counts; calls = stands.phase.0.calls }) had.stands.holds started behind is_behind.words (is_behind.names ∙ same.1) stock since
         (λ slot named. may slot (subst (Within (slot, key_of call)) (sym same.1) named)) free)
@@ -164,6 +163,6 @@ module _ (o : Opening) (rs : List Record) (clients clients1 : List ClientState) 
     pub alone_served : AloneSoFar o q.words clients1 (rs ++ r ∷ [])
     alone_served = by_note (granted_or note)
       where
-        by_note : ((c : ℕ) × (batch : Batch) × (names : ℕ) × (note ≡ Granted c batch names)) ⊎ ((c a : ℕ) → Starts c (Step a) note → ⊥) → AloneSoFar o q.words clients1 (rs ++ r ∷ [])
-        by_note (inl g) = anew g.0 g.1 g.2 g.3
+        by_note : ((c : ℕ) × (names : ℕ) × (note ≡ Granted c names)) ⊎ ((c a : ℕ) → Starts c (Step a) note → ⊥) → AloneSoFar o q.words clients1 (rs ++ r ∷ [])
+        by_note (inl g) = anew g.0 g.1 g.2
         by_note (inr none) = alone_aside o rs r p.words q.words clients clients1 at (λ c other written s t f. none c (suc i) s) not_own

@@ -1,7 +1,7 @@
 -- What a step of the server for a client comes to where it hands the client a batch, or bindings alone: the client has started its call anew.
 use Prim.Native.Nat.{suc}
-use Rattle.std.proofs.Common.{◌≡◌, ◌≢◌, ℕ, ◌+◌, ◌-◌, ◌<◌, ◌≤◌, List, [], ◌∷◌, ◌++◌, length, map, Bool, true, false, cond, ⊎_elim, refl, sym, ap, ◌∙◌, subst, arith}
-use Rattle.std.specs.Prelude.{Option, Some, None, IfSome}
+use Rattle.std.proofs.Common.{◌≡◌, ◌≢◌, ℕ, ◌+◌, ◌-◌, ◌<◌, List, [], ◌++◌, length, map, Bool, true, false, cond, ⊎_elim, refl, sym, ap, ◌∙◌, subst, arith}
+use Rattle.std.specs.Prelude.{Option, Some, None}
 use Rattle.std.proofs.lemmas.List.{map-append}
 use Rattle.std.proofs.Math.ListN.{length-append}
 use Rattle.clover_words.specs.declared.setup.Setup.{Setup}
@@ -14,13 +14,13 @@ use Rattle.clover_rule.specs.declared.access.Access.{Access}
 use Rattle.clover_rule.specs.declared.view.View.{View}
 use Rattle.clover_plain.specs.Handing.{numbers_of}
 use Rattle.clover_plain.specs.Plain.{Plain, Running, view_at}
-use Rattle.clover_node.specs.Node.{NodeState, NodeHolds, node_first}
+use Rattle.clover_node.specs.Node.{NodeState}
 use Rattle.clover_server.specs.Server.{ServerState}
 use Rattle.clover_server.specs.declared.turn.ServerTurn.TheVariants.{Ready}
-use Rattle.clover_run.specs.Client.{Calls, IsCall, IsDoing, IsOf, IsTaskOf, Matches, Moved, Phase, Rests, Ends, Stands, Started, Wants, call_at, granted_to, since_of, step_record, want_of}
-use Rattle.clover_run.specs.Folds.{Doing, granted, started, stepped}
+use Rattle.clover_run.specs.Client.{Calls, IsDoing, IsOf, IsTaskOf, Matches, Moved, Phase, Rests, Ends, Stands, Started, Wants, call_at, granted_to, since_of, step_record, want_of}
+use Rattle.clover_run.specs.Folds.{Doing, granted}
 use Rattle.clover_run.specs.Run.{Opening, Standing}
-use Rattle.clover_run.specs.Served.{is_elsewhere, let_go}
+use Rattle.clover_run.specs.Served.{is_elsewhere}
 use Rattle.clover_run.specs.Serving.{IsServing, Serves, TakesFor, telling}
 use Rattle.clover_run.specs.Wanting.{slot_for, wants, wants_first}
 use Rattle.clover_run.specs.Working.{Gained, MayGrant, MayServe, WasGranted, WasServed, Worked, refusing_behind}
@@ -34,7 +34,7 @@ use Rattle.clover_run.proofs.Growing.{serves_grows}
 use Rattle.clover_run.proofs.Placing.{After, call_is, moved_entries, moved_handed, stands_started}
 use Rattle.clover_run.proofs.Readies.{IsReady, serves_ready}
 use Rattle.clover_run.proofs.ServedSteps.{doing_wants, stands_on, task_so}
-use Rattle.clover_run.proofs.Views.{handed_other, handed_seats}
+use Rattle.clover_run.proofs.Views.{handed_other}
 use Rattle.clover_run.proofs.Wanted.{refused_stock, starts_nothing}
 use Rattle.clover_run.proofs.Lacking.{started_lacks}
 
@@ -84,14 +84,14 @@ module _ (o : Opening) (i : ℕ) (x : ClientState) (v : Served) (p : Plain) (may
 
   module _ (y : ClientState) (s : Served) (q : Plain) (note : Note) (g : WasGranted i x y (record v { server = n }) s p1 q note) where
     abbrev tags : List TagParts
-    tags = tags_of g.batch
+    tags = tags_of s.batch
 
     -- the client with what it was handed, and the pool behind that
     abbrev with_grant : ClientState
     with_grant = granted_to x tags g.added
 
     moved : Moved None None p q
-    moved = moved_handed i (numbers_of g.batch) g.added None p p1 q moved_still g.handed g.history_same
+    moved = moved_handed i (numbers_of s.batch) g.added None p p1 q moved_still g.handed g.history_same
 
     begun : Started with_grant y call
     begun = g.started call is
@@ -105,11 +105,11 @@ module _ (o : Opening) (i : ℕ) (x : ClientState) (v : Served) (p : Plain) (may
     others_so j ne nc =
         let same : p.setup.clients ≡ o.setup.clients = ap (λ (z : Setup). z.clients) may.stands.setup in
         let same1 : p1.setup.clients ≡ o.setup.clients = ap (λ (z : Setup). z.clients) (w.moved.setup ∙ may.stands.setup) in
-        handed_other i (numbers_of g.batch) g.added p1 q g.handed j ne (λ e. nc (e ∙ same1)) ∙ w.others j (λ e. nc (e ∙ same))
+        handed_other i (numbers_of s.batch) g.added p1 q g.handed j ne (λ e. nc (e ∙ same1)) ∙ w.others j (λ e. nc (e ∙ same))
 
     -- what the records say behind it
     abbrev does_so : Standing → Doing
-    does_so st = granted st.does (Granted (suc i) g.batch (length g.added))
+    does_so st = granted st.does s (Granted (suc i) (length g.added))
 
     matches_so : (st : Standing) → Matches x (view_at p i) Wants st.does → Matches y (view_at q i) stood.0 (does_so st)
     matches_so st m =
@@ -125,12 +125,12 @@ module _ (o : Opening) (i : ℕ) (x : ClientState) (v : Served) (p : Plain) (may
     added_so : (st : Standing) → Matches x (view_at p i) Wants st.does → length g.added ≡ length n.directory.list - st.does.known
     added_so st m = let l = length-append x.node.names g.added in let e = ap length g.names in let k = m.known in omega arith
 
-    serving_so : (st : Standing) → IsOf i x p st → Matches x (view_at p i) Wants st.does → IsServing st.actor st.does x.want (call_at x (view_at p i)) v (step_record st None None (Granted (suc i) g.batch (length g.added)) s)
+    serving_so : (st : Standing) → IsOf i x p st → Matches x (view_at p i) Wants st.does → IsServing st.actor st.does x.want (call_at x (view_at p i)) v (step_record st None None (Granted (suc i) (length g.added)) s)
     serving_so st of m = record {
       turn = Ready;
       server = n;
       serves = subst (λ (c : Call). Serves x.want c v.server n Ready (telling None)) (sym (call_is x (view_at p i) call is)) (subst (λ (a : Option Access). Serves x.want call v.server n Ready (telling a)) ready.still w.serves);
-      leaves = record { batch = g.batch; books = g.books; takes = g.takes; note = λ k. Granted (sym of.actor k) g.batch (added_so st m k); served = g.side };
+      leaves = record { books = g.books; takes = g.takes; note = λ k. Granted (sym of.actor k) (added_so st m k); served = g.side };
     }
 
     -- and what it has by it
@@ -152,7 +152,7 @@ module _ (o : Opening) (i : ℕ) (x : ClientState) (v : Served) (p : Plain) (may
       named = λ e put. let b = ready.named e put in (b.slot, subst (Within (b.slot, key_of call)) (sym (names_so ∙ ap (λ (z : Served). z.server.directory.list) g.side)) b.bound);
     }
 
-    granted_here : WasServed o i x y v s p q (Granted (suc i) g.batch (length g.added))
+    granted_here : WasServed o i x y v s p q (Granted (suc i) (length g.added))
     granted_here = record {
       access = None;
       moved = moved;

@@ -1,10 +1,9 @@
 -- Room that was made in a pool changes nothing of what is said of a client that the server's side may serve, nor of a step that served it.
 use Prim.Native.Nat.{suc}
-use Rattle.std.proofs.Common.{◌≡◌, ◌≢◌, ℕ, ◌<◌, List, [], ◌∷◌, ◌++◌, length, get_or, Bool, true, false, if◌then◌else◌, refl, sym, ap, ◌∙◌, subst, option_to_list}
-use Rattle.std.specs.Prelude.{Option, Some, None}
+use Rattle.std.proofs.Common.{◌≡◌, ℕ, ◌<◌, List, [], ◌++◌, length, get_or, if◌then◌else◌, sym, ap, ◌∙◌, subst, option_to_list}
+use Rattle.std.specs.Prelude.{Option, None}
 use Rattle.clover_words.specs.declared.setup.Setup.{Setup}
 use Rattle.clover_map.specs.History.{own}
-use Rattle.clover_map.specs.declared.call.Call.{Call}
 use Rattle.clover_map.specs.declared.call.Entry.{Entry}
 use Rattle.clover_rule.specs.Moves.{nobody}
 use Rattle.clover_rule.specs.Rule.{longest}
@@ -16,8 +15,8 @@ use Rattle.clover_server.specs.Holding.{Agrees}
 use Rattle.clover_server.specs.Server.{ServerState}
 use Rattle.clover_sched.specs.Client.{HasLinked}
 use Rattle.clover_sched.specs.Folds.{made_by, words_by}
-use Rattle.clover_run.specs.Client.{IsOf, LacksNames, Matches, Moved, Phase, Stands, Wants, call_at, step_record}
-use Rattle.clover_run.specs.Run.{Opening, Standing}
+use Rattle.clover_run.specs.Client.{LacksNames, Matches, Moved, Phase, Stands, Wants, call_at, step_record}
+use Rattle.clover_run.specs.Run.{Opening}
 use Rattle.clover_run.specs.Serving.{IsServed}
 use Rattle.clover_run.specs.Working.{Gained, HasServer, MayServe, OnGrant, Regards, WasServed}
 use Rattle.clover_run.specs.declared.client.ClientState.{ClientState}
@@ -115,7 +114,7 @@ module _ (p q : Plain) (k : Kept p q) where
       follows = λ st of m same.
           let f = s.follows st (record { actor = of.actor; names = of.names; entries = of.entries; words = of.words ∙ sym k.words }) (subst (λ (u : View). Matches x u Wants st.does) (sym (kept_view i)) m) same in
           (f.0, subst (λ (u : View). IsServed st.actor st.does x.want (call_at x u) v (step_record st s.access None note w)) (kept_view i) f.1, f.2);
-      regards = subst (λ (u : View). Regards note x y (call_at x u)) (kept_view i) s.regards;
+      regards = subst (λ (u : View). Regards note w x y (call_at x u)) (kept_view i) s.regards;
       gained = subst (λ (u : View). OnGrant note (Gained x y (call_at x u) w.server)) (kept_view i) s.gained;
       lowers = s.lowers;
       lacks = λ h. s.lacks (subst (LacksNames x) (sym (kept_view i)) h);

@@ -1,8 +1,7 @@
 -- What a step of the server for a client comes to where it hands nothing over: the want goes on, the call has ended, or the step only waited.
 use Prim.Native.Nat.{suc}
-use Rattle.std.proofs.Common.{◌≡◌, ◌≢◌, ℕ, ◌<◌, ◌≤◌, List, [], Bool, true, false, refl, sym, ap, ◌∙◌, subst, arith, append-nil}
+use Rattle.std.proofs.Common.{◌≡◌, ◌≢◌, ℕ, ◌<◌, List, Bool, true, false, refl, sym, ap, ◌∙◌, subst, arith}
 use Rattle.std.specs.Prelude.{Option, Some, None, IfSome}
-use Rattle.clover_words.specs.declared.pool.Pool.{Pool}
 use Rattle.clover_words.specs.declared.setup.Setup.{Setup}
 use Rattle.clover_map.specs.declared.call.Call.{Call}
 use Rattle.clover_rule.specs.Accesses.{CameBack}
@@ -21,13 +20,12 @@ use Rattle.clover_run.specs.Client.{IsDoing, IsOf, IsTaskOf, LacksNames, Matches
 use Rattle.clover_run.specs.Folds.{Doing, acted, accessed, ended_if, stepped}
 use Rattle.clover_run.specs.Run.{IsAccess, Opening, Standing}
 use Rattle.clover_run.specs.Served.{held, is_elsewhere, let_go}
-use Rattle.clover_run.specs.Serving.{IsServed, IsServing, Leaves, Serves, telling}
+use Rattle.clover_run.specs.Serving.{Leaves, Serves, telling}
 use Rattle.clover_run.specs.Working.{Gained, HasServer, IsServersOwn, MayServe, OnGrant, Regards, WasServed, Worked, refusing_behind}
 use Rattle.clover_run.specs.declared.client.ClientState.{ClientState}
 use Rattle.clover_run.specs.declared.event.Note.{Note}
 use Rattle.clover_run.specs.declared.event.Note.TheVariants.{Full, NoSlot, Quiet, Refused, Waits}
 use Rattle.clover_run.specs.declared.served.Served.{Served}
-use Rattle.clover_run.specs.declared.want.Want.{Want}
 use Rattle.clover_run.specs.declared.want.Want.TheVariants.{Nothing}
 use Rattle.clover_run.proofs.Growing.{grows_same, serves_grows}
 use Rattle.clover_run.proofs.Placing.{call_is, moved_entries, moved_none, stands_idle}
@@ -122,7 +120,7 @@ module _ (o : Opening) (i : ℕ) (x : ClientState) (v : Served) (p : Plain) (may
     module _ (y : ClientState) (s : Served) (note : Note) (after : Phase) (server : s.server ≡ n) where
       step_so : Stands o q i y after → ((st : Standing) → IsOf i x p st → Matches x here Wants st.does → Leaves st.actor st.does x.want v n turn (step_record st w.access None note s))
           → ((st : Standing) → IsOf i x p st → (m : Matches x here Wants st.does) → Matches y (view_at q i) after (stepped st.does (step_record st w.access None note s)))
-          → Regards note x y (call_at x here) → OnGrant note (Gained x y (call_at x here) s.server) → (note ≡ Quiet → work_left s.server < work_left v.server) → (LacksNames x here → LacksNames y (view_at q i)) → WasServed o i x y v s p q note
+          → Regards note s x y (call_at x here) → OnGrant note (Gained x y (call_at x here) s.server) → (note ≡ Quiet → work_left s.server < work_left v.server) → (LacksNames x here → LacksNames y (view_at q i)) → WasServed o i x y v s p q note
       step_so stands leaves matches regards gained lowers lacks = record {
         access = w.access;
         moved = w.moved;

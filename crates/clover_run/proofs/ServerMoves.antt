@@ -66,7 +66,7 @@ server_quiet s h v x = by s.task refl
     by (Some u) e = subst (λ (z : Option Unfinished). next_history (server_step (record s { task = z })) h v x ≡ h) (sym e) (work_quiet s.directory u.work h v x)
 
 -- the server stands in a pool that it has left so
-server_again : (p q : Plain) (s n : ServerState) (seat : ℕ) → HasServer p s → Same p q → history q ≡ history p → length q.views ≡ length p.views → seat ≡ p.setup.clients → Agrees q.setup.pool [] n (view_at q seat) → HasServer q n
+pub server_again : (p q : Plain) (s n : ServerState) (seat : ℕ) → HasServer p s → Same p q → history q ≡ history p → length q.views ≡ length p.views → seat ≡ p.setup.clients → Agrees q.setup.pool [] n (view_at q seat) → HasServer q n
 server_again p q s n seat h same quiet seats at agrees = record {
   opened = same.opened ∙ h.opened;
   entered = same.entries ∙ h.entered ∙ sym quiet;
@@ -75,7 +75,7 @@ server_again p q s n seat h same quiet seats at agrees = record {
 }
 
 -- the access is the server's own: it was made where it was not to be refused, and refused where it was
-made_own : (p q : Plain) (a : Step) (x : ℕ) (refusing : Bool) → Stepped a false true p.setup.clients x p q → refusing ≡ false → IsServersOwn p refusing (servers_access (act_of a x) false)
+pub made_own : (p q : Plain) (a : Step) (x : ℕ) (refusing : Bool) → Stepped a false true p.setup.clients x p q → refusing ≡ false → IsServersOwn p refusing (servers_access (act_of a x) false)
 made_own p q a x refusing st free = record {
   actor = refl;
   refused = sym free;
@@ -83,7 +83,7 @@ made_own p q a x refusing st free = record {
   replays = λ e. came_back p.setup.clients p q a false true x st;
 }
 
-refused_own : (p : Plain) (a : Step) (refusing : Bool) → refusing ≡ true → IsServersOwn p refusing (servers_access (act_of a 0) true)
+pub refused_own : (p : Plain) (a : Step) (refusing : Bool) → refusing ≡ true → IsServersOwn p refusing (servers_access (act_of a 0) true)
 refused_own p a refusing asked = record {
   actor = refl;
   refused = sym asked;

@@ -12,6 +12,7 @@ use Rattle.clover_server.specs.Steps.{Due, Finishes, Sweeps, Recycles, Binds, An
 use Rattle.clover_server.specs.declared.turn.ServerTurn.{ServerTurn}
 use Rattle.clover_server.specs.declared.turn.ServerTurn.TheVariants.{More, Ready, Unlinked, Recycled, Full, NoSlot, Unreached}
 use Rattle.clover_server.specs.declared.work.Unfinished.{Unfinished}
+use Rattle.clover_run.specs.Cleaning.{Cleans}
 use Rattle.clover_run.specs.Serving.{Telling, Serves, Goes, Clears, Binds as BindsKey}
 use Rattle.clover_run.specs.declared.want.Want.{Want}
 use Rattle.clover_run.specs.declared.want.Want.TheVariants.{Nothing, Stock, Names}
@@ -57,6 +58,11 @@ module _ (s n : ServerState) (r : ServerTurn) (t : Telling) (A : Type 0) where
   serves Names (Get key) h = λ f g k. clears s.task h f g k
   serves Names (Delete key) h = λ f g k. clears s.task h f g k
   serves Names (Swap key expected value) h = λ f g k. clears s.task h f g k
+
+  -- and for the recycler, of which each is an access
+  pub cleans : (slot : Option ℕ) → Cleans slot s n r t → ((b : ServerState) (x : ℕ) → t.made (server_step b) x → ((u : Telling) → u.made (server_step b) x → Cleans slot s n r u) → A) → (t.failed → ((u : Telling) → u.failed → Cleans slot s n r u) → A) → A
+  cleans (Some slot) h = λ f g. on_access r _ _ h.2 (λ x m again. f h.0 x m.0 (λ u z. (h.0, h.1, again _ _ (z, m.1, m.2)))) (λ m again. g m.0 (λ u z. (h.0, h.1, again _ _ (z, m.1))))
+  cleans None h = λ f g. on_access r _ _ h (λ x m again. f s x m.0 (λ u z. again _ _ (z, m.1, m.2))) (λ m again. g m.0 (λ u z. again _ _ (z, m.1)))
 
 -- what the server's own calls say is what a step for a call is
 module _ (s n : ServerState) (r : ServerTurn) (t : Telling) where

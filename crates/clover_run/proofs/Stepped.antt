@@ -38,14 +38,15 @@ use Rattle.clover_run.specs.Wanting.{slot_for, wants}
 use Rattle.clover_run.specs.declared.client.ClientState.{ClientState}
 use Rattle.clover_run.specs.declared.event.Note.{Note}
 use Rattle.clover_run.specs.declared.event.Note.TheVariants.{Answered, Granted}
+use Rattle.clover_run.specs.declared.served.Served.{Served}
 use Rattle.clover_run.specs.declared.want.Want.TheVariants.{Nothing as NoWant, Names as NamesWanted}
 use Rattle.clover_run.proofs.Alone.{alone_aside, alone_stepped, own_starts_none}
 use Rattle.clover_run.proofs.Names.{slot_within}
 
 -- a task behind a step was there before it
-pub granted_task : (d : Doing) (note : Note) → (granted d note).task ≡ d.task
-granted_task d (Granted c batch names) = refl
-granted_task d note = refl
+pub granted_task : (d : Doing) (w : Served) (note : Note) → (granted d w note).task ≡ d.task
+granted_task d w (Granted c names) = refl
+granted_task d w note = refl
 
 pub entered_task : (d : Doing) (e : Option Entry) → (entered d e).task ≡ d.task
 entered_task d None = refl
@@ -65,17 +66,17 @@ kept_if false d t e = e
 
 task_before : (d : Doing) (r : Record) (t : Task) → (stepped d r).task ≡ Some t → d.task ≡ Some t
 task_before d r t e =
-    let f = kept_if (ends r.note) (granted (entered (accessed d r.access) r.entry) r.note) t e in
-    sym (granted_task (entered (accessed d r.access) r.entry) r.note ∙ entered_task (accessed d r.access) r.entry ∙ accessed_task d r.access) ∙ f
+    let f = kept_if (ends r.note) (granted (entered (accessed d r.access) r.entry) r.served r.note) t e in
+    sym (granted_task (entered (accessed d r.access) r.entry) r.served r.note ∙ entered_task (accessed d r.access) r.entry ∙ accessed_task d r.access) ∙ f
 
 -- a reply that decided there behind a step is that of its entry
 decided_if : (b : Bool) (d : Doing) (y : Reply) → (ended_if b d).decided ≡ Some y → d.decided ≡ Some y
 decided_if true d y e = absurd (let q : None ≡ Some y = e in cc)
 decided_if false d y e = e
 
-granted_decided : (d : Doing) (note : Note) (y : Reply) → (granted d note).decided ≡ Some y → d.decided ≡ Some y
-granted_decided d (Granted c batch names) y e = absurd (let q : None ≡ Some y = e in cc)
-granted_decided d note y e = e
+granted_decided : (d : Doing) (w : Served) (note : Note) (y : Reply) → (granted d w note).decided ≡ Some y → d.decided ≡ Some y
+granted_decided d w (Granted c names) y e = absurd (let q : None ≡ Some y = e in cc)
+granted_decided d w note y e = e
 
 acted_decided : (d : Doing) (a : Actor) (x : Access) → (acted d a x).decided ≡ d.decided
 acted_decided d (Client n) x = refl
@@ -91,7 +92,7 @@ entered_decided d (Some z) y none e = (z, refl, (let q : Some z.reply ≡ Some y
 
 decided_by : (d : Doing) (r : Record) (y : Reply) → d.decided ≡ None → (stepped d r).decided ≡ Some y → (z : Entry) × (r.entry ≡ Some z) × (z.reply ≡ y)
 decided_by d r y none e =
-    let f = granted_decided (entered (accessed d r.access) r.entry) r.note y (decided_if (ends r.note) (granted (entered (accessed d r.access) r.entry) r.note) y e) in
+    let f = granted_decided (entered (accessed d r.access) r.entry) r.served r.note y (decided_if (ends r.note) (granted (entered (accessed d r.access) r.entry) r.served r.note) y e) in
     entered_decided (accessed d r.access) r.entry y (accessed_decided d r.access ∙ none) f
 
 -- one load of the count commits nothing
@@ -170,7 +171,7 @@ module _ (o : Opening) (i : ℕ) (f : Phase) (x y : ClientState) (p q : Plain) (
   pub answered_idle : IsAnswered (suc i) note → IsIdle y.node
   answered_idle a = no_task w.after w.stands.phase behind.doing (ended note a)
     where
-      ended : (n : Note) → IsAnswered (suc i) n → (ended_if (ends n) (granted (entered (accessed st.does (Some w.access)) w.entry) n)).task ≡ None
+      ended : (n : Note) → IsAnswered (suc i) n → (ended_if (ends n) (granted (entered (accessed st.does (Some w.access)) w.entry) st.served n)).task ≡ None
       ended (Answered c reply) h = refl
       ended n h = absurd h
 

@@ -27,7 +27,7 @@ use Rattle.clover_run.specs.declared.want.Want.TheVariants.{Nothing}
 -- the record starts the call that the client has under way: its begin, or a grant behind which it starts anew
 abbrev pub Starts : ℕ → Event → Note → Type 0
 Starts c (Begin a t) Quiet = a ≡ c
-Starts c (Step a) (Granted b batch names) = a ≡ c
+Starts c (Step a) (Granted b names) = a ≡ c
 Starts c event note = ⊥
 
 -- the record is a step of the client whose own access was made

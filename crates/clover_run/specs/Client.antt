@@ -1,6 +1,6 @@
 -- A client of the machine: what it has under way and what it knows, that this is what the records say of it, and what its begin and its own steps do.
 use Prim.Native.Nat.{suc}
-use Rattle.std.specs.Prelude.{◌≡◌, ◌≢◌, ◌⊎◌, ℕ, ◌+◌, ◌*◌, ◌≤◌, ◌<◌, List, [], ◌∷◌, ◌++◌, length, map, Bool, true, false, cond, if◌then◌else◌, Option, Some, None, MatchOption, All}
+use Rattle.std.specs.Prelude.{◌≡◌, ◌≢◌, ◌⊎◌, ℕ, ◌+◌, ◌≤◌, ◌<◌, List, [], ◌∷◌, ◌++◌, length, map, true, false, cond, if◌then◌else◌, Option, Some, None, MatchOption, All}
 use Rattle.std.specs.Option.{option_to_list}
 use Rattle.clover_words.specs.declared.pool.Pool.{Pool}
 use Rattle.clover_words.specs.declared.setup.Setup.{Setup}
@@ -9,13 +9,11 @@ use Rattle.clover_words.specs.Tag.{TagParts, tag_number}
 use Rattle.clover_map.specs.History.{own, key_of}
 use Rattle.clover_map.specs.declared.call.Call.{Call}
 use Rattle.clover_map.specs.declared.call.Entry.{Entry}
-use Rattle.clover_script.specs.declared.line.Task.{Task}
 use Rattle.clover_script.specs.declared.line.Task.TheVariants.{Client as ClientTask}
 use Rattle.clover_rule.specs.Lists.{Within}
 use Rattle.clover_rule.specs.Steps.{Step as Due, act_of, reply_of}
 use Rattle.clover_rule.specs.declared.access.Access.{Access}
 use Rattle.clover_rule.specs.declared.access.Act.{Act}
-use Rattle.clover_rule.specs.declared.access.Actor.TheVariants.{Client}
 use Rattle.clover_rule.specs.declared.view.Role.TheVariants.{Client as ClientRole}
 use Rattle.clover_rule.specs.declared.view.View.{View}
 use Rattle.clover_plain.specs.Plain.{Plain, view_at, history}
@@ -31,7 +29,7 @@ use Rattle.clover_node.specs.Going.{IsOpen}
 use Rattle.clover_node.specs.Node.{NodeState, NodeHolds, IsIdle, IsPut, first_node, node_first}
 use Rattle.clover_node.specs.declared.answer.NodeRefusal.TheVariants.{NeedsStock}
 use Rattle.clover_sched.specs.Alone.{EndsIn}
-use Rattle.clover_sched.specs.Client.{HasLinked, IsLast, IsTask, access}
+use Rattle.clover_sched.specs.Client.{HasLinked, IsLast}
 use Rattle.clover_sched.specs.Ends.{IsLatest}
 use Rattle.clover_sched.specs.Folds.{words_by, made_by}
 use Rattle.clover_sched.specs.Run.{room}
@@ -136,8 +134,8 @@ pub record Started (x y : ClientState) (call : Call) : Type 0 where
   pub how : (NodeStarts x.node call y.node × (y.want ≡ Nothing)) ⊎ ((y.node ≡ x.node) × (y.want ≡ Stock) × Refuses x.node call NeedsStock)
 
 -- a client of this number was asked for a task: the value is too long for a buffer of the pool, or it has started the call
-abbrev pub Begun : ℕ → Setup → ClientState → ClientState → Task → Note → Type 0
-Begun c s x y (ClientTask call written) note =
+abbrev pub Begun : ℕ → Setup → ClientState → ClientState → Call → ℕ → Note → Type 0
+Begun c s x y call written note =
     ((room s < written) × (note ≡ Refused c (TooLong written (room s))) × (y ≡ x))
     ⊎ ((written ≤ room s) × (note ≡ Quiet) × Started (record x { call = Some call }) y call)
 

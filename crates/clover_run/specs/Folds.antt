@@ -62,7 +62,7 @@ nothing = record { task = None; decided = None; since = []; refusing = false; kn
 abbrev pub ends : Note → Bool
 ends Quiet = false
 ends Waits = false
-ends (Granted c batch names) = false
+ends (Granted c names) = false
 ends note = true
 
 -- the task is started, and it has ended
@@ -77,10 +77,10 @@ abbrev pub begun : Doing → Task → Note → Doing
 begun d t Quiet = started d (Some t)
 begun d t note = d
 
--- what a grant brings; the call starts anew
-abbrev pub granted : Doing → Note → Doing
-granted d (Granted c batch names) = record (started d d.task) { known = d.known + names; stock = d.stock ++ map tag_number (tags_of batch) }
-granted d note = d
+-- what a grant brings, which leaves its batch on the server's side; the call starts anew
+abbrev pub granted : Doing → Served → Note → Doing
+granted d w (Granted c names) = record (started d d.task) { known = d.known + names; stock = d.stock ++ map tag_number (tags_of w.batch) }
+granted d w note = d
 
 -- the call's entry decides it; a commit takes the first tag of the stock
 abbrev pub entered : Doing → Option Entry → Doing
@@ -97,7 +97,7 @@ accessed d None = d
 accessed d (Some x) = acted d x.actor x
 
 abbrev pub stepped : Doing → Record → Doing
-stepped d r = ended_if (ends r.note) (granted (entered (accessed d r.access) r.entry) r.note)
+stepped d r = ended_if (ends r.note) (granted (entered (accessed d r.access) r.entry) r.served r.note)
 
 abbrev pub does : Doing → Record → Event → Doing
 does d r (Begin a t) = begun d t r.note

@@ -1,4 +1,5 @@
 -- How many steps an actor's task may yet make: a number that each step which does not only wait lowers, so a line that finishes a task ends.
+use Prim.Native.Nat.{zero, suc}
 use Rattle.std.specs.Prelude.{ℕ, ◌+◌, ◌-◌, ◌*◌, List, [], ◌∷◌, length, Option, Some, None}
 use Rattle.clover_words.specs.Tag.{TagParts}
 use Rattle.clover_words.specs.declared.pool.Pool.{Pool}
@@ -15,6 +16,7 @@ use Rattle.clover_server.specs.Server.{ServerState}
 use Rattle.clover_sched.specs.Machine.{most_made}
 use Rattle.clover_run.specs.Client.{since_of}
 use Rattle.clover_run.specs.Machine.{Parts}
+use Rattle.clover_run.specs.Recycling.{cleaning_left}
 use Rattle.clover_run.specs.declared.client.ClientState.{ClientState}
 use Rattle.clover_run.specs.declared.want.Want.{Want}
 use Rattle.clover_run.specs.declared.want.Want.TheVariants.{Nothing}
@@ -53,5 +55,7 @@ abbrev pub left_of : Parts → ℕ → Option ClientState → ℕ
 left_of m i None = 0
 left_of m i (Some x) = left_by x.want m.served.server x (view_at m.pool i)
 
+-- the recycler is actor 0
 abbrev pub left : Parts → ℕ → ℕ
-left m a = left_of m (a - 1) (nth m.clients (a - 1))
+left m zero = cleaning_left m.recycler.chore m.served
+left m (suc i) = left_of m i (nth m.clients i)

@@ -9,9 +9,11 @@ pub mod Run
 pub mod Client
 pub mod Stepping
 pub mod Working
+pub mod Recycling
 pub mod Lines
 pub mod Alone
 pub mod SoFar
+pub mod Freed
 pub mod Machine
 pub mod Left
 pub mod Running

@@ -1,12 +1,16 @@
 -- What contracts see of a machine, and that it stands where some records lead.
-use Prim.Native.Nat.{suc}
-use Rattle.std.specs.Prelude.{◌≡◌, ◌≢◌, ℕ, ◌+◌, ◌-◌, ◌<◌, ◌≤◌, List, [], ◌∷◌, ◌++◌, length, replicate, true, false, Option, Some, None}
+use Prim.Native.Nat.{zero, suc}
+use Rattle.std.specs.Prelude.{◌≡◌, ◌≢◌, ℕ, ◌+◌, ◌<◌, ◌≤◌, List, [], ◌∷◌, ◌++◌, length, replicate, true, false, Option, Some, None}
+use Rattle.std.proofs.Common.{refl}
+use Rattle.std.proofs.lemmas.Bool.{leb-true}
 use Rattle.std.specs.FinMap as finite
 use Rattle.clover_words.specs.declared.setup.Setup.{Setup}
 use Rattle.clover_words.specs.Place.{pool_words}
 use Rattle.clover_map.specs.Legal.{Legal}
+use Rattle.clover_script.specs.declared.line.Task.{Task}
 use Rattle.clover_script.specs.declared.line.Task.TheVariants.{Client as ClientTask}
 use Rattle.clover_alloc.specs.Ledger.{new_ledger}
+use Rattle.clover_alloc.specs.declared.batch.Batch.{Batch}
 use Rattle.clover_dir.specs.Directory.{nothing_bound}
 use Rattle.clover_server.specs.Holding.{Agrees}
 use Rattle.clover_server.specs.Laws.{IsFirstServer}
@@ -17,27 +21,31 @@ use Rattle.clover_rule.specs.declared.access.Actor.TheVariants.{Client}
 use Rattle.clover_rule.specs.declared.view.View.{View}
 use Rattle.clover_plain.specs.Plain.{Plain, Kept, history, view_at}
 use Rattle.clover_call.specs.declared.under.Underway.TheVariants.{Nothing as NoCall}
-use Rattle.clover_sched.specs.Client.{IsLast, IsTask}
+use Rattle.clover_sched.specs.Client.{IsLast, IsCallTask}
 use Rattle.clover_sched.specs.declared.event.Event.{Event}
-use Rattle.clover_sched.specs.declared.event.Event.TheVariants.{Begin, Step, Refuse}
+use Rattle.clover_sched.specs.declared.event.Event.TheVariants.{Begin, Step}
 use Rattle.clover_run.specs.Alone.{AllFound}
-use Rattle.clover_run.specs.Client.{LacksNames, Phase, Rests, HasTask, Stands, Matches, GoesSoFar, Remembers, call_at}
+use Rattle.clover_run.specs.Client.{LacksNames, Phase, HasTask, Stands, Matches, GoesSoFar, Remembers, call_at}
 use Rattle.clover_run.specs.Folds.{entries_in, words_after, made_after, served_after, doing, traced_in}
+use Rattle.clover_run.specs.Freed.{AllFree}
 use Rattle.clover_run.specs.Record.{Record}
+use Rattle.clover_run.specs.Recycling.{IsRecyclerAt}
 use Rattle.clover_run.specs.Run.{Opening, IsRun, standing}
 use Rattle.clover_run.specs.Served.{is_elsewhere}
 use Rattle.clover_run.specs.SoFar.{AloneSoFar}
 use Rattle.clover_run.specs.Working.{HasServer}
 use Rattle.clover_run.specs.declared.client.ClientState.{ClientState}
 use Rattle.clover_run.specs.declared.event.Note.{Note}
+use Rattle.clover_run.specs.declared.recycler.Recycler.{Recycler}
 use Rattle.clover_run.specs.declared.served.Served.{Served}
 use Rattle.clover_run.specs.declared.want.Want.TheVariants.{Nothing}
 
 pub record Parts : Type 0 where
   pub setup : Setup
   pub pool : Plain
-  -- the server's side
+  -- the server's side, and the actor that takes old versions off
   pub served : Served
+  pub recycler : Recycler
   -- the clients, in the order of their numbers
   pub clients : List ClientState
 
@@ -75,20 +83,26 @@ pub record IsAt (o : Opening) (m : Parts) (rs : List Record) : Type 0 where
   pub pool : IsPoolAt o m.pool rs
   pub served : m.served ≡ served_after o.served rs
   pub server : HasServer m.pool m.served.server
+  pub recycler : IsRecyclerAt m.pool m.served m.recycler (doing 0 rs)
   pub clients : length m.clients ≡ o.setup.clients
   pub each : (i : ℕ) (x : ClientState) → nth m.clients i ≡ Some x → IsClientAt o m.pool i x rs
   -- a client that there is not has no task
   pub far : (a : ℕ) → o.setup.clients < a → (doing a rs).task ≡ None
   pub legal : Legal o.first o.used (entries_in rs)
   pub found : AllFound o rs
+  pub free : AllFree o rs
   pub alone : AloneSoFar o m.pool.words m.clients rs
 
 abbrev pub IsBehind : Parts → Type 0
 IsBehind m = (o : Opening) × (rs : List Record) × IsAt o m rs
 
+-- the batch of a side of which nothing was handed out
+abbrev pub no_batch : Batch
+no_batch = record { tags = replicate 64 (record { node = 0; index = 0; generation = 0 }); count = 0; few = leb-true 0 64 refl }
+
 -- the server's side of a pool of which nothing was handed out
 abbrev pub first_served : Setup → Served
-first_served s = record { server = new_server s (new_ledger s.pool) (nothing_bound s.pool); holder = None; read = 0; done = 0 }
+first_served s = record { server = new_server s (new_ledger s.pool) (nothing_bound s.pool); holder = None; read = 0; done = 0; batch = no_batch }
 
 -- the books are in order besides
 pub record IsFirstSide (s : Setup) (v : Served) : Type 0 where
@@ -99,11 +113,15 @@ pub record IsFirstSide (s : Setup) (v : Served) : Type 0 where
 abbrev pub first_opening : Setup → Opening
 first_opening s = record { setup = s; words = replicate (pool_words s.pool) 0; served = first_served s; first = finite.empty; used = []; run = 1; made = 0 }
 
--- the event may come: the actor is a client's number, with a task as the reader keeps it
+-- the task is one of the actor's: of a client's number a call as the reader keeps it, and of 0 one of the recycler
+abbrev pub IsTaskOfActor : ℕ → Task → Type 0
+IsTaskOfActor a (ClientTask call written) = (1 ≤ a) × IsCallTask call written
+IsTaskOfActor a task = a ≡ 0
+
+-- the event may come: a begin is of one of the actor's tasks
 abbrev pub MayCome : Event → Type 0
-MayCome (Begin a t) = (1 ≤ a) × IsTask t
-MayCome (Step a) = 1 ≤ a
-MayCome (Refuse a) = 1 ≤ a
+MayCome (Begin a t) = IsTaskOfActor a t
+MayCome event = Unit {0}
 
 -- an access of a client's own that was made is the last of those that it was told
 abbrev pub IsTold : Parts → Record → Type 0
@@ -128,6 +146,7 @@ pub record IsSame (m n : Parts) : Type 0 where
   pub setup : n.setup ≡ m.setup
   pub pool : Kept m.pool n.pool
   pub served : n.served ≡ m.served
+  pub recycler : n.recycler ≡ m.recycler
   pub clients : n.clients ≡ m.clients
 
 -- the actor is a client with a task
@@ -136,12 +155,15 @@ IsTasked None = ⊥
 IsTasked (Some x) = HasTask x
 
 abbrev pub IsBusy : Parts → ℕ → Type 0
-IsBusy m a = (i : ℕ) × (suc i ≡ a) × IsTasked (nth m.clients i)
+IsBusy m zero = m.recycler.chore ≢ None
+IsBusy m (suc i) = IsTasked (nth m.clients i)
 
--- a step of the actor only waits: it wants something of the server, which another one holds
+-- a step of the client only waits: it wants something of the server, which another one holds
 abbrev pub WaitsFor : Served → ℕ → Option ClientState → Type 0
 WaitsFor v a None = ⊥
 WaitsFor v a (Some x) = (x.want ≢ Nothing) × (is_elsewhere v.holder a ≡ true)
 
+-- and one of the recycler with a task waits where another one holds the server
 abbrev pub OnlyWaits : Parts → ℕ → Type 0
-OnlyWaits m a = (i : ℕ) × (suc i ≡ a) × WaitsFor m.served a (nth m.clients i)
+OnlyWaits m zero = (m.recycler.chore ≢ None) × (is_elsewhere m.served.holder 0 ≡ true)
+OnlyWaits m (suc i) = WaitsFor m.served (suc i) (nth m.clients i)

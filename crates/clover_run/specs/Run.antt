@@ -6,6 +6,7 @@ use Rattle.clover_words.specs.declared.setup.Setup.{Setup}
 use Rattle.clover_words.specs.declared.word.Word.TheVariants.{Short, Count}
 use Rattle.clover_words.specs.declared.word.Side.TheVariants.{Current}
 use Rattle.clover_words.specs.Next.{root_code}
+use Rattle.clover_words.specs.Tag.{TagParts}
 use Rattle.clover_map.specs.History.{own, key_of, is_commit}
 use Rattle.clover_map.specs.Tagged.{Tagged}
 use Rattle.clover_map.specs.declared.call.Call.{Call}
@@ -14,7 +15,8 @@ use Rattle.clover_map.specs.declared.call.Entry.{Entry}
 use Rattle.clover_map.specs.declared.call.Reply.{Reply}
 use Rattle.clover_map.specs.declared.call.Reply.TheVariants.{Stored, Deleted, Absent}
 use Rattle.clover_script.specs.declared.line.Task.{Task}
-use Rattle.clover_script.specs.declared.line.Task.TheVariants.{Client as ClientTask}
+use Rattle.clover_script.specs.declared.line.Task.TheVariants.{Client as ClientTask, Recycle, Sweep}
+use Rattle.clover_dir.specs.Directory.{root_of}
 use Rattle.clover_rule.specs.Accesses.{CameBack, Decides}
 use Rattle.clover_rule.specs.Lists.{Within}
 use Rattle.clover_rule.specs.declared.access.Access.{Access}
@@ -27,7 +29,7 @@ use Rattle.clover_sched.specs.declared.event.CallRefusal.TheVariants.{Behind, To
 use Rattle.clover_sched.specs.declared.event.Event.{Event}
 use Rattle.clover_sched.specs.declared.event.Event.TheVariants.{Begin, Step, Refuse}
 use Rattle.clover_run.specs.declared.event.Note.{Note}
-use Rattle.clover_run.specs.declared.event.Note.TheVariants.{Quiet, Answered, Refused, Busy, Missing}
+use Rattle.clover_run.specs.declared.event.Note.TheVariants.{Quiet, Answered, Refused, Unbound, Busy, Missing}
 use Rattle.clover_sched.specs.Ends.{MayBegin}
 use Rattle.clover_sched.specs.Run.{room, IsBlank, Flushes, Shortens, Wrote, lost}
 use Rattle.clover_run.specs.Ends.{ended}
@@ -35,6 +37,8 @@ use Rattle.clover_run.specs.Folds.{Doing, entries_in, words_after, served_after,
 use Rattle.clover_run.specs.Record.{Record}
 use Rattle.clover_run.specs.declared.served.Served.{Served}
 use Rattle.clover_run.specs.Serving.{IsServed}
+use Rattle.clover_run.specs.Cleaning.{IsCleaned}
+use Rattle.clover_run.specs.declared.recycler.Chore.TheVariants.{OfSlot, OfAll}
 use Rattle.clover_run.specs.Wanting.{slot_for, wants}
 use Rattle.clover_run.specs.declared.want.Want.{Want}
 use Rattle.clover_run.specs.declared.want.Want.TheVariants.{Nothing}
@@ -77,15 +81,32 @@ known_slot st call = slot_for (key_of call) st.names
 abbrev pub want_in : Standing → Call → Want
 want_in st call = wants call (known_slot st call) st.does.stock st.does.since
 
--- what an actor's begin comes to
-abbrev pub begin_note : Setup → Doing → ℕ → Task → Note
-begin_note s d a (ClientTask c written) = if ltb s.clients a then Missing a else free d.task
-  where
-    free : Option Task → Note
-    free None = if ltb (room s) written then Refused a (TooLong written (room s)) else Quiet
-    free (Some t) = Busy a
+-- an actor that has a task is busy
+abbrev pub unless_busy : Option Task → ℕ → Note → Note
+unless_busy None a note = note
+unless_busy (Some t) a note = Busy a
 
--- no access, no entry and this note, and the server's side stays
+-- the root version of a slot is there, or the slot is not bound
+abbrev pub if_bound : Option TagParts → Note
+if_bound None = Unbound
+if_bound (Some root) = Quiet
+
+-- what an actor's begin comes to
+abbrev pub begin_note : Setup → Served → Doing → ℕ → Task → Note
+begin_note s v d a (ClientTask c written) = if ltb s.clients a then Missing a else unless_busy d.task a (if ltb (room s) written then Refused a (TooLong written (room s)) else Quiet)
+begin_note s v d a (Recycle slot) = unless_busy d.task a (if_bound (root_of v.server.directory slot))
+begin_note s v d a Sweep = unless_busy d.task a Quiet
+
+-- the server's side behind a begin: the recycler's task begins with nothing read and nothing done
+abbrev pub cleared : Served → Note → Served
+cleared v Quiet = record v { read = 0; done = 0 }
+cleared v note = v
+
+abbrev pub begin_served : Task → Note → Served → Served
+begin_served (ClientTask c written) note v = v
+begin_served task note v = cleared v note
+
+-- no access, no entry and this note, and the server's side is this
 pub record Still (v : Served) (r : Record) (note : Note) : Type 0 where
   pub access : r.access ≡ None
   pub entry : r.entry ≡ None
@@ -212,6 +233,8 @@ IsStepFor p st call want r = IsServed st.actor st.does want call st.served r
 abbrev pub IsStepOf : Pool → Standing → Option Task → Record → Type 0
 IsStepOf p st None r = Still st.served r Quiet
 IsStepOf p st (Some (ClientTask call written)) r = IsStepFor p st call (want_in st call) r
+IsStepOf p st (Some (Recycle slot)) r = IsCleaned (OfSlot slot) st.served r
+IsStepOf p st (Some Sweep) r = IsCleaned OfAll st.served r
 
 -- a step of an actor, with its access as it must be
 pub record IsStep (p : Pool) (st : Standing) (r : Record) : Type 0 where
@@ -220,7 +243,7 @@ pub record IsStep (p : Pool) (st : Standing) (r : Record) : Type 0 where
 
 -- the record fits behind those before it
 abbrev pub Fits : Opening → List Record → Record → Event → Type 0
-Fits o before r (Begin a t) = Still (served_after o.served before) r (begin_note o.setup (doing a before) a t)
+Fits o before r (Begin a t) = Still (begin_served t r.note (served_after o.served before)) r (begin_note o.setup (served_after o.served before) (doing a before) a t)
 Fits o before r (Step a) = IsStep o.setup.pool (standing o a before) r
 Fits o before r (Refuse a) = Still (served_after o.served before) r Quiet
 

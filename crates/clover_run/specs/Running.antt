@@ -1,5 +1,5 @@
 -- Running a line over a machine, one event at a time: what is left of a line behind some records, and what it came to next.
-use Rattle.std.specs.Prelude.{◌≡◌, ◌≤◌, ◌⊎◌, ℕ, List, [], ◌∷◌, ◌++◌, length, All, Option, Some, None, IfSome}
+use Rattle.std.specs.Prelude.{◌≡◌, ◌≤◌, ◌⊎◌, ℕ, List, [], ◌∷◌, ◌++◌, length, All, Option, Some, None}
 use Rattle.clover_script.specs.declared.line.Line.{Line}
 use Rattle.clover_script.specs.declared.line.Line.TheVariants as line
 use Rattle.clover_script.specs.declared.line.Task.{Task}
@@ -35,10 +35,6 @@ abbrev pub steps_line : Work → Line
 steps_line (Steps a n) = line.Step a n
 steps_line (Finish a) = line.Finish a
 
-abbrev pub actor_in : Work → ℕ
-actor_in (Steps a n) = a
-actor_in (Finish a) = a
-
 -- how many steps may still be made
 abbrev pub steps_left : Parts → Work → ℕ
 steps_left m (Steps a n) = n
@@ -73,13 +69,10 @@ Comes l (Some x) before more = (r : Record) × (more ≡ r ∷ []) × (r.note �
 -- the first event of the line may come
 abbrev pub MayRun : Line → Type 0
 MayRun (line.Begin a t) = MayCome (Begin a t)
-MayRun (line.Step a n) = 1 ≤ a
-MayRun (line.Finish a) = 1 ≤ a
 MayRun (line.Call a t) = MayCome (Begin a t)
-MayRun (line.Refuse a) = 1 ≤ a
+MayRun l = Unit {0}
 
 -- The machine went on by the next event of the line, or by all that was left of it: behind any records behind which it stood it stands behind these too.
 pub record Advances (m n : Parts) (l : Line) (came : Option Advance) : Type 0 where
   pub ran : (o : Opening) (rs : List Record) → IsAt o m rs → (more : List Record) × IsAt o n (rs ++ more) × Comes l came rs more
   pub goes_on : Continues m n
-  pub actor : IfSome came (λ x. 1 ≤ actor_in x.left)

@@ -4,7 +4,6 @@ use Rattle.clover_words.specs.Tag.{TagParts}
 use Rattle.clover_alloc.specs.Batch.{tags_of}
 use Rattle.clover_alloc.specs.Ledger.{Ledger}
 use Rattle.clover_alloc.specs.Taking.{Takes}
-use Rattle.clover_alloc.specs.declared.batch.Batch.{Batch}
 use Rattle.clover_map.specs.declared.call.Call.{Call}
 use Rattle.clover_map.specs.declared.call.Call.TheVariants.{Put}
 use Rattle.clover_rule.specs.Steps.{Step, act_of}
@@ -70,13 +69,12 @@ abbrev pub TakesFor : Want → Ledger → ℕ → List TagParts → Ledger → T
 TakesFor Stock before count tags after = Takes before count tags after
 TakesFor want before count tags after = (tags ≡ []) × (after ≡ before)
 
--- the actor is handed a batch and all bindings that it does not know, and lets the server go
+-- the actor is handed a batch, which the server's side keeps as the last one, and all bindings that it does not know, and lets the server go
 pub record Hands (a : ℕ) (d : Doing) (want : Want) (v : Served) (n : ServerState) (r : Record) : Type 0 where
-  pub batch : Batch
   pub books : Ledger
-  pub takes : TakesFor want n.books n.setup.batch (tags_of batch) books
-  pub note : r.note ≡ Granted a batch (length n.directory.list - d.known)
-  pub served : r.served ≡ let_go (record n { books = books }) v
+  pub takes : TakesFor want n.books n.setup.batch (tags_of r.served.batch) books
+  pub note : r.note ≡ Granted a (length n.directory.list - d.known)
+  pub served : r.served ≡ record (let_go (record n { books = books }) v) { batch = r.served.batch }
 
 -- what the event comes to where its step of the server came to this turn, and left the server so
 abbrev pub Leaves : (a : ℕ) (d : Doing) (want : Want) (v : Served) (n : ServerState) → ServerTurn → Record → Type 0

@@ -1,8 +1,7 @@
 -- The printed text of a run: the lines of each record, and at the end the history and the number of accesses.
-use Rattle.std.specs.Prelude.{ℕ, List, [], ◌∷◌, ◌++◌, Bool, true, false, decimal, codes, flat_map}
+use Rattle.std.specs.Prelude.{ℕ, List, [], ◌++◌, Bool, true, decimal, codes, flat_map}
 use Rattle.clover_words.specs.Tag.{TagParts, tag_number}
 use Rattle.clover_alloc.specs.Batch.{tags_of}
-use Rattle.clover_alloc.specs.declared.batch.Batch.{Batch}
 use Rattle.clover_script.specs.Text.{tag_text, reply_text, told_line, unreached_text, busy_text, none_text}
 use Rattle.clover_sched.specs.Text.{ending, refusal_text, traced}
 use Rattle.clover_run.specs.Folds.{entries_in, made_after}
@@ -29,7 +28,7 @@ note_line (Answered c r) = told_line c (reply_text r)
 note_line (Refused c y) = told_line c (refusal_text y)
 note_line (Full c bound worn out) = told_line c (full_text bound worn out)
 note_line (NoSlot c) = told_line c (codes "noslot")
-note_line (Granted c batch names) = []
+note_line (Granted c names) = []
 note_line (Recycled old) = told_line 0 (recycled_text (tag_number old))
 note_line Unlinked = told_line 0 (codes "unlinked")
 note_line Unbound = told_line 0 (codes "unbound")
@@ -46,17 +45,17 @@ spaced_tag t = codes " " ++ tag_text (tag_number t)
 abbrev pub grant_line : ℕ → List TagParts → ℕ → List ℕ
 grant_line c tags names = codes "g " ++ (decimal c ++ (codes " " ++ (decimal names ++ (flat_map spaced_tag tags ++ codes "\n"))))
 
--- with the trace, a grant has its line
-abbrev pub granted : Bool → Note → List ℕ
-granted true (Granted c batch names) = grant_line c (tags_of batch) names
-granted trace note = []
+-- with the trace, a grant has its line; the tags are those that were handed out last
+abbrev pub granted : Bool → List TagParts → Note → List ℕ
+granted true tags (Granted c names) = grant_line c tags names
+granted trace tags note = []
 
-abbrev pub noted : Bool → Note → List ℕ
-noted trace note = granted trace note ++ note_line note
+abbrev pub noted : Bool → List TagParts → Note → List ℕ
+noted trace tags note = granted trace tags note ++ note_line note
 
 -- with the trace, the line of the access stands before
 abbrev pub said : Bool → Record → List ℕ
-said trace r = traced trace r.access ++ noted trace r.note
+said trace r = traced trace r.access ++ noted trace (tags_of r.served.batch) r.note
 
 -- the text of some records, behind so many accesses before them
 abbrev pub text : Bool → ℕ → List Record → List ℕ

@@ -5,7 +5,6 @@ use Rattle.clover_map.specs.History.{key_of}
 use Rattle.clover_map.specs.declared.call.Call.{Call}
 use Rattle.clover_alloc.specs.Batch.{tags_of}
 use Rattle.clover_alloc.specs.Ledger.{Ledger}
-use Rattle.clover_alloc.specs.declared.batch.Batch.{Batch}
 use Rattle.clover_rule.specs.Accesses.{CameBack}
 use Rattle.clover_rule.specs.Lists.{IsPrefix}
 use Rattle.clover_rule.specs.declared.access.Access.{Access}
@@ -75,25 +74,24 @@ pub record MayGrant (o : Opening) (i : ℕ) (x : ClientState) (v : Served) (p : 
   pub ended : v.server.sweep ≡ None
   pub free : x.want ≡ Stock → 0 < free_in v.server
 
--- The server's side handed the client of seat i a batch where it wants stock, and all bindings that it does not know; that has started its call anew.
+-- The server's side handed the client of seat i a batch where it wants stock, which it keeps as the last one, and all bindings that it does not know; that has started its call anew.
 pub record WasGranted (i : ℕ) (x y : ClientState) (v w : Served) (p q : Plain) (note : Note) : Type 0 where
-  pub batch : Batch
   pub books : Ledger
   pub added : List (ℕ × List ℕ)
-  pub takes : TakesFor x.want v.server.books v.server.setup.batch (tags_of batch) books
+  pub takes : TakesFor x.want v.server.books v.server.setup.batch (tags_of w.batch) books
   pub names : x.node.names ++ added ≡ v.server.directory.list
-  pub note_is : note ≡ Granted (suc i) batch (length added)
-  pub side : w ≡ let_go (record v.server { books = books }) v
-  pub handed : Handed (suc i) (numbers_of batch) added p q
+  pub note_is : note ≡ Granted (suc i) (length added)
+  pub side : w ≡ record (let_go (record v.server { books = books }) v) { batch = w.batch }
+  pub handed : Handed (suc i) (numbers_of w.batch) added p q
   pub history_same : history q ≡ history p
-  pub holds : (call : Call) → NodeHolds (granted_to x (tags_of batch) added).node call (view_at q i) x.room
+  pub holds : (call : Call) → NodeHolds (granted_to x (tags_of w.batch) added).node call (view_at q i) x.room
   pub server : HasServer q w.server
-  pub started : (call : Call) → x.call ≡ Some call → Started (granted_to x (tags_of batch) added) y call
+  pub started : (call : Call) → x.call ≡ Some call → Started (granted_to x (tags_of w.batch) added) y call
 
 -- where the note is a grant's, the client has what was granted, and has started its call anew; else its node is as it was
-abbrev pub Regards : Note → ClientState → ClientState → Call → Type 0
-Regards (Granted c batch names) x y call = (added : List (ℕ × List ℕ)) × (length added ≡ names) × Started (granted_to x (tags_of batch) added) y call
-Regards note x y call = y.node ≡ x.node
+abbrev pub Regards : Note → Served → ClientState → ClientState → Call → Type 0
+Regards (Granted c names) w x y call = (added : List (ℕ × List ℕ)) × (length added ≡ names) × Started (granted_to x (tags_of w.batch) added) y call
+Regards note w x y call = y.node ≡ x.node
 
 -- What a grant has brought a client that wanted something: it knows all bindings, among them that of a put's key, and has a stock where it wanted one.
 pub record Gained (x y : ClientState) (call : Call) (s : ServerState) : Type 0 where
@@ -103,7 +101,7 @@ pub record Gained (x y : ClientState) (call : Call) (s : ServerState) : Type 0 w
 
 -- where the note is a grant's
 abbrev pub OnGrant : Note → Type 0 → Type 0
-OnGrant (Granted c batch names) A = A
+OnGrant (Granted c names) A = A
 OnGrant note A = Unit {0}
 
 -- The client of seat i, which wants something, had its step, which came to this note: in any run that leads to where it stood this is a step that serves it, and it stands where that leads.
@@ -117,7 +115,7 @@ pub record WasServed (o : Opening) (i : ℕ) (x y : ClientState) (v w : Served) 
   pub grows : IsPrefix v.server.directory.list w.server.directory.list
   pub follows : (st : Standing) → IsOf i x p st → Matches x (view_at p i) Wants st.does → st.served ≡ v
       → IfSome access (IsAccess o.setup.pool st) × IsServed (st.actor) st.does x.want (call_at x (view_at p i)) v (step_record st access None note w) × Matches y (view_at q i) after (stepped st.does (step_record st access None note w))
-  pub regards : Regards note x y (call_at x (view_at p i))
+  pub regards : Regards note w x y (call_at x (view_at p i))
   pub gained : OnGrant note (Gained x y (call_at x (view_at p i)) w.server)
   -- a step with which the server works on leaves it less to do
   pub lowers : note ≡ Quiet → work_left w.server < work_left v.server

@@ -7,7 +7,7 @@ ghost use Rattle.clover_dir.specs.Bindings.{pairs_of};
 ghost use Rattle.clover_rule.specs.Names.{KeysOnce};
 ghost use Rattle.clover_node.specs.Accepting.{MayTake};
 ghost use Rattle.clover_plain.specs.Plain.{Plain};
-ghost use Rattle.clover_sched.specs.Client.{IsTask};
+ghost use Rattle.clover_sched.specs.Client.{IsCallTask};
 ghost use Rattle.clover_run.specs.Client.{HasTask, IsFirst, Rests, Stands, Begun, Started, StartsFrom, granted_to};
 ghost use Rattle.clover_run.specs.Run.{Opening};
 
@@ -23,7 +23,6 @@ use clover_map::Call;
 use clover_node::{Node, NodeRefusal};
 use clover_plain::PlainPool;
 use clover_sched::CallRefusal;
-use clover_script::Task;
 use clover_words::{Setup, ValueBuf};
 use std::alloc::Global;
 
@@ -62,15 +61,14 @@ impl ClientState {
         self.call.is_some() || self.node.is_busy()
     }
 
-    /// Begins a task, and answers what that comes to: nothing that is printed, or that the value is longer than the room
-    /// of a buffer.
+    /// Begins a call whose value was written with so many bytes, and answers what that comes to: nothing that is
+    /// printed, or that the value is longer than the room of a buffer.
     #[inline(always)]
-    pub(crate) fn begin(&mut self, setup: &Setup, client: u32, task: Task) -> Note
-        requires task { IsTask task }
+    pub(crate) fn begin(&mut self, setup: &Setup, client: u32, call: Call, written: u32) -> Note
+        requires task { IsCallTask call written }
         requires rests { (o : Opening) × (p : Plain) × (i : ℕ) × (suc i ≡ client) × (o.setup ≡ setup.now) × Stands o p i self.old Rests }
-        ensures { Begun client setup.now self.old self.new task result }
+        ensures { Begun client setup.now self.old self.new call written result }
     {
-        let Task::Client { call, written } = task;
         let length = u64::from(written);
         let room = 8 * u64::from(setup.pool.words);
         if length > room {

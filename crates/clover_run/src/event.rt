@@ -1,5 +1,4 @@
 // What an event of a run comes to, where a metadata server hands out the space. The type is data alone.
-use clover_alloc::Batch;
 use clover_map::Reply;
 use clover_sched::CallRefusal;
 use clover_words::Tag;
@@ -33,9 +32,9 @@ pub enum Note {
         client: u32,
     },
     /// The server handed a client a batch of buffers, and so many bindings that it did not know; its call starts anew.
+    /// The batch stands on the server's side, so that a note is small: each event moves one.
     Granted {
         client: u32,
-        batch: Batch,
         names: u32,
     },
     /// The recycler has taken the slot's root version off, which had this tag, and given its buffer back.

@@ -5,6 +5,7 @@
 mod client;
 mod event;
 mod machine;
+mod recycler;
 mod runner;
 mod served;
 #[cfg(test)]
@@ -15,6 +16,7 @@ mod want;
 pub use client::ClientState;
 pub use event::Note;
 pub use machine::Machine;
+pub use recycler::{Chore, Recycler};
 pub use runner::{Advance, Work, begin_line, work_on};
 pub use served::Served;
 pub use text::push_note;

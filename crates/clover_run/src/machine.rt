@@ -1,39 +1,44 @@
 // The machine: a pool with its server and its clients, one event at a time.
-ghost use Rattle.std.specs.Prelude.{◌≡◌, ◌+◌, ◌<◌, ◌≤◌, ◌⊎◌, ◌↔◌, [], false, ℕ, List, length, IsTrue, IfOk, OnErr, Some};
+ghost use Rattle.std.specs.Prelude.{◌≡◌, ◌+◌, ◌<◌, ◌≤◌, ◌++◌, ◌∷◌, ◌⊎◌, ◌↔◌, [], false, ℕ, List, length, IsTrue, IfOk, OnErr, Some};
 ghost use Rattle.clover_rule.specs.Lists.{nth};
 ghost use Rattle.clover_run.specs.Client.{IsFirst};
 ghost use Rattle.clover_run.specs.Folds.{entries_in, traced_in, made_after};
 ghost use Rattle.clover_run.specs.Left.{left};
-ghost use Rattle.clover_run.specs.Machine.{IsAt, Continues, Happens, IsSame, MayCome, IsBusy, IsFirstSide, OnlyWaits, WantsNothing, first_opening};
+ghost use Rattle.clover_run.specs.Machine.{IsAt, Continues, Happens, IsSame, MayCome, IsBusy, IsFirstSide, OnlyWaits, WantsNothing, first_opening, no_batch};
 ghost use Rattle.clover_run.specs.Record.{Record};
 ghost use Rattle.clover_run.specs.Run.{Opening};
 ghost use Rattle.clover_run.specs.declared.client.ClientState.{ClientState as State};
+ghost use Rattle.clover_sched.specs.Client.{IsCallTask};
+ghost use Rattle.clover_script.specs.declared.line.Task.TheVariants.{Client as ClientTask};
 ghost use Rattle.clover_sched.specs.declared.event.Event.TheVariants.{Begin as BeginOf, Step as StepOf, Refuse as RefuseOf};
 ghost use Rattle.clover_run.specs.declared.event.Note.TheVariants.{Quiet as IsQuiet};
 
 use crate::client::ClientState;
 use crate::event::Note;
+use crate::recycler::{Chore, Recycler};
 use crate::served::Served;
 use crate::want::Want;
-use clover_alloc::Books;
+use clover_alloc::{Batch, Books};
 use clover_dir::Directory;
 use clover_list::OutOfMemory;
-use clover_map::Entry;
+use clover_map::{Call, Entry};
 use clover_plain::PlainPool;
 use clover_rule::Access;
 use clover_sched::Event;
 use clover_script::Task;
 use clover_server::{Server, first_law};
-use clover_words::Setup;
+use clover_words::{Setup, Tag};
 use std::alloc::Global;
 use std::marker::Model;
 
-/// A pool with its metadata server and its clients, each with at most one call under way. Events come in any order.
+/// A pool with its metadata server, its clients, each with at most one call under way, and the recycler, which is actor
+/// 0. Events come in any order.
 #[derive(Drop)]
 pub struct Machine {
     setup: Setup,
     pool: PlainPool,
     served: Served,
+    recycler: Recycler,
     clients: Vec<ClientState>,
 }
 
@@ -77,7 +82,23 @@ fn first_side(alloc: Global, setup: Setup) -> Result<Served, OutOfMemory>
         holder: None,
         read: 0,
         done: 0,
+        batch: no_batch(),
     })
+}
+
+// The batch of a side of which nothing was handed out.
+fn no_batch() -> Batch
+    ensures { result ≡ no_batch }
+{
+    let nothing = Tag {
+        node: 0,
+        index: 0,
+        generation: 0,
+    };
+    Batch {
+        tags: [nothing; 64],
+        count: 0,
+    }
 }
 
 impl Machine {
@@ -88,12 +109,14 @@ impl Machine {
         ensures parts { IfOk result (λ m. (m.setup ≡ setup) × (m.pool.traced ≡ trace)) }
     {
         let pool = PlainPool::make(alloc, setup, trace)?;
+        pool.stands();
         let served = first_side(alloc, setup)?;
         let clients = first_clients(alloc, setup)?;
         Ok(Machine {
             setup,
             pool,
             served,
+            recycler: Recycler::idle(),
             clients,
         })
     }
@@ -125,6 +148,21 @@ impl Machine {
         ensures happened { Happens self.old self.new (BeginOf actor task) result }
         ensures parts { Continues self.old self.new }
     {
+        match task {
+            Task::Client { call, written } => self.begin_call(actor, call, written),
+            Task::Recycle(slot) => self.served.begin(&mut self.recycler, Chore::OfSlot(slot)),
+            Task::Sweep => self.served.begin(&mut self.recycler, Chore::OfAll),
+        }
+    }
+
+    // Begins a client's call.
+    #[inline(always)]
+    fn begin_call(&mut self, actor: u32, call: Call, written: u32) -> Note
+        requires client { 1 ≤ actor }
+        requires may { IsCallTask call written }
+        ensures happened { Happens self.old self.new (BeginOf actor (ClientTask call written)) result }
+        ensures parts { Continues self.old self.new }
+    {
         let seat = actor as usize - 1;
         if seat >= self.clients.len() {
             return Note::Missing { actor };
@@ -133,7 +171,7 @@ impl Machine {
             return Note::Busy { actor };
         }
         self.pool.stands();
-        self.clients[seat].begin(&self.setup, actor, task)
+        self.clients[seat].begin(&self.setup, actor, call, written)
     }
 
     /// Makes a step of an actor: the next access of its call, or a step of the server for it; nothing happens where it has
@@ -142,7 +180,6 @@ impl Machine {
     /// `OutOfMemory` for want of memory, before anything has changed.
     #[inline(always)]
     pub(crate) fn step(&mut self, actor: u32) -> Result<Note, OutOfMemory>
-        requires { 1 ≤ actor }
         ensures happened { IfOk result (Happens self.old self.new (StepOf actor)) }
         ensures parts { IfOk result (λ note. Continues self.old self.new) }
         ensures less { IfOk result (λ note. IsBusy self.old actor → (OnlyWaits self.old actor → ⊥) → left self.new actor < left self.old actor) }
@@ -150,6 +187,9 @@ impl Machine {
     {
         if !self.is_busy(actor) {
             return Ok(Note::Quiet);
+        }
+        if actor == 0 {
+            return self.step_recycler();
         }
         self.pool.stands();
         let seat = actor as usize - 1;
@@ -195,12 +235,29 @@ impl Machine {
         done
     }
 
+    // Makes a step of the recycler, which has a task.
+    fn step_recycler(&mut self) -> Result<Note, OutOfMemory>
+        requires busy { IsBusy self.old 0 }
+        ensures happened { IfOk result (Happens self.old self.new (StepOf 0)) }
+        ensures parts { IfOk result (λ note. Continues self.old self.new) }
+        ensures less { IfOk result (λ note. (OnlyWaits self.old 0 → ⊥) → left self.new 0 < left self.old 0) }
+        ensures same { OnErr result (IsSame self.old self.new) }
+    {
+        self.pool.stands();
+        let done = self.served.clean(&mut self.pool, &mut self.recycler);
+        self.pool.stands();
+        done
+    }
+
     /// Has the next access in an event of an actor refused.
     pub(crate) fn refuse(&mut self, actor: u32)
-        requires { 1 ≤ actor }
         ensures happened { Happens self.old self.new (RefuseOf actor) IsQuiet }
         ensures parts { Continues self.old self.new }
     {
+        if actor == 0 {
+            self.recycler.refusing = true;
+            return;
+        }
         let seat = actor as usize - 1;
         if seat < self.clients.len() {
             self.clients[seat].refusing = true;
@@ -209,9 +266,11 @@ impl Machine {
 
     /// Whether an actor has a task.
     pub fn is_busy(&self, actor: u32) -> bool
-        requires { 1 ≤ actor }
         ensures busy { IsTrue result ↔ IsBusy self.now actor }
     {
+        if actor == 0 {
+            return self.recycler.is_busy();
+        }
         match self.clients.get(actor as usize - 1) {
             Some(client) => client.is_busy(),
             None => false,
@@ -220,9 +279,11 @@ impl Machine {
 
     /// Whether a step of an actor would only wait: it wants something of the server, which another one holds.
     pub fn only_waits(&self, actor: u32) -> bool
-        requires { 1 ≤ actor }
         ensures { IsTrue result ↔ OnlyWaits self.now actor }
     {
+        if actor == 0 {
+            return self.recycler.is_busy() && self.served.is_elsewhere(0);
+        }
         match self.clients.get(actor as usize - 1) {
             Some(client) => client.want != Want::Nothing && self.served.is_elsewhere(actor),
             None => false,
@@ -232,7 +293,6 @@ impl Machine {
     /// Whether a step of an actor does anything: it has a task, and does not only wait.
     #[inline(always)]
     pub fn acts(&self, actor: u32) -> bool
-        requires { 1 ≤ actor }
         ensures yes { IsTrue result → IsBusy self.now actor × (OnlyWaits self.now actor → ⊥) }
         ensures no { result ≡ false → (IsBusy self.now actor → ⊥) ⊎ OnlyWaits self.now actor }
     {
@@ -244,6 +304,13 @@ impl Machine {
         ensures { result ≡ self.now.pool.traced }
     {
         self.pool.traced()
+    }
+
+    /// The batch that was handed out last: where the last event was a grant, its batch.
+    pub fn batch(&self) -> &Batch
+        ensures { (o : Opening) (rs : List Record) (r : Record) → IsAt o self.now (rs ++ r ∷ []) → result.now ≡ r.served.batch }
+    {
+        &self.served.batch
     }
 
     /// The history so far.

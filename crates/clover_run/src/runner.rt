@@ -3,7 +3,7 @@
 ghost use Rattle.std.specs.Prelude.{◌≡◌, ◌≤◌, ◌<◌, ◌↔◌, IsTrue, IfOk, IfSome, OnErr};
 ghost use Rattle.clover_run.specs.Lines.{IsTurnedAway};
 ghost use Rattle.clover_run.specs.Machine.{IsSame};
-ghost use Rattle.clover_run.specs.Running.{Advances, MayRun, actor_in, steps_line, steps_left};
+ghost use Rattle.clover_run.specs.Running.{Advances, MayRun, steps_line, steps_left};
 
 use crate::event::Note;
 use crate::machine::Machine;
@@ -88,7 +88,6 @@ pub fn begin_line(machine: &mut Machine, line: Line) -> Result<Option<Advance>, 
 /// `OutOfMemory` for want of memory, and then nothing has happened.
 #[inline(always)]
 pub fn work_on(machine: &mut Machine, work: Work) -> Result<Option<Advance>, OutOfMemory>
-    requires { 1 ≤ actor_in work }
     ensures came { IfOk result (Advances machine.old machine.new (steps_line work)) }
     ensures less { IfOk result (λ came. IfSome came (λ x. steps_left machine.new x.left < steps_left machine.old work)) }
     ensures same { OnErr result (IsSame machine.old machine.new) }

@@ -1,6 +1,6 @@
 // The server's side of a run: the server itself, and who holds it.
 ghost use Prim.Native.Nat.{suc};
-ghost use Rattle.std.specs.Prelude.{◌≡◌, ◌≢◌, ◌<◌, ◌-◌, ◌^◌, ◌↔◌, [], ℕ, true, false, None, IsTrue, IfOk, OnErr};
+ghost use Rattle.std.specs.Prelude.{◌≡◌, ◌≢◌, ◌<◌, ◌≤◌, ◌+◌, ◌-◌, ◌^◌, ◌↔◌, [], ℕ, true, false, None, IsTrue, IfOk, OnErr};
 ghost use Rattle.clover_words.specs.Tag.{tag_number};
 ghost use Rattle.clover_words.specs.declared.pool.Pool.{Pool as PoolShape};
 ghost use Rattle.clover_rule.specs.Content.{InRange};
@@ -8,17 +8,22 @@ ghost use Rattle.clover_rule.specs.Lists.{Each};
 ghost use Rattle.clover_rule.specs.declared.view.View.{View};
 ghost use Rattle.clover_alloc.specs.Batch.{tags_of};
 ghost use Rattle.clover_server.specs.Holding.{Agrees};
-ghost use Rattle.clover_server.specs.Left.{OnMore, work_left};
-ghost use Rattle.clover_server.specs.Looking.{free_in};
+ghost use Rattle.clover_server.specs.Left.{Lessens, OnMore, sweep_left, work_left};
+ghost use Rattle.clover_server.specs.Looking.{free_in, given_back};
+ghost use Rattle.clover_server.specs.Told.{IsOwnTurn};
 ghost use Rattle.clover_plain.specs.Plain.{HasRoom, Kept};
 ghost use Rattle.clover_run.specs.Run.{Opening};
 ghost use Rattle.clover_run.specs.Served.{is_elsewhere};
 ghost use Rattle.clover_run.specs.Serving.{Serves, TakesFor};
 ghost use Rattle.clover_run.specs.Working.{HasServer, MayGrant, MayServe, WasGranted, WasServed, Worked};
+ghost use Rattle.clover_run.specs.Cleaning.{Cleans, clean_note, holder_of, reads, slot_due};
+ghost use Rattle.clover_run.specs.Recycling.{BeginsChore, MayClean, MayRecycle, RecycledFor, WasCleaned};
+ghost use Rattle.clover_server.specs.declared.turn.ServerTurn.TheVariants.{Unlinked as TurnUnlinked};
 ghost use Rattle.clover_run.specs.declared.want.Want.TheVariants.{Nothing as WantsNothing, Stock as WantsStock};
 
 use crate::client::ClientState;
 use crate::event::Note;
+use crate::recycler::{Chore, Recycler};
 use crate::want::Want;
 use clover_alloc::Batch;
 use clover_list::OutOfMemory;
@@ -29,14 +34,15 @@ use clover_rule::Actor;
 use clover_sched::CallRefusal;
 use clover_server::{Server, ServerTurn};
 
-/// The server, and the actor that holds it between two events; and of the recycler's task, how many bindings it has
-/// read unlinked and how many recyclings have ended in its events.
+/// The server, and the actor that holds it between two events; of the recycler's task, how many bindings it has read
+/// unlinked and how many recyclings have ended in its events; and the batch that was handed out last.
 #[derive(Drop)]
 pub struct Served {
     pub server: Server,
     pub holder: Option<u32>,
     pub read: u32,
     pub done: u64,
+    pub batch: Batch,
 }
 
 // Makes a step of the server towards what a call wants: at most one access.
@@ -79,6 +85,52 @@ fn work(
     let turn = step_for(server, &mut port, want, call);
     *refusing = port.refuse;
     turn
+}
+
+// Makes an access of the slot's recycling, or without a slot of the unfinished task.
+fn clean_for<P: Port>(server: &mut Server, port: &mut P, slot: Option<u32>) -> ServerTurn
+    requires may { MayRecycle slot server.old }
+    requires agrees { Agrees (P.pool port.old) [] server.old (P.view port.old) }
+    ensures cleans { Cleans slot server.old server.new result (record { made = λ a x. P.made port.old a false x port.new; failed = P.failed port.old port.new; still = port.new ≡ port.old }) }
+    ensures lessens { Lessens result (sweep_left server.old) (sweep_left server.new) }
+    ensures gives { given_back server.new ≤ given_back server.old + 1 }
+    ensures own { IsOwnTurn result }
+    ensures agrees { Agrees (P.pool port.new) [] server.new (P.view port.new) }
+{
+    match slot {
+        Some(slot) => server.recycle_step(port, slot),
+        None => server.finish_step(port),
+    }
+}
+
+// Makes an access of the slot's recycling in the pool, or without a slot of the unfinished task. Where `refuse` is set it
+// is refused, and that is not set any more.
+fn recycle_for(
+    server: &mut Server,
+    pool: &mut PlainPool,
+    slot: Option<u32>,
+    refuse: &mut bool,
+) -> ServerTurn
+    requires may { MayRecycle slot server.old }
+    requires room { HasRoom pool.old }
+    requires made { pool.old.made < 2 ^ 64 - 1 }
+    requires stands { HasServer pool.old server.old }
+    ensures { RecycledFor slot refuse.old refuse.new server.old server.new pool.old pool.new result }
+{
+    let mut port = pool.port(Actor::Server, *refuse);
+    let turn = clean_for(server, &mut port, slot);
+    *refuse = port.refuse;
+    turn
+}
+
+// How many bindings more a sweep has read unlinked.
+fn read_by(chore: Chore, turn: ServerTurn) -> u32
+    ensures { result ≡ reads chore turn }
+{
+    match (chore, turn) {
+        (Chore::OfAll, ServerTurn::Unlinked) => 1,
+        _ => 0,
+    }
 }
 
 // Takes what a call wants from the books: a batch where it wants stock, and else nothing.
@@ -183,6 +235,135 @@ impl Served {
         }
     }
 
+    /// Begins a task of the recycler, and answers what that comes to: nothing that is printed, or that it has one
+    /// already, or that the slot is not bound. Nothing is read then, and nothing is done.
+    pub(crate) fn begin(&mut self, recycler: &mut Recycler, chore: Chore) -> Note
+        ensures { BeginsChore chore recycler.old recycler.new self.old self.new result }
+    {
+        if recycler.is_busy() {
+            return Note::Busy { actor: 0 };
+        }
+        if let Chore::OfSlot(slot) = chore {
+            if !self.server.is_bound(slot) {
+                return Note::Unbound;
+            }
+        }
+        self.read = 0;
+        self.done = 0;
+        recycler.chore = Some(chore);
+        Note::Quiet
+    }
+
+    /// Makes the step of a recycler that has a task: it waits where another actor holds the server, and else makes a
+    /// step there.
+    ///
+    /// `OutOfMemory` for want of memory, and then nothing has changed.
+    pub(crate) fn clean(
+        &mut self,
+        pool: &mut PlainPool,
+        recycler: &mut Recycler,
+    ) -> Result<Note, OutOfMemory>
+        requires may { (o : Opening) × MayClean o recycler.old self.old pool.old }
+        ensures cleaned { IfOk result (λ note. (o : Opening) → MayClean o recycler.old self.old pool.old → WasCleaned o recycler.old recycler.new self.old self.new pool.old pool.new note) }
+        ensures same { OnErr result ((recycler.new ≡ recycler.old) × (self.new ≡ self.old) × Kept pool.old pool.new) }
+    {
+        if self.is_elsewhere(0) {
+            return Ok(Note::Waits);
+        }
+        if pool.made() == u64::MAX {
+            return Err(OutOfMemory);
+        }
+        pool.reserve()?;
+        Ok(self.recycle(pool, recycler))
+    }
+
+    // Makes an access of the recycler's task, or of one that is unfinished; none where its sweep has nothing to read.
+    fn recycle(&mut self, pool: &mut PlainPool, recycler: &mut Recycler) -> Note
+        requires room { HasRoom pool.old }
+        requires made { pool.old.made < 2 ^ 64 - 1 }
+        requires free { is_elsewhere self.old.holder 0 ≡ false }
+        requires may { (o : Opening) × MayClean o recycler.old self.old pool.old }
+        ensures { (o : Opening) → MayClean o recycler.old self.old pool.old → WasCleaned o recycler.old recycler.new self.old self.new pool.old pool.new result }
+    {
+        let Some(chore) = recycler.chore else {
+            unreachable!()
+        };
+        let slot = self.slot_due(chore);
+        if slot.is_none() && !self.server.unfinished() {
+            recycler.chore = None;
+            return Note::Swept { count: self.done };
+        }
+        let before = self.given_back();
+        let turn = recycle_for(&mut self.server, pool, slot, &mut recycler.refusing);
+        self.holder = self.cleaner();
+        self.done += u64::from(self.given_back().saturating_sub(before));
+        pool.stands();
+        self.read += read_by(chore, turn);
+        let note = self.clean_note(chore, turn);
+        if !matches!(note, Note::Quiet) {
+            recycler.chore = None;
+        }
+        note
+    }
+
+    // Who holds the server behind an access for the recycler: nobody but the recycler, while a recycling is under way.
+    fn cleaner(&self) -> Option<u32>
+        ensures { result ≡ holder_of self.now.server.task }
+    {
+        if self.server.under_way() {
+            Some(0)
+        } else {
+            None
+        }
+    }
+
+    // The slot whose root version is to be taken off next; none where a sweep has no binding left.
+    fn slot_due(&self, chore: Chore) -> Option<u32>
+        ensures { result ≡ slot_due chore self.now }
+    {
+        match chore {
+            Chore::OfSlot(slot) => Some(slot),
+            Chore::OfAll => self.server.slot_at(self.read),
+        }
+    }
+
+    // How many buffers the books have as free or worn.
+    fn given_back(&self) -> u32
+        ensures { result ≡ given_back self.now.server }
+    {
+        let counts = self.server.counts();
+        counts.free + counts.worn
+    }
+
+    // What the recycler's access comes to that was told so; a sweep ends behind the last of the bindings.
+    fn clean_note(&self, chore: Chore, turn: ServerTurn) -> Note
+        requires { IsOwnTurn turn }
+        ensures { result ≡ clean_note chore self.now turn }
+    {
+        match turn {
+            ServerTurn::Unreached => Note::Unreached,
+            ServerTurn::Unlinked => self.unlinked_note(chore),
+            ServerTurn::Recycled { old } => match chore {
+                Chore::OfSlot(_) => Note::Recycled { old },
+                Chore::OfAll => Note::Quiet,
+            },
+            _ => Note::Quiet,
+        }
+    }
+
+    // What it comes to where it showed a root version unlinked.
+    fn unlinked_note(&self, chore: Chore) -> Note
+        ensures { result ≡ clean_note chore self.now TurnUnlinked }
+    {
+        match chore {
+            Chore::OfSlot(_) => Note::Unlinked,
+            Chore::OfAll => match self.slot_due(Chore::OfAll) {
+                None => Note::Swept { count: self.done },
+                Some(_) => Note::Quiet,
+            },
+        }
+    }
+
     // Ends the client's call, and lets go of the server.
     fn end(&mut self, client: &mut ClientState)
         ensures side { self.new ≡ record self.old { holder = None } }
@@ -199,14 +380,13 @@ impl Served {
         requires may { (o : Opening) × (i : ℕ) × (suc i ≡ actor) × MayGrant o i client.old self.old pool.old }
         ensures { (o : Opening) (i : ℕ) → suc i ≡ actor → MayGrant o i client.old self.old pool.old → WasGranted i client.old client.new self.old self.new pool.old pool.new result }
     {
-        let batch = take_for(&mut self.server, client.want);
+        self.batch = take_for(&mut self.server, client.want);
         let names = self.server.names_since(client.node.known());
-        pool.hand_over(actor, &batch, names);
-        client.take(&batch, names);
+        pool.hand_over(actor, &self.batch, names);
+        client.take(&self.batch, names);
         self.holder = None;
         Note::Granted {
             client: actor,
-            batch,
             names: names.len() as u32,
         }
     }

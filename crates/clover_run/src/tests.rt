@@ -29,7 +29,7 @@ fn batch_of(count: u32) -> Batch
 
 #[test]
 fn prints_notes(rt: HostRuntime) -> Result<(), Fail> {
-    let cases: [(Note, &[u8]); 15] = [
+    let cases: [(Note, &[u8]); 14] = [
         (Note::Quiet, b""),
         (Note::Waits, b""),
         (
@@ -59,18 +59,9 @@ fn prints_notes(rt: HostRuntime) -> Result<(), Fail> {
         (
             Note::Granted {
                 client: 2,
-                batch: batch_of(2),
                 names: 5,
             },
             b"g 2 5 1.3.2 1.3.2\n",
-        ),
-        (
-            Note::Granted {
-                client: 2,
-                batch: batch_of(0),
-                names: 1,
-            },
-            b"g 2 1\n",
         ),
         (Note::Recycled { old: OLD }, b"0 recycled 1.3.2\n"),
         (Note::Unlinked, b"0 unlinked\n"),
@@ -82,7 +73,7 @@ fn prints_notes(rt: HostRuntime) -> Result<(), Fail> {
     ];
     for (note, line) in cases {
         let mut out = Vec::new(rt.alloc());
-        push_note(&mut out, true, &note)?;
+        push_note(&mut out, true, &note, &batch_of(2))?;
         assert_eq!(rt; out.as_slice(), line);
     }
     Ok(())
@@ -92,11 +83,22 @@ fn prints_notes(rt: HostRuntime) -> Result<(), Fail> {
 fn prints_no_grant_without_the_trace(rt: HostRuntime) -> Result<(), Fail> {
     let note = Note::Granted {
         client: 2,
-        batch: batch_of(1),
         names: 5,
     };
     let mut out = Vec::new(rt.alloc());
-    push_note(&mut out, false, &note)?;
+    push_note(&mut out, false, &note, &batch_of(1))?;
     assert_eq!(rt; out.as_slice(), b"".as_slice());
+    Ok(())
+}
+
+#[test]
+fn prints_a_grant_of_bindings_alone(rt: HostRuntime) -> Result<(), Fail> {
+    let note = Note::Granted {
+        client: 2,
+        names: 1,
+    };
+    let mut out = Vec::new(rt.alloc());
+    push_note(&mut out, true, &note, &batch_of(0))?;
+    assert_eq!(rt; out.as_slice(), b"g 2 1\n".as_slice());
     Ok(())
 }

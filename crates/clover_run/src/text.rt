@@ -2,11 +2,13 @@
 // and then a front of the piece may stand there.
 ghost use Rattle.std.specs.Prelude.{◌≡◌, ◌++◌, flat_map, OnOk};
 ghost use Rattle.clover_words.specs.Tag.{tag_number};
+ghost use Rattle.clover_alloc.specs.Batch.{tags_of};
 ghost use Rattle.clover_script.specs.Text.{told_line};
 ghost use Rattle.clover_sched.specs.Text.{refusal_text};
 ghost use Rattle.clover_run.specs.Text.{full_text, recycled_text, swept_text, grant_line, noted, spaced_tag};
 
 use crate::event::Note;
+use clover_alloc::Batch;
 use clover_sched::CallRefusal;
 use clover_script::{
     push_behind, push_busy, push_linked, push_none, push_number, push_reply, push_tag,
@@ -15,9 +17,15 @@ use clover_script::{
 use clover_words::Tag;
 use std::alloc::AllocError;
 
-/// Puts the line of what an event came to; of `Quiet` and `Waits` nothing, and of a grant only with the trace.
-pub fn push_note(out: &mut Vec<u8>, trace: bool, note: &Note) -> Result<(), AllocError>
-    ensures ok { OnOk result (out.new.items ≡ out.old.items ++ noted trace note.now) }
+/// Puts the line of what an event came to; of `Quiet` and `Waits` nothing, and of a grant only with the trace: the batch
+/// is the one that was handed out last, which is that of a grant.
+pub fn push_note(
+    out: &mut Vec<u8>,
+    trace: bool,
+    note: &Note,
+    batch: &Batch,
+) -> Result<(), AllocError>
+    ensures ok { OnOk result (out.new.items ≡ out.old.items ++ noted trace (tags_of batch.now) note.now) }
 {
     match note {
         Note::Quiet | Note::Waits => Ok(()),
@@ -36,11 +44,7 @@ pub fn push_note(out: &mut Vec<u8>, trace: bool, note: &Note) -> Result<(), Allo
             out: handed,
         } => push_full(out, *client, *bound, *worn, *handed),
         Note::NoSlot { client } => push_told(out, *client, b"noslot"),
-        Note::Granted {
-            client,
-            batch,
-            names,
-        } => {
+        Note::Granted { client, names } => {
             if trace {
                 push_grant(out, *client, batch.items(), *names)
             } else {

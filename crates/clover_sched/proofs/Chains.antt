@@ -18,7 +18,7 @@ use Rattle.clover_walk.specs.Alone.{LeadsOver}
 use Rattle.clover_walk.specs.Walking.{budget}
 
 -- where it begins says which chain it is
-one_walk : (m : Mem) (x : Option ℕ) (ts us : List ℕ) → Walk m x ts → Walk m x us → ts ≡ us
+pub one_walk : (m : Mem) (x : Option ℕ) (ts us : List ℕ) → Walk m x ts → Walk m x us → ts ≡ us
 one_walk m x [] [] a b = refl
 one_walk m x [] (u ∷ us) a b = absurd (let e : Some u ≡ None = sym b.0 ∙ a in cc)
 one_walk m x (t ∷ ts) [] a b = absurd (let e : Some t ≡ None = sym a.0 ∙ b in cc)

@@ -56,5 +56,5 @@ abbrev pub access : ℕ → Act → Bool → Access
 access seat act refused = record { actor = Client (suc seat); act = act; refused = refused }
 
 -- the call keeps the first bytes of the value as it was written, at most 1,024
-abbrev pub IsTask : Task → Type 0
-IsTask (ClientTask call written) = (size_of call ≡ min written 1024) × ExpectsTag call
+abbrev pub IsCallTask : Call → ℕ → Type 0
+IsCallTask call written = (size_of call ≡ min written 1024) × ExpectsTag call

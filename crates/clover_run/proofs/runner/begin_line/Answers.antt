@@ -1,7 +1,6 @@
-use Rattle.std.proofs.Common.{◌≡◌, ◌≤◌, ◌∙◌, true, false, refl, subst, sym}
+use Rattle.std.proofs.Common.{◌≡◌, ◌∙◌, true, false, refl, subst, sym}
 use Rattle.clover_script.specs.declared.line.Line.TheVariants as line
 use Rattle.clover_run.specs.Lines.{IsTurnedAway}
-use Rattle.clover_run.specs.Running.{MayRun}
 use Rattle.clover_sched.specs.declared.event.Event.TheVariants.{Begin, Refuse}
 use Rattle.clover_run.specs.declared.event.Note.TheVariants.{Quiet}
 use Rattle.clover_run.proofs.Remainders.{advances_last, advances_on, leaves_call, turned_away}
@@ -12,8 +11,7 @@ returns-in-Begin-clause-came c =
     let m = c.args.machine.now in
     let a = c.in-Begin.actor in
     let t = c.in-Begin.task in
-    let one : 1 ≤ a = (subst MayRun c.in-Begin.is c.requires).0 in
-    advances_last m c.begin-note.new.self _ (line.Begin a t) (Begin a t) c.begin-note.result c.in-Begin.is c.begin-note.ensures.happened c.begin-note.ensures.parts c.last_of.result a c.last_of.ensures.note c.last_of.ensures.left one
+    advances_last m c.begin-note.new.self _ (line.Begin a t) (Begin a t) c.begin-note.result c.in-Begin.is c.begin-note.ensures.happened c.begin-note.ensures.parts c.last_of.result a c.last_of.ensures.note c.last_of.ensures.left
     (λ rs r is note. (r, refl, is))
 
 pub returns-then-is_turned_away-clause-came : goal.returns-then-is_turned_away-clause-came
@@ -21,10 +19,9 @@ returns-then-is_turned_away-clause-came c =
     let m = c.args.machine.now in
     let a = c.in-Call.actor in
     let t = c.in-Call.task in
-    let one : 1 ≤ a = (subst MayRun c.in-Call.is c.requires).0 in
     let away : IsTurnedAway c.begin-note-in-Call.result = c.is_turned_away.ensures.0 c.if-is_turned_away.true in
     let last = c.last_of-then-is_turned_away in
-    advances_last m c.begin-note-in-Call.new.self _ (line.Call a t) (Begin a t) c.begin-note-in-Call.result c.in-Call.is c.begin-note-in-Call.ensures.happened c.begin-note-in-Call.ensures.parts last.result a last.ensures.note last.ensures.left one
+    advances_last m c.begin-note-in-Call.new.self _ (line.Call a t) (Begin a t) c.begin-note-in-Call.result c.in-Call.is c.begin-note-in-Call.ensures.happened c.begin-note-in-Call.ensures.parts last.result a last.ensures.note last.ensures.left
     (λ rs r is note. turned_away a rs r t is (subst IsTurnedAway (sym note) away))
 
 pub returns-else-is_turned_away-clause-came : goal.returns-else-is_turned_away-clause-came
@@ -32,15 +29,13 @@ returns-else-is_turned_away-clause-came c =
     let m = c.args.machine.now in
     let a = c.in-Call.actor in
     let t = c.in-Call.task in
-    let one : 1 ≤ a = (subst MayRun c.in-Call.is c.requires).0 in
     let kept : IsTurnedAway c.begin-note-in-Call.result → ⊥ = λ away. let no : true ≡ false = sym (c.is_turned_away.ensures.1 away) ∙ c.if-is_turned_away.false in cc in
-    advances_on m c.begin-note-in-Call.new.self _ (line.Call a t) (Begin a t) c.begin-note-in-Call.result c.in-Call.is c.begin-note-in-Call.ensures.happened c.begin-note-in-Call.ensures.parts _ refl one
+    advances_on m c.begin-note-in-Call.new.self _ (line.Call a t) (Begin a t) c.begin-note-in-Call.result c.in-Call.is c.begin-note-in-Call.ensures.happened c.begin-note-in-Call.ensures.parts _ refl
     (λ o rs r at next is note. leaves_call a rs r t is (λ away. kept (subst IsTurnedAway note away)))
 
 pub returns-in-Refuse-clause-came : goal.returns-in-Refuse-clause-came
 returns-in-Refuse-clause-came c =
     let m = c.args.machine.now in
     let a = c.in-Refuse.actor in
-    let one : 1 ≤ a = subst MayRun c.in-Refuse.is c.requires in
-    advances_last m c.refuse.new.self _ (line.Refuse a) (Refuse a) Quiet c.in-Refuse.is c.refuse.ensures.happened c.refuse.ensures.parts c.last_of-in-Refuse.result a c.last_of-in-Refuse.ensures.note c.last_of-in-Refuse.ensures.left one
+    advances_last m c.refuse.new.self _ (line.Refuse a) (Refuse a) Quiet c.in-Refuse.is c.refuse.ensures.happened c.refuse.ensures.parts c.last_of-in-Refuse.result a c.last_of-in-Refuse.ensures.note c.last_of-in-Refuse.ensures.left
     (λ rs r is note. (r, refl, is))

@@ -1,58 +1,33 @@
-use Rattle.std.proofs.Common.{◌≡◌, ◌-◌, ◌≤◌, length, sym, subst, arith}
-use Rattle.std.specs.Prelude.{Some}
-use Rattle.clover_rule.specs.Lists.{nth}
+use Rattle.std.proofs.Common.{refl, sym, subst}
+use Rattle.clover_script.specs.declared.line.Task.{Task}
 use Rattle.clover_sched.specs.declared.event.Event.TheVariants.{Begin}
-use Rattle.clover_sched.proofs.Places.{nth_here}
-use Rattle.clover_run.specs.Client.{HasTask}
 use Rattle.clover_run.specs.Kept.{meaning}
-use Rattle.clover_run.specs.Machine.{Parts, IsAt, Happens}
-use Rattle.clover_run.specs.declared.client.ClientState.{ClientState}
-use Rattle.clover_run.proofs.Happening.{missing_happens, busy_happens, asked_happens, asked_rests, behind}
-use Rattle.clover_run.proofs.Onward.{with_client}
+use Rattle.clover_run.specs.Machine.{Parts, Happens}
+use Rattle.clover_run.specs.declared.recycler.Chore.TheVariants.{OfSlot, OfAll}
+use Rattle.clover_run.proofs.BehindRecycler.{with_recycler}
+use Rattle.clover_run.proofs.Chores.{chore_comes}
+use Rattle.clover_run.proofs.Happening.{behind}
 use Rattle.clover_run.proofs.machine.Machine.begin.Goals as goal
-
-pub returns-then-seat-len-clause-happened : goal.returns-then-seat-len-clause-happened
-returns-then-seat-len-clause-happened c o rs at =
-    let past : length c.args.self.now.clients ≤ c.args.actor - 1 = subst (λ (p : Parts). length p.clients ≤ c.args.actor - 1) c.self.view_is (omega (arith, c.self.inside.clients.ok.0)) in
-    missing_happens c.args.self.now c.args.actor c.requires.may.0 c.args.task past o rs at
-
-pub returns-then-is_busy-clause-happened : goal.returns-then-is_busy-clause-happened
-returns-then-is_busy-clause-happened c o rs at =
-    let x = c.index.result.now in
-    let here : nth c.self.inside.clients.items (c.args.actor - 1) ≡ Some x = nth_here c.self.inside.clients.items (c.args.actor - 1) x (omega (arith, c.self.inside.clients.ok.0)) c.index.ensures in
-    let there : nth c.args.self.now.clients (c.args.actor - 1) ≡ Some x = subst (λ (p : Parts). nth p.clients (c.args.actor - 1) ≡ Some x) c.self.view_is here in
-    busy_happens c.args.self.now c.args.actor c.requires.may.0 c.args.task x there (c.is_busy.ensures.0 c.if-is_busy.true) o rs at
-
-pub begin-requires-clause-rests : goal.begin-requires-clause-rests
-begin-requires-clause-rests c =
-    let m : Parts = meaning c.self.inside in
-    let a = c.args.actor in
-    let x = c.index_mut.result.now in
-    let here : nth m.clients (a - 1) ≡ Some x = nth_here m.clients (a - 1) x (omega (arith, c.self.inside.clients.ok.0)) c.index_mut.ensures.value in
-    let was : nth m.clients (a - 1) ≡ Some c.index.result.now = nth_here m.clients (a - 1) c.index.result.now (omega (arith, c.self.inside.clients.ok.0)) c.index.ensures in
-    let same : c.index.result.now ≡ x = cc (here, was) in
-    asked_rests m a c.requires.may.0 x here (subst (λ (z : ClientState). HasTask z → ⊥) same (λ busy. let t = c.is_busy.ensures.1 busy in cc (t, c.if-is_busy.false))) c.self.invariant
 
 pub invariant_of-self : goal.invariant_of-self
 invariant_of-self c =
     let m : Parts = meaning c.self.inside in
-    let a = c.args.actor in
-    let x = c.index_mut.result.now in
-    let here : nth m.clients (a - 1) ≡ Some x = nth_here m.clients (a - 1) x (omega (arith, c.self.inside.clients.ok.0)) c.index_mut.ensures.value in
-    let was : nth m.clients (a - 1) ≡ Some c.index.result.now = nth_here m.clients (a - 1) c.index.result.now (omega (arith, c.self.inside.clients.ok.0)) c.index.ensures in
-    let same : c.index.result.now ≡ x = cc (here, was) in
-    let idle = subst (λ (z : ClientState). HasTask z → ⊥) same (λ busy. let t = c.is_busy.ensures.1 busy in cc (t, c.if-is_busy.false)) in
-    let happens : Happens m (with_client m (a - 1) c.begin.new.self) (Begin a c.args.task) c.begin.result = asked_happens m a c.requires.may.0 c.args.task x c.begin.new.self c.begin.result here idle c.requires.may.1 c.begin.ensures c.stands.ensures.running in
-    behind m (with_client m (a - 1) c.begin.new.self) (Begin a c.args.task) c.begin.result happens c.self.invariant
+    behind m (with_recycler m c.begin.new.recycler c.begin.new.self m.pool) (Begin c.args.actor c.args.task) c.begin.result
+    (chore_comes m m refl c.args.actor c.args.task (OfSlot c.in-Recycle.slot) c.in-Recycle.is c.requires.may c.begin.new.recycler c.begin.new.self c.begin.result c.begin.ensures) c.self.invariant
 
-pub returns-clause-happened : goal.returns-clause-happened
-returns-clause-happened c o rs at =
-    let m : Parts = meaning c.self.inside in
-    let a = c.args.actor in
-    let x = c.index_mut.result.now in
-    let here : nth m.clients (a - 1) ≡ Some x = nth_here m.clients (a - 1) x (omega (arith, c.self.inside.clients.ok.0)) c.index_mut.ensures.value in
-    let was : nth m.clients (a - 1) ≡ Some c.index.result.now = nth_here m.clients (a - 1) c.index.result.now (omega (arith, c.self.inside.clients.ok.0)) c.index.ensures in
-    let same : c.index.result.now ≡ x = cc (here, was) in
-    let idle = subst (λ (z : ClientState). HasTask z → ⊥) same (λ busy. let t = c.is_busy.ensures.1 busy in cc (t, c.if-is_busy.false)) in
-    let happens : Happens m (with_client m (a - 1) c.begin.new.self) (Begin a c.args.task) c.begin.result = asked_happens m a c.requires.may.0 c.args.task x c.begin.new.self c.begin.result here idle c.requires.may.1 c.begin.ensures c.stands.ensures.running in
-    happens o rs (subst (λ (p : Parts). IsAt o p rs) (sym c.self.view_is) at)
+pub invariant_of-self-in-Sweep : goal.invariant_of-self-in-Sweep
+invariant_of-self-in-Sweep c =
+    let m : Parts = meaning c.self-in-Sweep.inside in
+    behind m (with_recycler m c.begin-in-Sweep.new.recycler c.begin-in-Sweep.new.self m.pool) (Begin c.args.actor c.args.task) c.begin-in-Sweep.result
+    (chore_comes m m refl c.args.actor c.args.task OfAll c.in-Sweep.is c.requires.may c.begin-in-Sweep.new.recycler c.begin-in-Sweep.new.self c.begin-in-Sweep.result c.begin-in-Sweep.ensures) c.self-in-Sweep.invariant
+
+pub returns-in-Client-clause-happened : goal.returns-in-Client-clause-happened
+returns-in-Client-clause-happened c = subst (λ (t : Task). Happens c.args.self.now c.begin_call.new.self (Begin c.args.actor t) c.begin_call.result) (sym c.in-Client.is) c.begin_call.ensures.happened
+
+pub returns-in-Recycle-clause-happened : goal.returns-in-Recycle-clause-happened
+returns-in-Recycle-clause-happened c =
+    chore_comes (meaning c.self.inside) c.args.self.now c.self.view_is c.args.actor c.args.task (OfSlot c.in-Recycle.slot) c.in-Recycle.is c.requires.may c.begin.new.recycler c.begin.new.self c.begin.result c.begin.ensures
+
+pub returns-in-Sweep-clause-happened : goal.returns-in-Sweep-clause-happened
+returns-in-Sweep-clause-happened c =
+    chore_comes (meaning c.self-in-Sweep.inside) c.args.self.now c.self-in-Sweep.view_is c.args.actor c.args.task OfAll c.in-Sweep.is c.requires.may c.begin-in-Sweep.new.recycler c.begin-in-Sweep.new.self c.begin-in-Sweep.result c.begin-in-Sweep.ensures

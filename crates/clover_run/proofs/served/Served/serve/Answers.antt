@@ -1,16 +1,13 @@
 -- What the server's step came to is told by its answer; a grant finds the pool running behind the step.
 use Prim.Native.Nat.{suc}
 use Rattle.std.proofs.Common.{◌≡◌, ℕ, false, ⊎_elim, refl, sym, ap, ◌∙◌, subst}
-use Rattle.clover_words.specs.Tag.{TagParts}
 use Rattle.clover_plain.specs.Plain.{Plain}
 use Rattle.clover_server.specs.Told.{IsWantTurn}
-use Rattle.clover_server.specs.declared.turn.ServerTurn.{ServerTurn}
-use Rattle.clover_server.specs.declared.turn.ServerTurn.TheVariants.{Ready}
 use Rattle.clover_sched.specs.declared.event.CallRefusal.TheVariants.{Unreached}
 use Rattle.clover_run.specs.Run.{Opening}
 use Rattle.clover_run.specs.Served.{held, is_elsewhere}
 use Rattle.clover_run.specs.Serving.{telling}
-use Rattle.clover_run.specs.Working.{MayServe, WasServed, Worked}
+use Rattle.clover_run.specs.Working.{WasServed, Worked}
 use Rattle.clover_run.specs.declared.client.ClientState.{ClientState}
 use Rattle.clover_run.specs.declared.event.Note.{Note}
 use Rattle.clover_run.specs.declared.event.Note.TheVariants.{Full, NoSlot, Quiet, Refused}

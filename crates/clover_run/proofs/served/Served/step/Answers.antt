@@ -1,6 +1,5 @@
 -- A step that waits has changed nothing; room that was made before the server's step changes nothing of what is said.
-use Prim.Native.Nat.{suc}
-use Rattle.std.proofs.Common.{◌≡◌, ap, ◌∙◌}
+use Rattle.std.proofs.Common.{ap, ◌∙◌}
 use Rattle.clover_run.specs.Served.{is_elsewhere}
 use Rattle.clover_run.proofs.ServedKept.{may_kept, served_kept}
 use Rattle.clover_run.proofs.ServedSteps.{was_waiting}
