@@ -6,7 +6,7 @@ use Rattle.clover_map.specs.History.{own, IsNumberedByClient}
 use Rattle.clover_map.specs.declared.call.Call.{Call}
 use Rattle.clover_map.specs.declared.call.Entry.{Entry}
 use Rattle.clover_script.specs.declared.line.Task.{Task}
-use Rattle.clover_script.specs.declared.line.Task.TheVariants.{Client as ClientTask}
+use Rattle.clover_script.specs.declared.line.Task.TheVariants.{Client as ClientTask, Recycle, Sweep}
 use Rattle.clover_run.specs.declared.want.Want.{Want}
 use Rattle.clover_run.specs.declared.want.Want.TheVariants.{Nothing, Stock, Names}
 use Rattle.clover_map.proofs.Parts.{numbered_by_client_push}
@@ -45,6 +45,8 @@ served_entry o a before r x call Names is step = let no : None ≡ Some x = sym 
 step_entry : (o : Opening) (a : ℕ) (before : List Record) (r : Record) (x : Entry) (task : Option Task) → r.entry ≡ Some x → IsStepOf o.setup.pool (standing o a before) task r → x.number ≡ suc (length (own (entries_in before) x.client))
 step_entry o a before r x None is still = let no : None ≡ Some x = sym still.entry ∙ is in cc
 step_entry o a before r x (Some (ClientTask call written)) is step = served_entry o a before r x call (want_in (standing o a before) call) is step
+step_entry o a before r x (Some (Recycle slot)) is step = let no : None ≡ Some x = sym step.entry ∙ is in cc
+step_entry o a before r x (Some Sweep) is step = let no : None ≡ Some x = sym step.entry ∙ is in cc
 
 fits_entry : (o : Opening) (before : List Record) (r : Record) (e : Event) → Fits o before r e → (x : Entry) → r.entry ≡ Some x → x.number ≡ suc (length (own (entries_in before) x.client))
 fits_entry o before r (Begin a t) still x is = let no : None ≡ Some x = sym still.entry ∙ is in cc
@@ -93,5 +95,6 @@ lawful_at o m rs at = record {
   legal = at.legal;
   numbered = run_numbered o rs at.run;
   found = at.found;
+  free = at.free;
   alone = at.alone.all;
 }

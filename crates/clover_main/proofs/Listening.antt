@@ -1,21 +1,22 @@
 -- what a script says is heard line by line, and each line may be run
-use Rattle.std.proofs.Common.{◌≡◌, ℕ, List, [], ◌∷◌, ◌++◌, map, refl, ap, subst, sym, inl, inr, arith}
+use Rattle.std.proofs.Common.{ℕ, List, [], ◌∷◌, ◌++◌, map, refl, ap, subst, sym, inl, inr, arith}
 use Rattle.std.specs.Prelude.{All}
 use Rattle.std.proofs.lemmas.List.{length-take}
 use Rattle.std.proofs.lemmas.List.Elements.{All-head, All-tail}
 use Rattle.clover_words.specs.declared.setup.Setup.{Setup}
 use Rattle.clover_map.specs.declared.call.Call.{Call}
 use Rattle.clover_map.specs.declared.call.Call.TheVariants.{Get, Put, Delete, Swap}
-use Rattle.clover_script.specs.Line.{lines_of, pool_line, numbers_of, IsClientCall, task_of, client, Spoken, says_begin, says_step, says_finish, says_call, says_refuse, IsSpoken, kept_line, IsLineOf, IsNoLine, IsIgnored}
+use Rattle.clover_script.specs.Line.{lines_of, pool_line, numbers_of, IsClientCall, Asked, client, recycle, sweep, IsAsked, cut_call, written, kept_task, Spoken, says_begin, says_step, says_finish, says_call, says_refuse, IsSpoken, kept_line, IsLineOf, IsNoLine, IsIgnored}
 use Rattle.clover_script.specs.Lines.{Say, IsLinesOf}
 use Rattle.clover_script.specs.declared.line.Line.{Line}
 use Rattle.clover_script.specs.declared.line.PoolLine.{PoolLine}
 use Rattle.clover_script.proofs.SpokenLemmas.{no_pool, not_ignored}
-use Rattle.clover_sched.specs.Client.{IsTask}
+use Rattle.clover_sched.specs.Client.{IsCallTask}
+use Rattle.clover_run.specs.Machine.{IsTaskOfActor}
 use Rattle.clover_run.specs.Running.{MayRun}
 use Rattle.clover_main.specs.Hearing.{Heard}
 
--- a line that is passed over is no client's, and neither is a pool line
+-- a line that is passed over is no actor's, and neither is a pool line
 over_none : (text : List ℕ) → IsIgnored text → IsNoLine text
 over_none text over spoken is e = not_ignored spoken (subst IsIgnored e over)
 
@@ -37,18 +38,24 @@ lines_heard text s said opens =
     subst (λ (ts : List (List ℕ)). Heard ts (map kept_line said)) (sym opens.parts)
     (over_heard opens.over (pool_line (numbers_of s) ∷ opens.rest) (map kept_line said) opens.ignored (inl (pool_none (numbers_of s), say_heard opens.rest said opens.say)))
 
-is_task : (c : Call) → IsClientCall c → IsTask (task_of c)
+is_task : (c : Call) → IsClientCall c → IsCallTask (cut_call c) (written c)
 is_task (Get k) is = (omega arith, tt)
 is_task (Put k v) is = (omega (arith, length-take 1024 v.bytes), tt)
 is_task (Delete k) is = (omega arith, tt)
 is_task (Swap k e v) is = (omega (arith, length-take 1024 v.bytes), is.1)
 
+-- what an actor may be asked for is one of its tasks
+may_ask : (a : ℕ) (asked : Asked) → IsAsked a asked → IsTaskOfActor a (kept_task asked)
+may_ask a (client call) is = (is.0, is_task call is.2)
+may_ask a (recycle slot) is = is.0
+may_ask a sweep is = is
+
 may_say : (s : Spoken) → IsSpoken s → MayRun (kept_line s)
-may_say (says_begin a (client call)) is = (is.0.0, is_task call is.1)
-may_say (says_step a n) is = is.0.0
-may_say (says_finish a) is = is.0
-may_say (says_call a (client call)) is = (is.0.0, is_task call is.1)
-may_say (says_refuse a) is = is.0
+may_say (says_begin a asked) is = may_ask a asked is
+may_say (says_step a n) is = tt
+may_say (says_finish a) is = tt
+may_say (says_call a asked) is = may_ask a asked is
+may_say (says_refuse a) is = tt
 
 -- a line that a text says may be run
 pub line_may : (text : List ℕ) (line : Line) → IsLineOf text line → MayRun line

@@ -4,6 +4,9 @@ use Rattle.std.proofs.KnownBytes.{Appends-nil, Appends-trans}
 use Rattle.std.specs.Io.KnownBytes.{Appends}
 use Rattle.std.specs.Prelude.{All, slice_get}
 use Rattle.std.proofs.lemmas.List.Elements.{All-head, All-tail}
+use Rattle.clover_words.specs.Tag.{TagParts}
+use Rattle.clover_alloc.specs.Batch.{tags_of}
+use Rattle.clover_alloc.specs.declared.batch.Batch.{Batch}
 use Rattle.clover_rule.specs.declared.access.Access.{Access}
 use Rattle.clover_run.specs.Folds.{accesses_in, traced_in}
 use Rattle.clover_run.specs.Machine.{Parts, IsAt}
@@ -46,11 +49,12 @@ listed_line true rs r = ap (traced true) (listed_last rs r)
 listed_line false rs r = refl
 
 -- that line and that of the note are what the record prints
-pub said_line : (t : Bool) (xs : List Access) (n : ℕ) (rs : List Record) (r : Record) (note : Note) (old mid new : List ℕ) (u : Bool) → u ≡ t → xs ≡ traced_in t (rs ++ r ∷ []) → n ≡ length (traced_in t rs) → r.note ≡ note
-    → mid ≡ old ++ traced true (slice_get xs n) → new ≡ mid ++ noted u note → new ≡ old ++ said t r
-said_line t xs n rs r note old mid new u same all here is grown told =
+pub said_line : (t : Bool) (xs : List Access) (n : ℕ) (rs : List Record) (r : Record) (note : Note) (batch : Batch) (old mid new : List ℕ) (u : Bool) → u ≡ t → xs ≡ traced_in t (rs ++ r ∷ []) → n ≡ length (traced_in t rs) → r.note ≡ note → batch ≡ r.served.batch
+    → mid ≡ old ++ traced true (slice_get xs n) → new ≡ mid ++ noted u (tags_of batch) note → new ≡ old ++ said t r
+said_line t xs n rs r note batch old mid new u same all here is last grown told =
     let line : traced true (slice_get xs n) ≡ traced t r.access = ap (λ l. traced true (slice_get l n)) all ∙ ap (λ k. traced true (slice_get (traced_in t (rs ++ r ∷ [])) k)) here ∙ listed_line t rs r in
-    told ∙ ap (λ (b : Bool). mid ++ noted b note) same ∙ ap (λ l. l ++ noted t note) (grown ∙ ap (λ l. old ++ l) line) ∙ append_assoc old (traced t r.access) (noted t note) ∙ ap (λ k. old ++ (traced t r.access ++ noted t k)) (sym is)
+    told ∙ ap (λ (b : Bool). mid ++ noted b (tags_of batch) note) same ∙ ap (λ l. l ++ noted t (tags_of batch) note) (grown ∙ ap (λ l. old ++ l) line) ∙ append_assoc old (traced t r.access) (noted t (tags_of batch) note)
+    ∙ (λ k. old ++ (traced t r.access ++ noted t (tags_of (last k)) (sym is k)))
 
 pub says_then : (a b c : Option (List ℕ)) (w v u x y : List ℕ) → Says a b w v x → Says b c v u y → Says a c w u (x ++ y)
 says_then a b c w v u x y s t = record {
@@ -91,18 +95,18 @@ traced_none : (t : Bool) → traced t None ≡ []
 traced_none true = refl
 traced_none false = refl
 
-noted_none : (t : Bool) (n : Note) → IsUnsaid n → noted t n ≡ []
-noted_none true Quiet h = refl
-noted_none false Quiet h = refl
-noted_none true Waits h = refl
-noted_none false Waits h = refl
-noted_none t n h = absurd h
+noted_none : (t : Bool) (tags : List TagParts) (n : Note) → IsUnsaid n → noted t tags n ≡ []
+noted_none true tags Quiet h = refl
+noted_none false tags Quiet h = refl
+noted_none true tags Waits h = refl
+noted_none false tags Waits h = refl
+noted_none t tags n h = absurd h
 
 still_said : (t : Bool) (more : List Record) → All IsSilent more → flat_map (said t) more ≡ []
 still_said t [] all = refl
 still_said t (r ∷ rs) all =
     let still : IsSilent r = All-head IsSilent r rs all in
-    let line : said t r ≡ [] = ap (λ (x : Option Access). traced t x ++ noted t r.note) still.access ∙ ap (λ (l : List ℕ). traced t None ++ l) (noted_none t r.note still.unsaid) ∙ append-nil (traced t None) ∙ traced_none t in
+    let line : said t r ≡ [] = ap (λ (x : Option Access). traced t x ++ noted t (tags_of r.served.batch) r.note) still.access ∙ ap (λ (l : List ℕ). traced t None ++ l) (noted_none t (tags_of r.served.batch) r.note still.unsaid) ∙ append-nil (traced t None) ∙ traced_none t in
     ap (λ l. l ++ flat_map (said t) rs) line ∙ still_said t rs (All-tail IsSilent r rs all)
 
 module _ (o : Opening) (t : Bool) (rs : List Record) where

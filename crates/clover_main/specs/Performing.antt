@@ -12,6 +12,7 @@ use Rattle.clover_rule.specs.Accesses.{Replays}
 use Rattle.clover_rule.specs.Lists.{Within}
 use Rattle.clover_run.specs.Alone.{AllFound, AllAlone}
 use Rattle.clover_run.specs.Folds.{accesses_in, entries_in}
+use Rattle.clover_run.specs.Freed.{AllFree}
 use Rattle.clover_run.specs.Lines.{Covers}
 use Rattle.clover_run.specs.Record.{Record}
 use Rattle.clover_run.specs.Run.{Opening, IsRun}
@@ -32,13 +33,14 @@ IsCommitted h k t v = (e : Entry) × Within e h × (e.reply ≡ Stored t) × Sto
 abbrev pub AllCommitted : List Entry → Type 0
 AllCommitted h = (before after : List Entry) (e : Entry) (k : List ℕ) (t : ℕ) (v : Value) → h ≡ before ++ e ∷ after → e.call ≡ Get k → e.reply ≡ Found t v → IsCommitted before k t v
 
--- The records are a run whose accesses replay; its history is legal from what was before it, and in each client's order. At every moment each bound key has a chain with a tail, and a call that runs alone is answered at exactly its cost.
+-- The records are a run whose accesses replay; its history is legal from what was before it, and in each client's order. At every moment each bound key has a chain with a tail, and a buffer that the server's books have as free lies free; and a call that runs alone is answered at exactly its cost.
 pub record IsLawful (o : Opening) (records : List Record) : Type 0 where
   pub run : IsRun o records
   pub replays : Replays o.setup.pool o.words (accesses_in records)
   pub legal : Legal o.first o.used (entries_in records)
   pub numbered : IsNumberedByClient (entries_in records)
   pub found : AllFound o records
+  pub free : AllFree o records
   pub alone : AllAlone o records
 
 -- Out is the text of a run of the lines, in which no value is torn.

@@ -136,7 +136,7 @@ fn push_said(
         → piece.new.items ≡ piece.old.items ++ said machine.now.pool.traced r) }
 {
     push_listed(piece, machine.accesses(), listed)?;
-    push_note(piece, machine.traced(), note)?;
+    push_note(piece, machine.traced(), note, machine.batch())?;
     Ok(())
 }
 

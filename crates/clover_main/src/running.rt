@@ -1,6 +1,6 @@
 // Running the lines of a script: each is read, run over the machine one event at a time, and what its events print
 // goes to the sink in pieces. Nothing is kept of a line.
-ghost use Rattle.std.specs.Prelude.{◌≡◌, ◌≤◌, ◌<◌, ◌++◌, List, [], length, OnOk, IfOk, IfErr, IfSome};
+ghost use Rattle.std.specs.Prelude.{◌≡◌, ◌<◌, ◌++◌, List, [], length, OnOk, IfOk, IfErr};
 ghost use Rattle.clover_script.specs.Line.{lines_of, IsLineOf};
 ghost use Rattle.clover_script.specs.declared.line.Line.{Line as LineData};
 ghost use Rattle.clover_run.specs.Folds.{traced_in};
@@ -8,7 +8,7 @@ ghost use Rattle.clover_run.specs.Lines.{CoversLine, Covers};
 ghost use Rattle.clover_run.specs.Machine.{IsAt};
 ghost use Rattle.clover_run.specs.Record.{Record};
 ghost use Rattle.clover_run.specs.Run.{Opening};
-ghost use Rattle.clover_run.specs.Running.{Comes, IsLeft, IsPartOrAll, MayRun, actor_in, steps_line};
+ghost use Rattle.clover_run.specs.Running.{Comes, IsLeft, IsPartOrAll, MayRun, steps_line};
 ghost use Rattle.clover_main.specs.Beginnings.{CoversFront};
 ghost use Rattle.clover_main.specs.Causes.{HasStopCause};
 ghost use Rattle.clover_main.specs.Hearing.{Heard};
@@ -58,7 +58,6 @@ fn begin<K: Sink>(
 ) -> Result<Option<Work>, Stop>
     requires may { MayRun line }
     ensures ok { IfOk result (λ left. Runs machine.old machine.new (K.taken sink.old) (K.taken sink.new) out.old.waiting.items out.new.waiting.items (IsLeft line left)) }
-    ensures actor { IfOk result (λ left. IfSome left (λ work. 1 ≤ actor_in work)) }
     ensures err { IfErr result (λ stop. Stops machine.old stop (K.taken sink.old) (K.taken sink.new) out.old.waiting.items (IsPartOrAll line)) }
     ensures cause { HasStopCause (K.faults sink.old) (K.faults sink.new) result }
 {
@@ -77,9 +76,7 @@ fn go_on<K: Sink>(
     out: &mut Output,
     sink: &mut K,
 ) -> Result<Option<Work>, Stop>
-    requires actor { 1 ≤ actor_in work }
     ensures ok { IfOk result (λ left. Runs machine.old machine.new (K.taken sink.old) (K.taken sink.new) out.old.waiting.items out.new.waiting.items (IsLeft (steps_line work) left)) }
-    ensures actor { IfOk result (λ left. IfSome left (λ work. 1 ≤ actor_in work)) }
     ensures less { IfOk result (λ left. most_steps machine.new left < most_steps machine.old (Some work)) }
     ensures err { IfErr result (λ stop. Stops machine.old stop (K.taken sink.old) (K.taken sink.new) out.old.waiting.items (IsPartOrAll (steps_line work))) }
     ensures cause { HasStopCause (K.faults sink.old) (K.faults sink.new) result }
@@ -129,7 +126,7 @@ fn run_text<K: Sink>(
     }
 }
 
-/// The lines of clients in a text, in order; all others are passed over.
+/// The lines of actors in a text, in order; all others are passed over.
 pub fn run_lines<K: Sink>(
     alloc: Global,
     machine: &mut Machine,

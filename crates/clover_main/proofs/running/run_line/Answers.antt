@@ -1,7 +1,6 @@
-use Rattle.std.proofs.Common.{◌≡◌, ◌≤◌, ◌<◌, ◌∙◌, ℕ, Option, Err, ap, subst, sym}
+use Rattle.std.proofs.Common.{◌≡◌, ◌<◌, ◌∙◌, ℕ, Option, Err, ap, subst, sym}
 use Rattle.std.proofs.lemmas.Result.{err_from_is_err_and}
-use Rattle.std.specs.Prelude.{IfSome}
-use Rattle.clover_run.specs.Running.{IsLeft, actor_in}
+use Rattle.clover_run.specs.Running.{IsLeft}
 use Rattle.clover_run.specs.declared.runner.Work.{Work}
 use Rattle.clover_main.specs.Causes.{HasStopCause}
 use Rattle.clover_main.specs.declared.output.Stop.TheVariants.{Write}
@@ -10,10 +9,7 @@ use Rattle.clover_main.proofs.Loops.{left_next, left_stop}
 use Rattle.clover_main.proofs.running.run_line.Goals as goal
 
 pub loop-left-init : goal.loop-left-init
-loop-left-init g c = record { runs = c.in_ok-left.ensures.ok; actor = c.in_ok-left.ensures.actor; quiet = c.in_ok-left.ensures.cause.kept }
-
-pub go_on-requires : goal.go_on-requires
-go_on-requires g c = record { actor = subst (λ (x : Option Work). IfSome x (λ work. 1 ≤ actor_in work)) c.in-Some.is c.loop-left.invariant.actor }
+loop-left-init g c = record { runs = c.in_ok-left.ensures.ok; quiet = c.in_ok-left.ensures.cause.kept }
 
 pub returns-in_err-left-2-clause-err : goal.returns-in_err-left-2-clause-err
 returns-in_err-left-2-clause-err g c =
@@ -41,7 +37,6 @@ loop-left-preserved g c =
     let P : Option Work → Type 0 = λ x. Runs c.args.machine.now l.machine (g.K.Sink.taken c.args.sink.now) (g.K.Sink.taken l.sink) c.args.out.now.waiting.items l.out.waiting.items (IsLeft c.args.line x) in
     record {
       runs = left_next c.args.machine.now l.machine c.go_on.new.machine _ _ _ _ _ _ c.args.line c.in-Some.work c.in_ok-left-2.left (subst P c.in-Some.is l.invariant.runs) c.in_ok-left-2.ensures.ok;
-      actor = c.in_ok-left-2.ensures.actor;
       quiet = c.in_ok-left-2.ensures.cause.kept ∙ l.invariant.quiet;
     }
 
