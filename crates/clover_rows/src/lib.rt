@@ -15,6 +15,8 @@ mod long;
 #[cfg(test)]
 mod orders;
 #[cfg(test)]
+mod recycled;
+#[cfg(test)]
 mod refused;
 #[cfg(test)]
 mod sessions;

@@ -1,11 +1,8 @@
 // Worked sessions of the program, with the text that each must print and its status.
 
 use crate::support::{bulk, run};
-use crate::text::Text;
+use crate::text::{Session, Text, texts};
 use std::test::Fail;
-
-// A pool line and the lines behind it; what the clients are told, the history, and how many accesses were made.
-type Session = (&'static str, &'static str, &'static str, &'static str, u64);
 
 const ONE_CLIENT: &str = "pool nodes=1 buffers=4 slots=2 words=2 wear=3 clients=1 batch=2\n";
 
@@ -328,20 +325,11 @@ const SESSIONS: [Session; 21] = [
 #[test]
 fn sessions_are_printed_byte_for_byte(rt: HostRuntime) -> Result<(), Fail> {
     let alloc = rt.alloc();
-    for (pool, lines, told, history, accesses) in SESSIONS {
-        let mut script = Text::make(alloc);
-        script.say(pool)?;
-        script.say(lines)?;
-        let mut printed = Text::make(alloc);
-        printed.say(told)?;
-        printed.say("history\n")?;
-        printed.say(history)?;
-        printed.say("accesses ")?;
-        printed.number(accesses)?;
-        printed.say("\nend\n")?;
+    for session in SESSIONS {
+        let (script, printed) = texts(alloc, session)?;
         let (status, sink) = run(alloc, &["replay"], script.input(alloc)?, &[], 4096, &[])?;
-        assert_eq!(rt; status, 0, "{}", lines);
-        assert_eq!(rt; sink.bytes(), printed.bytes(), "{}", lines);
+        assert_eq!(rt; status, 0, "{}", session.1);
+        assert_eq!(rt; sink.bytes(), printed.bytes(), "{}", session.1);
     }
     Ok(())
 }

@@ -5,6 +5,25 @@ use clover_script::{Bulk, push_number};
 use std::alloc::Global;
 use std::test::Fail;
 
+/// A pool line and the lines behind it; what the actors are told, the history, and how many accesses were made.
+pub(crate) type Session = (&'static str, &'static str, &'static str, &'static str, u64);
+
+/// A session's script and what it prints.
+pub(crate) fn texts(alloc: Global, session: Session) -> Result<(Text, Text), Fail> {
+    let (pool, lines, told, history, accesses) = session;
+    let mut script = Text::make(alloc);
+    script.say(pool)?;
+    script.say(lines)?;
+    let mut printed = Text::make(alloc);
+    printed.say(told)?;
+    printed.say("history\n")?;
+    printed.say(history)?;
+    printed.say("accesses ")?;
+    printed.number(accesses)?;
+    printed.say("\nend\n")?;
+    Ok((script, printed))
+}
+
 /// A text that grows.
 #[derive(Drop)]
 pub(crate) struct Text {
