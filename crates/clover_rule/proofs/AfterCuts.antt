@@ -1,31 +1,24 @@
 -- The law of cuts over the words of a pool.
-use Rattle.std.proofs.Common.{◌≡◌, ℕ, ◌+◌, ◌≢◌, ◌⊎◌, ◌&&◌, List, [], ◌∷◌, Bool, true, false, refl, sym, ap, ◌∙◌, inl, inr, ⊎_elim, subst, nat_lt}
+use Rattle.std.proofs.Common.{◌≡◌, ℕ, ◌≢◌, ◌⊎◌, List, [], ◌∷◌, refl, sym, ap, ◌∙◌, inl, inr, ⊎_elim, subst}
 use mathlib.Core.Logic.{dite}
-use Rattle.std.specs.Prelude.{slice_index, Option, Some, None}
+use Rattle.std.specs.Prelude.{Option, Some, None}
 use Rattle.clover_words.specs.declared.pool.Pool.{Pool}
-use Rattle.clover_words.specs.declared.word.Word.{Word}
-use Rattle.clover_words.specs.declared.word.Word.TheVariants.{Next as NextOf, Root, Key}
-use Rattle.clover_words.specs.declared.word.Side.TheVariants.{Current, Flushed}
-use Rattle.clover_words.specs.Place.{IsWithin, HasSide, place, copy_in}
-use Rattle.clover_words.proofs.Places.{has_current}
 use Rattle.clover_words.specs.Tag.{home}
-use Rattle.clover_words.specs.Version.{buffer_at, content_at}
 use Rattle.clover_map.specs.declared.call.Entry.{Entry}
 use Rattle.clover_map.specs.Key.{IsKey}
 use Rattle.clover_map.specs.Tagged.{Tagged}
 use Rattle.clover_map.specs.declared.bytes.Held.{Held}
-use Rattle.clover_rule.specs.Content.{Spells, inside}
+use Rattle.clover_rule.specs.Content.{Spells}
 use Rattle.clover_rule.specs.Cut.{IsCut, image_of, IsKnownDurable, AfterCut, CutLaw}
 use Rattle.clover_map.specs.Legal.{Legal}
 use Rattle.clover_rule.specs.History.{Version, kept, ends}
 use Rattle.clover_rule.specs.Image.{Image, IsImage, Reads, missing, tags, Chain}
-use Rattle.clover_rule.specs.Lists.{Within, nth}
-use Prim.Native.Nat.{suc}
-use Rattle.clover_rule.specs.Meets.{Meets, IsCode}
-use Rattle.clover_rule.specs.Memory.{Mem, Next, word, link}
+use Rattle.clover_rule.specs.Lists.{Within}
+use Rattle.clover_rule.specs.Meets.{Meets}
+use Rattle.clover_rule.specs.Memory.{Mem}
 use Rattle.clover_rule.specs.Sound.{Sound}
 use Rattle.clover_rule.specs.Story.{Story, Durable, Chained}
-use Rattle.clover_rule.specs.Words.{guarded, mem_of, next_of, root_of}
+use Rattle.clover_rule.specs.Words.{mem_of}
 use Rattle.clover_rule.specs.declared.view.View.{View}
 use Rattle.clover_rule.proofs.Steps.{each_within}
 use Rattle.clover_rule.proofs.Snocs.{within_nth}
@@ -33,14 +26,11 @@ use Rattle.clover_rule.proofs.Cuts.{ReadsMap, last_lost, untold, legal_left, cut
 use Rattle.clover_rule.proofs.Rested.{cut_ages, cut_rested}
 use Rattle.clover_rule.proofs.Soundness.{cut_sound, cut_ends, bound_root as bound_key, spelled as spelled_key, chain_placed}
 use Rattle.clover_rule.proofs.Spelling.{one_key}
+use Rattle.clover_rule.proofs.OneReading.{one_chain}
 use Rattle.clover_rule.proofs.Keys.{key_discrete}
 use Rattle.clover_rule.proofs.KeyMaps.{Map, shows, leads}
 use Rattle.clover_rule.proofs.TaggedMaps.{legal_history}
-use Rattle.clover_rule.proofs.Ties.{both, below, buffer_in, content_in, content_side}
-
-either_guard : {A B : Type 0} (b : Bool) (f : A → B) (x y z : A) (d : B) → (b ≡ true → (x ≡ y) ⊎ (x ≡ z)) → (guarded b (f x) d ≡ guarded b (f y) d) ⊎ (guarded b (f x) d ≡ guarded b (f z) d)
-either_guard true f x y z d h = ⊎_elim (λ e. inl (ap f e)) (λ e. inr (ap f e)) (h refl)
-either_guard false f x y z d h = inl refl
+use Rattle.clover_rule.proofs.CutImages.{decoded_image, cut_decodes, outside_words}
 
 module _ (p : Pool) (first : Tagged) (used ws : List ℕ) (vs : List View) (st : Story) (h : List Entry) (r : Meets p first used ws vs st h) (im : List ℕ) (cut : IsCut p ws im) where
   abbrev m : Mem
@@ -50,15 +40,7 @@ module _ (p : Pool) (first : Tagged) (used ws : List ℕ) (vs : List View) (st :
   i = image_of p im
 
   abbrev is : IsImage m i
-  is = record {
-    next = λ b. either_guard (inside p b) next_of _ _ _ (word 0 None) (λ e. cut.copies (NextOf (buffer_at b)) (buffer_in p b e) tt);
-    root = λ s. either_guard (nat_lt s p.slots) root_of _ _ _ None (λ e. cut.copies (Root s) (below s p.slots e) tt);
-    body = λ b k. either_guard (inside p b && nat_lt k (1 + p.words)) (λ (n : ℕ). n) _ _ _ 0 (λ e. let q = both (inside p b) (nat_lt k (1 + p.words)) e in cut.copies (content_at b k) (content_in p b k q.0 (below k (1 + p.words) q.1)) (content_side b k Flushed));
-    key = λ s k. either_guard (nat_lt s p.slots && nat_lt k 32) (λ (n : ℕ). n) _ _ _ 0 (λ e. let q = both (nat_lt s p.slots) (nat_lt k 32) e in cut.copies (Key s k) (below s p.slots q.0, below k 32 q.1) tt);
-  }
-
-  decoded : (w : Word) → IsWithin p w → HasSide w Flushed → IsCode w (slice_index im (place p w))
-  decoded w hw hs = ⊎_elim (λ e. subst (IsCode w) (sym e) (r.decodes w Current hw (has_current w))) (λ e. subst (IsCode w) (sym e) (r.decodes w Flushed hw hs)) (cut.copies w hw hs)
+  is = decoded_image p ws im cut
 
   abbrev sound : Sound p i
   sound = cut_sound p first used m vs st h r.whole i is
@@ -109,14 +91,6 @@ module _ (p : Pool) (first : Tagged) (used ws : List ℕ) (vs : List View) (st :
   valid_key : (k : List ℕ) → (leads (shows first) rest k ≡ None → ⊥) → IsKey k
   valid_key k n = ⊎_elim (λ a. r.whole.help.keyed.valid a.0 k a.1) (λ g. absurd (n (reads.unbound k g))) (slot_of_key k)
 
-  -- a buffer outside of the pool reads as unlinked at generation 0
-  outside : (b : ℕ) → inside p b ≡ false → m.next b ≡ word 0 None
-  outside b e = guarded_out (inside p b) (next_of (copy_in p ws (NextOf (buffer_at b)) Current)) (word 0 None) e
-    where
-      guarded_out : (t : Bool) (x y : Next) → t ≡ false → guarded t x y ≡ y
-      guarded_out true x y e = absurd cc
-      guarded_out false x y e = refl
-
   after : AfterCut p first used vs h im
   after = let l = legal_history first used rest legal_rest in record {
     rest = rest;
@@ -130,31 +104,16 @@ module _ (p : Pool) (first : Tagged) (used ws : List ℕ) (vs : List View) (st :
     map = l.0;
     leads = l.1;
     rests = record {
-      sound = record { decodes = decoded; reads = sound };
+      sound = record { decodes = cut_decodes p ws im cut r.decodes; reads = sound };
       stands = record {
         bound = λ s t k e ik sp. ap (λ (f : Map). f k) l.2 ∙ sym (cut_ends p first used m vs st h r.whole i is s t k e (key_of_slot s t k e ik sp));
         unbound = λ k f. ap (λ (g : Map). g k) l.2 ∙ unspelled k f;
         keys = λ k x e. valid_key k (λ z. absurd (let y = ap (λ (g : Map). g k) l.2 in cc (y, e, z)));
       };
-      ages = cut_ages p first used m vs st h r.whole outside i is;
-      worn = cut_rested p first used m vs st h r.whole outside i is;
+      ages = cut_ages p first used m vs st h r.whole (outside_words p ws) i is;
+      worn = cut_rested p first used m vs st h r.whole (outside_words p ws) i is;
     };
   }
-
--- an image has one chain from a link
-same_chain : (i : Image) (x : Option ℕ) (ts us : List ℕ) → Chain i x ts → Chain i x us → ts ≡ us
-same_chain i None [] [] c d = refl
-same_chain i None [] (u ∷ us) c d = absurd d
-same_chain i None (t ∷ ts) us c d = absurd c
-same_chain i (Some x) [] us c d = absurd c
-same_chain i (Some x) (t ∷ ts) [] c d = absurd d
-same_chain i (Some x) (t ∷ ts) (u ∷ us) c d = let q : t ≡ u = sym c.0 ∙ d.0 in
-    let z : ts ≡ us = same_chain i (link (i.next (home x))) ts us c.2 d.2 in cc
-
-place_within : (ts : List ℕ) (t : ℕ) → Within t ts → (i : ℕ) × (nth ts i ≡ Some t)
-place_within [] t w = absurd w
-place_within (u ∷ ts) t (inl e) = (0, ap Some e)
-place_within (u ∷ ts) t (inr w) = let q = place_within ts t w in (suc q.0, q.1)
 
 -- a buffer that stands on no slot's chain stands on no chain of an image of these words
 pub nowhere : (p : Pool) (first : Tagged) (used ws : List ℕ) (vs : List View) (st : Story) (h : List Entry) → Meets p first used ws vs st h → (b : ℕ) → ((s : ℕ) → st.place b ≢ Chained s)
@@ -162,7 +121,7 @@ pub nowhere : (p : Pool) (first : Tagged) (used ws : List ℕ) (vs : List View) 
 nowhere p first used ws vs st h r b off im cut s ts c t w e =
     let i : Image = image_of p im in
     let so : Sound p i = cut_sound p first used (mem_of p ws) vs st h r.whole i (is p first used ws vs st h r im cut) in
-    let q = place_within (so.chain s) t (subst (Within t) (same_chain i (i.root s) ts (so.chain s) c (so.walk s)) w) in
+    let q = within_nth t (so.chain s) (subst (Within t) (one_chain i (i.root s) ts (so.chain s) c (so.walk s)) w) in
     off s (ap st.place (sym e) ∙ chain_placed p first used (mem_of p ws) vs st h r.whole i (is p first used ws vs st h r im cut) s q.0 t q.1)
 
 pub cut_law : CutLaw

@@ -10,7 +10,7 @@ use Rattle.clover_rule.specs.Views.{SlotsOnce}
 use Rattle.clover_rule.proofs.Snocs.{within_nth}
 
 -- a binding at a place is one of them
-pub nth_among : (l : List (ℕ × List ℕ)) (i : ℕ) (v : ℕ × List ℕ) → nth l i ≡ Some v → Within v l
+pub nth_among : {A : Type 0} (l : List A) (i : ℕ) (v : A) → nth l i ≡ Some v → Within v l
 nth_among [] i v e = absurd cc
 nth_among (x ∷ l) zero v e = inl (let z : Some x ≡ Some v = e in cc)
 nth_among (x ∷ l) (suc i) v e = inr (nth_among l i v e)

@@ -43,7 +43,7 @@ pub commits_kept : (lost : ℕ → Bool) (k : List ℕ) (h : List Entry) → com
 commits_kept lost k [] = refl
 commits_kept lost k (e ∷ h) = commits_cond k e (lost_in lost (commit_of e)) (kept lost h) ∙ ap (λ (xs : List Version). cond (lost_in lost (commit_of e)) xs (cond (bytes_eq (entry_key e) k) (cons_option (commit_of e) xs) xs)) (commits_kept lost k h) ∙ sym (ap (sift lost) (commits_first k e h) ∙ sift_step lost (commit_of e) (bytes_eq (entry_key e) k) (commits_at k h))
 
-sift_append : (lost : ℕ → Bool) (xs ys : List Version) → sift lost (xs ++ ys) ≡ sift lost xs ++ sift lost ys
+pub sift_append : (lost : ℕ → Bool) (xs ys : List Version) → sift lost (xs ++ ys) ≡ sift lost xs ++ sift lost ys
 sift_append lost [] ys = refl
 sift_append lost (x ∷ xs) ys = rw (sift_append lost xs ys) (elim (lost x.tag) as (λ (b : Bool). cond b (sift lost xs ++ sift lost ys) (x ∷ (sift lost xs ++ sift lost ys)) ≡ cond b (sift lost xs) (x ∷ sift lost xs) ++ sift lost ys) [ true ↦ refl | false ↦ refl ])
 

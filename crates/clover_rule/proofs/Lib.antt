@@ -6,6 +6,8 @@ pub mod Presets
 pub mod Acting
 pub mod Accessing
 pub mod Rested
+pub mod OneReading
+pub mod CutImages
 pub mod AfterCuts
 pub mod TwelveParts
 pub mod Bindings
@@ -66,5 +68,18 @@ pub mod Restarts
 pub mod StoreLaw
 pub mod Moved
 pub mod Notes
+pub mod RestartStores
+pub mod Plans
+pub mod PoolBuffers
+pub mod Stopped
+pub mod RestedWords
+pub mod StoredWords
+pub mod RestartLaw
+pub mod Marks
+pub mod Restarted
+pub mod RestartedLaw
+pub mod RestartBooks
+pub mod RestartBindings
+pub mod Reopening
 pub mod Blank
 pub mod Spots

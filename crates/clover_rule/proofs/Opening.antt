@@ -48,7 +48,7 @@ chain_link im (u ∷ us) (Some y) c zero t e = let z : y ≡ t = let z1 : u ≡ 
     head (b ∷ vs) (Some a) c = ap Some c.0
 chain_link im (u ∷ us) (Some y) c (suc i) t e = chain_link im us (link (im.next (home y))) c.2 i t e
 
-chain_head : (im : Image) (us : List ℕ) (x : Option ℕ) → Chain im x us → x ≡ nth us zero
+pub chain_head : (im : Image) (us : List ℕ) (x : Option ℕ) → Chain im x us → x ≡ nth us zero
 chain_head im [] None c = refl
 chain_head im [] (Some a) c = absurd c
 chain_head im (u ∷ us) None c = absurd c

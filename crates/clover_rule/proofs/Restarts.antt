@@ -30,7 +30,7 @@ shown_chain (Some t) us = us
 
 module _ (l : Pool) (im : Image) (sound : Sound l im) (im2 : Image) (r : Restarting l im sound im2) where
   -- a slot that still has a root has the image's
-  rooted : (s t : ℕ) → im2.root s ≡ Some t → im.root s ≡ Some t
+  pub rooted : (s t : ℕ) → im2.root s ≡ Some t → im.root s ≡ Some t
   rooted s t e = ⊎_elim (λ a. sym a ∙ e) (λ a. absurd (cc (a.0, e))) (r.root s)
 
   still : (s u i t : ℕ) → im2.root s ≡ Some u → nth (sound.chain s) i ≡ Some t → im2.next (home t) ≡ im.next (home t)
@@ -82,6 +82,20 @@ module _ (l : Pool) (im : Image) (sound : Sound l im) (im2 : Image) (r : Restart
       go : (x : Option ℕ) → im2.root s ≡ x → ends None (versions_of (shown_chain x (sound.chain s)) (sound.value s)) ≡ ends None (versions_of (sound.chain s) (sound.value s))
       go (Some t) e = refl
       go None e = ⊎_elim (λ a. bare (subst (λ (x : Option ℕ). Chain im x (sound.chain s)) (sym a ∙ e) (sound.walk s))) (λ a. sym a.1) (r.root s)
+
+  -- its chains and values
+  pub restart_chain : (s : ℕ) → restart_sound.chain s ≡ chain2 s
+  unfolding restart_sound
+  restart_chain s = refl
+
+  pub restart_value : (s : ℕ) → restart_sound.value s ≡ sound.value s
+  unfolding restart_sound
+  restart_value s = refl
+
+  -- each slot's chain ends in what it ended in, as the image is read then
+  pub restart_ends : (s : ℕ) → ends None (versions_of (restart_sound.chain s) (restart_sound.value s)) ≡ ends None (versions_of (sound.chain s) (sound.value s))
+  unfolding restart_sound
+  restart_ends s = restart_map s
 
 -- in each image of a cut no used tag is above its buffer's generation
 module _ (l : Pool) (m0 : Tagged) (used : List ℕ) (m : Mem) (vs : List View) (st : Story) (h : List Entry) (w : Whole l m0 used m vs st h) (im : Image) (is : IsImage m im) where

@@ -1,5 +1,5 @@
 -- A content is spelled by its words alone, and so is a key.
-use Rattle.std.proofs.Common.{◌≡◌, ℕ, zero, suc, ◌+◌, ◌*◌, ◌/◌, ◌%◌, ◌^◌, ◌<◌, ◌≤◌, ◌≢◌, List, ◌∷◌, length, refl, sym, ap, ◌∙◌, arith, subst}
+use Rattle.std.proofs.Common.{◌≡◌, ℕ, zero, suc, ◌+◌, ◌*◌, ◌/◌, ◌%◌, ◌^◌, ◌<◌, ◌≤◌, ◌≢◌, List, ◌∷◌, length, refl, sym, ap, ◌∙◌, arith, subst, unwrap_or}
 use Rattle.std.specs.Prelude.{Option, Some, None, slice_index}
 use Rattle.std.proofs.lemmas.Option.{same_Some}
 use Rattle.std.proofs.lemmas.List.{ext_get_or}
@@ -63,17 +63,27 @@ unfolding content
 meta_live None flags size f n e = absurd (meta_apart flags size f n (sym (same_Some tombstone (meta_word (record { kind = IsValue; flags = flags; length = size })) e)))
 meta_live (Some x) flags size f n e = (x, refl)
 
+-- the function has the words of the content
+abbrev pub HasContent : (ℕ → ℕ) → Option Value → Type 0
+HasContent f o = (j y : ℕ) → nth (content o) j ≡ Some y → f j ≡ y
+
 value_same : (x y : Value) → x.flags ≡ y.flags → x.bytes ≡ y.bytes → x ≡ y
 value_same x y f b = λ i. record { flags = f i; bytes = b i }
 
+-- two contents that one function has all words of are one
+pub one_value : (p : Pool) (f : ℕ → ℕ) (a b : Option Value) → Fits p a → Fits p b → HasContent f a → HasContent f b → a ≡ b
+unfolding content
+one_value p f None None ha hb a b = refl
+one_value p f None (Some y) ha hb a b = absurd (meta_apart y.flags (length y.bytes) hb.0 (short_enough p (length y.bytes) hb.1) (sym (b 0 (value_meta y) refl) ∙ a 0 tombstone refl))
+one_value p f (Some x) None ha hb a b = absurd (meta_apart x.flags (length x.bytes) ha.0 (short_enough p (length x.bytes) ha.1) (sym (a 0 (value_meta x) refl) ∙ b 0 tombstone refl))
+one_value p f (Some x) (Some y) ha hb a b =
+    let e : (x.flags ≡ y.flags) × (length x.bytes ≡ length y.bytes) = meta_parts x.flags (length x.bytes) y.flags (length y.bytes) ha.0 (short_enough p (length x.bytes) ha.1) hb.0 (short_enough p (length y.bytes) hb.1) (sym (a 0 (value_meta x) refl) ∙ b 0 (value_meta y) refl) in
+    let same : (k : ℕ) → k < words_of (length x.bytes) → packed x.bytes k ≡ packed y.bytes k = λ k h. sym (a (suc k) (packed x.bytes k) (nth_all x.bytes k h)) ∙ b (suc k) (packed y.bytes k) (nth_all y.bytes k (subst (λ (n : ℕ). k < words_of n) e.1 h)) in
+    ap Some (value_same x y e.0 (same_bytes x.bytes y.bytes ha.2 hb.2 e.1 same))
+
 -- what has all words of a value's content is that value
 pub one_content : (p : Pool) (o : Option Value) (x : Value) → Fits p o → Fits p (Some x) → ((j y : ℕ) → nth (content (Some x)) j ≡ Some y → nth (content o) j ≡ Some y) → o ≡ Some x
-unfolding content
-one_content p None x f g h = absurd (meta_apart x.flags (length x.bytes) g.0 (short_enough p (length x.bytes) g.1) (sym (same_Some tombstone (value_meta x) (h 0 (value_meta x) refl))))
-one_content p (Some z) x f g h =
-    let e : (z.flags ≡ x.flags) × (length z.bytes ≡ length x.bytes) = meta_parts z.flags (length z.bytes) x.flags (length x.bytes) f.0 (short_enough p (length z.bytes) f.1) g.0 (short_enough p (length x.bytes) g.1) (same_Some (value_meta z) (value_meta x) (h 0 (value_meta x) refl)) in
-    let same : (k : ℕ) → k < words_of (length z.bytes) → packed z.bytes k ≡ packed x.bytes k = λ k b. same_Some (packed z.bytes k) (packed x.bytes k) (sym (nth_all z.bytes k b) ∙ h (suc k) (packed x.bytes k) (nth_all x.bytes k (subst (λ (n : ℕ). k < words_of n) e.1 b))) in
-    ap Some (value_same z x e.0 (same_bytes z.bytes x.bytes f.2 g.2 e.1 same))
+one_content p o x f g h = one_value p (λ (j : ℕ). unwrap_or (nth (content o) j) 0) o (Some x) f g (λ j y e. ap (λ (a : Option ℕ). unwrap_or a 0) e) (λ j y e. ap (λ (a : Option ℕ). unwrap_or a 0) (h j y e))
 
 key_bytes : (k : List ℕ) → IsKey k → AreBytes (length k ∷ k)
 key_bytes k h zero = let a = h.1 in omega arith

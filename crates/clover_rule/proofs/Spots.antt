@@ -73,7 +73,7 @@ module _ (l : Pool) (im : Image) (sound : Sound l im) where
   pub spot : ℕ → Option (ℕ × ℕ)
   spot b = spot_below sound.chain l.slots b
 
-  in_pool : (s i t : ℕ) → nth (sound.chain s) i ≡ Some t → s < l.slots
+  pub in_pool : (s i t : ℕ) → nth (sound.chain s) i ≡ Some t → s < l.slots
   in_pool s i t e = go (im.root s) refl
     where
       nil : (us : List ℕ) → Chain im None us → nth us i ≡ Some t → ⊥
@@ -94,3 +94,8 @@ module _ (l : Pool) (im : Image) (sound : Sound l im) where
     where
       go : (p : ℕ × ℕ) × (spot_below sound.chain l.slots (home t) ≡ Some p) → spot_below sound.chain l.slots (home t) ≡ Some (s, i)
       go ((s1, i1), q) = let a = spot_at sound.chain l.slots (home t) s1 i1 q in let o = sound.once s s1 i i1 t a.0 e a.1 a.2 in q ∙ ap (λ (x : ℕ). Some (x, i1)) o.0 ∙ ap (λ (x : ℕ). Some (s, x)) o.1
+
+-- the chains alone say where buffers stand
+pub spot_same : (l : Pool) (im : Image) (one other : Sound l im) → other.chain ≡ one.chain → (b : ℕ) → spot l im other b ≡ spot l im one b
+unfolding spot
+spot_same l im one other e b = ap (λ (f : ℕ → List ℕ). spot_below f l.slots b) e

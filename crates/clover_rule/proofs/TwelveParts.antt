@@ -579,18 +579,13 @@ module _ (p : Pool) (first : Tagged) (used : List ℕ) (ws : List ℕ) (vs : Lis
 
   part_12 : ViewsAndHistory vs h
   part_12 = record {
-    longest = let a = r.whole.basis.longest in (a.1, nth_in vs a.0 a.1 a.2, a.3);
+    longest = let a = r.whole.basis.longest in (a.1, nth_among vs a.0 a.1 a.2, a.3);
     begins = λ v w. let x = within_there vs v w in (r.whole.basis.views x.0 v x.1).history;
     calls = λ v w. let x = within_there vs v w in (r.whole.basis.views x.0 v x.1).calls;
     numbers = r.whole.basis.numbered;
     made = λ y sv v w n e. let x = within_there vs v w in r.whole.made sv.0 x.0 n y v sv.1 x.1 sv.2 e;
     entered = λ y sv. r.whole.entered sv.0 y sv.1 sv.2;
   }
-    where
-      nth_in : (l : List View) (i : ℕ) (v : View) → nth l i ≡ Some v → Within v l
-      nth_in [] i v e = absurd cc
-      nth_in (x ∷ l) zero v e = inl (let z : Some x ≡ Some v = e in cc)
-      nth_in (x ∷ l) (suc i) v e = inr (nth_in l i v e)
 
   -- the rule
   pub rule_holds : Rule p first used ws vs h

@@ -1,26 +1,34 @@
 -- The laws that the crate's functions promise.
 use Rattle.std.specs.FinMap.{get}
-use Rattle.std.specs.Prelude.{◌≡◌, ◌≢◌, ℕ, ◌<◌, ◌⊎◌, List, [], ◌∷◌, ◌++◌, length, slice_set, Bool, Some, None}
+use Rattle.std.specs.Prelude.{◌≡◌, ◌≢◌, ℕ, ◌<◌, ◌⊎◌, List, Contains, [], ◌∷◌, ◌++◌, length, slice_set, Bool, true, false, Some, None}
 use Rattle.clover_words.specs.declared.pool.Pool.{Pool}
 use Rattle.clover_words.specs.declared.word.Word.{Word}
 use Rattle.clover_words.specs.declared.word.Side.{Side}
-use Rattle.clover_words.specs.Place.{address_of, copy_in, pool_words}
+use Rattle.clover_words.specs.Place.{address_of, copy_in, durable_words, pool_words}
+use Rattle.clover_map.specs.declared.bytes.Held.{Held}
 use Rattle.clover_map.specs.declared.call.Entry.{Entry}
+use Rattle.clover_map.specs.Legal.{Leads, Legal, used_by}
 use Rattle.clover_map.specs.Tagged.{Tagged}
 use Rattle.atomic_table.specs.Table.{Me, Allows}
 use Rattle.clover_rule.specs.Accesses.{CameBack, words_after_act}
+use Rattle.clover_rule.specs.Cut.{IsCut, IsSound, Rests, image_of}
+use Rattle.clover_rule.specs.History.{Version, commit_of, commits_at, entry_key, kept, Last, pair_of}
+use Rattle.clover_rule.specs.Image.{Image}
 use Rattle.clover_rule.specs.Lists.{nth}
 use Rattle.clover_rule.specs.Meets.{Meets}
 use Rattle.clover_rule.specs.Memory.{Next, order}
 use Rattle.clover_rule.specs.Moves.{MayAccept, MayGrant, MayHand, MayMake, MayNote, accepted, client_of, given, giving, grant, joined, making, note_of, noted, spent, split}
 use Rattle.clover_rule.specs.Opening.{BlankOpening, FirstViews, Opening}
+use Rattle.clover_rule.specs.Restart.{AreBindings, IsRestarted, Reopens, plan, rested_words, restarted_words, words_after_stores}
 use Rattle.clover_rule.specs.Rule.{Rule, longest}
+use Rattle.clover_rule.specs.Sound.{Sound}
 use Rattle.clover_rule.specs.Asks.{Asks}
 use Rattle.clover_rule.specs.Learned.{found, words_after_step, next_view, next_history}
 use Rattle.clover_rule.specs.Steps.{Operation, Step, act_of, act_on, becomes, result, side_in, side_of, word_of}
 use Rattle.clover_rule.specs.Story.{Story}
 use Rattle.clover_rule.specs.Told.{Told, TableHolds}
 use Rattle.clover_rule.specs.Words.{mem_of}
+use Rattle.clover_rule.specs.declared.view.RestartStore.{RestartStore}
 use Rattle.clover_rule.specs.declared.view.Role.TheVariants.{Client}
 use Rattle.clover_rule.specs.declared.view.View.{View}
 
@@ -110,3 +118,41 @@ JoinNoteLaw = (p : Pool) (first : Tagged) (used ws : List ℕ) (vs : List View) 
 -- What is left of a view that another one took in may go.
 abbrev pub SpentLaw : Type 0
 SpentLaw = (p : Pool) (first : Tagged) (used ws : List ℕ) (vs : List View) (h : List Entry) (i : ℕ) (v w : View) → Rule p first used ws (vs ++ spent w ∷ []) h → nth vs i ≡ Some v → Rule p first used ws vs h
+
+-- an image has one chain for each slot, and one value at each place of it, however it was found sound
+pub record OneReading (im : Image) (p : Pool) (one other : Sound p im) : Type 0 where
+  pub chains : (s : ℕ) → other.chain s ≡ one.chain s
+  pub values : (s i t : ℕ) → nth (one.chain s) i ≡ Some t → other.value s i ≡ one.value s i
+
+abbrev pub OneReadingLaw : Type 0
+OneReadingLaw = (p : Pool) (im : Image) (one other : Sound p im) → OneReading im p one other
+
+-- Whatever front of a restart's stores was made, each image of the words then rests as the first one did, with the same map and used tags.
+abbrev pub RestartLaw : Type 0
+RestartLaw = (p : Pool) (n : Tagged) (used im im2 : List ℕ) (a : Rests p im n used) (made rest : List RestartStore) → length im ≡ durable_words p → plan p (image_of p im) a.sound.reads ≡ made ++ rest → IsCut p (words_after_stores p (rested_words p im) made) im2 → Rests p im2 n used
+
+-- All of them leave of a sound image what a restart is to leave, in the words too.
+abbrev pub RestartedLaw : Type 0
+RestartedLaw = (p : Pool) (im : List ℕ) (a : IsSound p im) → length im ≡ durable_words p → IsRestarted p (image_of p im) a.reads (image_of p (restarted_words p im a.reads))
+
+-- Behind all of them a run may begin, with that map and those used tags.
+abbrev pub ReopenLaw : Type 0
+ReopenLaw = (p : Pool) (n : Tagged) (used im : List ℕ) (list : List (ℕ × List ℕ)) (a : Rests p im n used) → length im ≡ durable_words p → AreBindings (image_of p (restarted_words p im a.sound.reads)) 0 p.slots list → Reopens p n used (restarted_words p im a.sound.reads) list
+
+-- each tag of the map is used
+abbrev pub AreUsed : Tagged → List ℕ → Type 0
+AreUsed n used = (k : List ℕ) (x : Held) → get n k ≡ Some x → Contains used x.tag
+
+-- They are behind a cut too: what is left of a run has no tag in its map that the run had not used.
+abbrev pub UsedLaw : Type 0
+UsedLaw = (lost : ℕ → Bool) (first n : Tagged) (used : List ℕ) (h : List Entry) → AreUsed first used → Leads first used (kept lost h) n → AreUsed n (used_by used h)
+
+-- the key has what the version stands for exactly where the version is not lost
+pub record IsMarked (lost : ℕ → Bool) (n : Tagged) (k : List ℕ) (w : Version) : Type 0 where
+  pub stands : lost w.tag ≡ false → get n k ≡ pair_of w
+  pub gone : lost w.tag ≡ true → get n k ≢ pair_of w
+
+-- Which commits a cut took is seen at the map that is left: of each key's last commit.
+abbrev pub MarkLaw : Type 0
+MarkLaw = (lost : ℕ → Bool) (first n : Tagged) (used : List ℕ) (front back : List Entry) (e : Entry) (w : Version) → Legal first used (front ++ e ∷ back) → AreUsed first used → Last lost (front ++ e ∷ back) → Leads first used (kept lost (front ++ e ∷ back)) n → commit_of e ≡ Some w → commits_at (entry_key e) back ≡ []
+    → IsMarked lost n (entry_key e) w

@@ -26,6 +26,7 @@ pub mod Image
 pub mod Sound
 pub mod Cut
 pub mod Opening
+pub mod Restart
 pub mod Preset
 pub mod Moves
 pub mod Laws

@@ -1,7 +1,7 @@
 // The laws, each a contract of a function with an empty body.
 ghost use Rattle.clover_rule.specs.Cut.{CutLaw};
 ghost use Rattle.clover_rule.specs.Preset.{PresetLaw};
-ghost use Rattle.clover_rule.specs.Laws.{PartsLaw, LongestLaw, StepLaw, ToldLaw, TableStepLaw, RiseLaw, AccessLaw, OperationLaw, OpeningLaw, BlankLaw, ClientLaw, GrantLaw, AcceptLaw, HandOverLaw, NoteLaw, JoinNoteLaw, SpentLaw};
+ghost use Rattle.clover_rule.specs.Laws.{PartsLaw, LongestLaw, StepLaw, ToldLaw, TableStepLaw, RiseLaw, AccessLaw, OperationLaw, OpeningLaw, BlankLaw, ClientLaw, GrantLaw, AcceptLaw, HandOverLaw, NoteLaw, JoinNoteLaw, SpentLaw, OneReadingLaw, RestartLaw, RestartedLaw, ReopenLaw, UsedLaw, MarkLaw};
 
 /// The twelve parts of the rule follow from the helping facts.
 pub fn parts_law()
@@ -96,4 +96,34 @@ pub fn join_note_law()
 /// What is left of a view that another one took in may go.
 pub fn spent_law()
     ensures { SpentLaw }
+{}
+
+/// An image is read in one way, however it was found sound.
+pub fn one_reading_law()
+    ensures { OneReadingLaw }
+{}
+
+/// Each image of a restart that stopped anywhere rests as the image that it began from, with the same map and used tags.
+pub fn restart_law()
+    ensures { RestartLaw }
+{}
+
+/// All stores of a restart leave of a sound image what a restart is to leave.
+pub fn restarted_law()
+    ensures { RestartedLaw }
+{}
+
+/// Behind all stores of a restart a run may begin, with the same map and used tags.
+pub fn reopen_law()
+    ensures { ReopenLaw }
+{}
+
+/// The tags in the map that a cut leaves are used ones.
+pub fn used_law()
+    ensures { UsedLaw }
+{}
+
+/// Which commits a cut took is seen at the map that is left.
+pub fn mark_law()
+    ensures { MarkLaw }
 {}
