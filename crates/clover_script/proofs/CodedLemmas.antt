@@ -1,5 +1,5 @@
 -- coded texts
-use Rattle.std.proofs.Common.{zero, suc, ◌≡◌, ◌/◌, ◌%◌, ◌<◌, ℕ, Bool, true, false, List, [], ◌∷◌, ◌++◌, refl, ap, subst, sym, ◌∙◌, arith}
+use Rattle.std.proofs.Common.{zero, suc, ◌≡◌, ◌/◌, ◌%◌, ◌<◌, ◌≤◌, ℕ, Bool, true, false, List, [], ◌∷◌, ◌++◌, length, refl, ap, subst, sym, ◌∙◌, arith}
 use Rattle.std.specs.Prelude.{if◌then◌else◌}
 use Rattle.std.proofs.lemmas.Bool.{false≢true}
 use Rattle.std.proofs.lemmas.Bool.Decides.{nat_tests}
@@ -70,3 +70,22 @@ are_push [] b h k zero = k
 are_push [] b h k (suc i) = h i
 are_push (x ∷ xs) b h k zero = h 0
 are_push (x ∷ xs) b h k (suc i) = are_push xs b (λ j. h (suc j)) k i
+
+long_spelled : (p : Bool) (b : ℕ) (rest bytes : List ℕ) → length bytes ≤ length rest → length (b ∷ bytes) ≤ length (spelled p b ++ rest)
+long_spelled true b rest bytes h = omega (arith, h)
+long_spelled false b rest bytes h = omega (arith, h)
+
+-- a coded text is at least as long as its bytes
+pub as_long : (bytes : List ℕ) → length bytes ≤ length (coded bytes)
+as_long [] = omega arith
+as_long (b ∷ bs) = subst (λ s. length (b ∷ bs) ≤ length (s ++ coded bs)) (sym (is_spelled b)) (long_spelled (is_plain b) b (coded bs) bs (as_long bs))
+
+short_spelled : (p : Bool) (b : ℕ) (rest bytes : List ℕ) → length bytes ≤ length rest → (length rest ≡ length bytes → rest ≡ bytes) → length (spelled p b ++ rest) ≡ length (b ∷ bytes) → spelled p b ++ rest ≡ b ∷ bytes
+short_spelled true b rest bytes h same e = ap (λ (x : List ℕ). b ∷ x) (same (omega (arith, e)))
+short_spelled false b rest bytes h same e = absurd (omega (arith, h, e))
+
+-- and where it is no longer, it is those bytes
+pub as_short : (bytes : List ℕ) → length (coded bytes) ≡ length bytes → coded bytes ≡ bytes
+as_short [] e = refl
+as_short (b ∷ bs) e =
+    ap (λ s. s ++ coded bs) (is_spelled b) ∙ short_spelled (is_plain b) b (coded bs) bs (as_long bs) (as_short bs) (ap (λ s. length (s ++ coded bs)) (sym (is_spelled b)) ∙ e)

@@ -1,12 +1,9 @@
 -- texts that are cut, and their lines
-use Rattle.std.proofs.Common.{zero, suc, ◌≡◌, ◌≢◌, ◌==◌, ◌<◌, ◌+◌, ℕ, true, false, Option, Some, None, List, [], ◌∷◌, ◌++◌, length, get_or, take, drop, refl, sym, ap, ◌∙◌, arith}
-use Rattle.std.proofs.lemmas.List.{take-append-drop}
-use Rattle.std.specs.Prelude.{if◌then◌else◌, IfNone, IfSome, MatchOption, nat_eq}
-use Rattle.std.specs.Cmp.Lexicographic.{pointwise, same_text, other_text}
-use denote.Ref.{Bor}
+use Rattle.std.proofs.Common.{sym, zero, suc, ◌≡◌, ◌≢◌, ◌==◌, ◌<◌, ℕ, Option, Some, None, List, [], ◌∷◌, ◌++◌, length, get_or, take, refl, ap, ◌∙◌, arith}
+use Rattle.std.specs.Prelude.{if◌then◌else◌, IfNone}
 use Rattle.std.proofs.lemmas.Bool.Decides.{nat_tests}
 use Rattle.clover_script.specs.Line.{lines_of, with_front}
-use Rattle.clover_script.specs.Split.{Lacks}
+use Rattle.clover_script.specs.Split.{Lacks, EndsWord}
 
 no_break : (b : ℕ) (x y : List (List ℕ)) → b ≢ 10 → (if b == 10 then x else y) ≡ y
 no_break b x y h = grind (arith, nat_tests)
@@ -49,30 +46,23 @@ one_split b (c ∷ v) (d ∷ w) x y p q e =
     let u : v ≡ w = r.0 in
     (cc, r.1)
 
+-- and a word and what stands behind it are one thing
+pub one_word : (v w x y : List ℕ) → Lacks 32 v → Lacks 32 w → EndsWord x → EndsWord y → v ++ x ≡ w ++ y → (v ≡ w) × (x ≡ y)
+one_word [] [] x y p q ex ey e = (refl, e)
+one_word [] (d ∷ w) [] y p q ex ey e = absurd (cc)
+one_word [] (d ∷ w) (a ∷ x) y p q ex ey e = let s : a ≡ d = cc in absurd (q.0 (sym s ∙ ex))
+one_word (c ∷ v) [] x [] p q ex ey e = absurd (cc)
+one_word (c ∷ v) [] x (a ∷ y) p q ex ey e = let s : c ≡ a = cc in absurd (p.0 (s ∙ ey))
+one_word (c ∷ v) (d ∷ w) x y p q ex ey e =
+    let s : c ≡ d = cc in
+    let t : v ++ x ≡ w ++ y = cc in
+    let r = one_word v w x y p.1 q.1 ex ey t in
+    let u : v ≡ w = r.0 in
+    (cc, r.1)
+
 -- a text that lacks a byte is not cut there
 pub no_split : (b : ℕ) (text v x : List ℕ) → Lacks b text → text ≡ v ++ b ∷ x → ⊥
 no_split b [] [] x h e = cc
 no_split b [] (c ∷ v) x h e = cc
 no_split b (a ∷ s) [] x h e = let same : a ≡ b = cc in h.0 same
 no_split b (a ∷ s) (c ∷ v) x h e = let rest : s ≡ v ++ b ∷ x = cc in no_split b s v x h.1 rest
-
--- the front of a text that is a word, and what is left
-pub word_front : (word text : List ℕ) → take (length word) text ≡ word → text ≡ word ++ drop (length word) text
-word_front word text e = sym (take-append-drop (length word) text) ∙ ap (λ w. w ++ drop (length word) text) e
-
-pub front_word : (word rest : List ℕ) → take (length word) (word ++ rest) ≡ word
-front_word [] rest = refl
-front_word (w ∷ ws) rest = ap (λ l. w ∷ l) (front_word ws rest)
-
--- what the test of a front tells
-pub word_found : (text word : List ℕ) (r : Option (Bor (List ℕ)))
-    → MatchOption r (pointwise nat_eq (take (length word) text) word ≡ false) (λ x. (pointwise nat_eq (take (length word) text) word ≡ true) × (x.now ≡ drop (length word) text) × (length x.now + length word ≡ length text))
-    → IfSome r (λ rest. text ≡ word ++ rest.now)
-word_found text word None is = tt
-word_found text word (Some x) is = word_front word text (same_text _ _ (sym is.0)) ∙ ap (λ l. word ++ l) (sym is.1)
-
-pub word_missed : (text word : List ℕ) (r : Option (Bor (List ℕ)))
-    → MatchOption r (pointwise nat_eq (take (length word) text) word ≡ false) (λ x. (pointwise nat_eq (take (length word) text) word ≡ true) × (x.now ≡ drop (length word) text) × (length x.now + length word ≡ length text))
-    → IfNone r ((rest : List ℕ) → text ≡ word ++ rest → ⊥)
-word_missed text word None is = λ rest e. other_text _ _ (sym is) (ap (take (length word)) e ∙ front_word word rest)
-word_missed text word (Some x) is = tt

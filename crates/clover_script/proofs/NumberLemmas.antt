@@ -1,7 +1,7 @@
 -- numbers at the front of a text
-use Rattle.std.proofs.Common.{zero, suc, ◌≡◌, ◌<◌, ◌+◌, ◌%◌, ◌^◌, ℕ, List, [], ◌∷◌, ◌++◌, length, get_or, take, refl, arith}
+use Rattle.std.proofs.Common.{zero, suc, ◌≡◌, ◌<◌, ◌≤◌, ◌+◌, ◌-◌, ◌%◌, ◌^◌, ℕ, List, [], ◌∷◌, ◌++◌, length, get_or, take, refl, sym, ap, ◌∙◌, arith}
 use Rattle.std.specs.Fmt.{decimal}
-use Rattle.std.proofs.lemmas.Fmt.{decimal_by_steps, decimal_injective}
+use Rattle.std.proofs.lemmas.Fmt.{decimal_by_steps, decimal_digit, decimal_injective}
 use Rattle.clover_script.specs.Split.{IsDigit, AreDigits, EndsNumber}
 
 digits_push : (ds : List ℕ) (b : ℕ) → AreDigits ds → IsDigit b → AreDigits (ds ++ b ∷ [])
@@ -41,3 +41,11 @@ pub one_number : (a b : ℕ) (x y : List ℕ) → a < 2 ^ 64 → b < 2 ^ 64 → 
 one_number a b x y p q ex ey e =
     let r = one_cut (decimal a) (decimal b) x y (decimal_digits a p) (decimal_digits b q) ex ey e in
     (decimal_injective a b p q r.0, r.1)
+
+-- a text of one digit
+pub one_digit : (text : List ℕ) (n : ℕ) → 1 ≤ length text → length text < 2 → 48 ≤ get_or text 0 0 → get_or text 0 0 ≤ 57 → n ≡ get_or text 0 0 - 48 → text ≡ decimal n
+one_digit [] n some one low high is = absurd (omega (arith, some))
+one_digit (d ∷ []) n some one low high is =
+    let digit : d ≡ 48 + n = omega (arith, low, is) in
+    ap (λ (b : ℕ). b ∷ []) digit ∙ sym (decimal_digit n (omega (arith, high, is)))
+one_digit (d ∷ e ∷ rest) n some one low high is = absurd (omega (arith, one))

@@ -15,7 +15,7 @@ digits_lack (d ∷ ds) are = (λ e. omega (arith, are.0, e), digits_lack ds are.
 pub number_lacks : (n : ℕ) → n < 2 ^ 64 → Lacks 32 (decimal n)
 number_lacks n lt = digits_lack (decimal n) (decimal_digits n lt)
 
-lacks_append : (b : ℕ) (xs ys : List ℕ) → Lacks b xs → Lacks b ys → Lacks b (xs ++ ys)
+pub lacks_append : (b : ℕ) (xs ys : List ℕ) → Lacks b xs → Lacks b ys → Lacks b (xs ++ ys)
 lacks_append b [] ys h k = k
 lacks_append b (x ∷ xs) ys h k = (h.0, lacks_append b xs ys h.1 k)
 

@@ -1,7 +1,12 @@
 -- what holds of every text: it is one line at most; and it is a script in one way at most, or refused at one line at most, and never both
-use Rattle.std.specs.Prelude.{◌≡◌, ℕ, List}
+use Rattle.std.specs.Prelude.{◌≡◌, ℕ, List, All}
 use Rattle.clover_words.specs.declared.setup.Setup.{Setup}
+use Rattle.clover_words.specs.declared.word.Word.{Word}
+use Rattle.clover_words.specs.declared.word.Side.{Side}
 use Rattle.clover_script.specs.declared.line.Line.{Line}
+use Rattle.clover_script.specs.declared.choice.Choice.{Choice}
+use Rattle.clover_script.specs.Text.{IsNumbered, copy_text}
+use Rattle.clover_script.specs.Choice.{IsChoice, IsFurtherCut, cut_text}
 use Rattle.clover_script.specs.Line.{numbers_of, IsPoolLine, Spoken, IsSpoken, line_text, IsLineOf, IsIgnored}
 use Rattle.clover_script.specs.Lines.{IsLinesOf, IsRefusedLine}
 
@@ -28,3 +33,13 @@ NoLinesAreRefused = (text : List ℕ) (s : Setup) (said : List Spoken) (n : ℕ)
 -- A text that is refused is refused at one line.
 abbrev pub OneRefusedLine : Type 0
 OneRefusedLine = (text : List ℕ) (n m : ℕ) → IsRefusedLine text n → IsRefusedLine text m → n ≡ m
+
+-- A text is the name of one copy of one word.
+abbrev pub OneName : Type 0
+OneName = (v w : Word) (s t : Side) → IsNumbered v → IsNumbered w → copy_text v s ≡ copy_text w t → (v ≡ w) × (s ≡ t)
+
+-- A text is one choice with one list of further cuts.
+abbrev pub OneCut : Type 0
+OneCut =
+    (first other : Choice) (more others : List (ℕ × Choice)) → IsChoice first → IsChoice other → All IsFurtherCut more → All IsFurtherCut others
+    → cut_text first more ≡ cut_text other others → (first ≡ other) × (more ≡ others)

@@ -1,3 +1,4 @@
+pub mod Choice
 pub mod Coded
 pub mod Laws
 pub mod Line

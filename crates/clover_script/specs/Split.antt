@@ -1,5 +1,5 @@
 -- how a text is cut: at a byte, and behind a number
-use Rattle.std.specs.Prelude.{◌≢◌, ℕ, ◌≤◌, List, [], ◌∷◌}
+use Rattle.std.specs.Prelude.{◌≡◌, ◌≢◌, ℕ, ◌≤◌, List, [], ◌∷◌}
 use Rattle.std.specs.List.{AllByRecursion}
 
 -- the byte stands nowhere in the text
@@ -18,3 +18,8 @@ AreDigits text = AllByRecursion IsDigit text
 abbrev pub EndsNumber : List ℕ → Type 0
 EndsNumber [] = Unit {0}
 EndsNumber (b ∷ bs) = IsDigit b → ⊥
+
+-- nothing of the word goes on: the text is empty, or begins with a space
+abbrev pub EndsWord : List ℕ → Type 0
+EndsWord [] = Unit {0}
+EndsWord (b ∷ bs) = b ≡ 32

@@ -1,5 +1,5 @@
 -- the printed texts of numbers, tags, words, calls, replies, entries and what else an actor is told
-use Rattle.std.specs.Prelude.{ℕ, ◌/◌, ◌%◌, ◌^◌, List, [], ◌++◌, decimal, codes, flat_map}
+use Rattle.std.specs.Prelude.{ℕ, ◌/◌, ◌%◌, ◌^◌, ◌<◌, List, [], ◌++◌, Bool, true, false, decimal, codes, flat_map}
 use Rattle.std.specs.Int.{w64, to_be_bytes}
 use Rattle.clover_words.specs.declared.word.Buffer.{Buffer}
 use Rattle.clover_words.specs.declared.word.Word.{Word}
@@ -13,6 +13,7 @@ use Rattle.clover_map.specs.declared.call.Reply.{Reply}
 use Rattle.clover_map.specs.declared.call.Reply.TheVariants.{Stored, Found, Absent, Deleted, Differs}
 use Rattle.clover_map.specs.declared.call.Entry.{Entry}
 use Rattle.clover_script.specs.Coded.{coded, hex_byte}
+use Rattle.clover_script.specs.declared.run_entry.RunEntry.{RunEntry}
 
 -- node, index and generation of a tag's number
 abbrev pub tag_text : ℕ → List ℕ
@@ -25,6 +26,20 @@ hex_text n = flat_map hex_byte (to_be_bytes w64 n)
 -- node and index of a buffer
 abbrev pub buffer_text : Buffer → List ℕ
 buffer_text b = decimal b.node ++ (codes "." ++ decimal b.index)
+
+-- a buffer whose numbers are any that a name may have
+abbrev pub IsNumberedBuffer : Buffer → Type 0
+IsNumberedBuffer b = (b.node < 2 ^ 32) × (b.index < 2 ^ 32)
+
+-- a word whose numbers are any that a name may have, whether or not a pool has it
+abbrev pub IsNumbered : Word → Type 0
+IsNumbered (word.Next b) = IsNumberedBuffer b
+IsNumbered (word.Meta b) = IsNumberedBuffer b
+IsNumbered (word.Value b k) = IsNumberedBuffer b × (k < 2 ^ 32)
+IsNumbered (word.Root s) = s < 2 ^ 32
+IsNumbered (word.Key s k) = (s < 2 ^ 32) × (k < 2 ^ 32)
+IsNumbered (word.Short s) = s < 2 ^ 32
+IsNumbered word.Count = Unit {0}
 
 -- the name of a word's current copy
 abbrev pub word_text : Word → List ℕ
@@ -64,9 +79,17 @@ call_text (Put k v) = codes "put " ++ coded k ++ codes " " ++ value_text v
 call_text (Delete k) = codes "delete " ++ coded k
 call_text (Swap k e v) = codes "swap " ++ coded k ++ codes " " ++ tag_text e ++ codes " " ++ value_text v
 
--- the line of an entry of the first run, which stands
-abbrev pub entry_line : Entry → List ℕ
-entry_line e = codes "h 1 " ++ decimal e.client ++ codes " " ++ decimal e.number ++ codes " " ++ call_text e.call ++ codes " " ++ reply_text e.reply ++ codes "\n"
+-- an entry that a power cut took has a mark of its own
+abbrev pub mark_text : Bool → List ℕ
+mark_text true = codes "h "
+mark_text false = codes "x "
+
+-- the line of an entry of this run, which stands or does not
+abbrev pub entry_line : ℕ → Bool → Entry → List ℕ
+entry_line run stands e = mark_text stands ++ decimal run ++ codes " " ++ decimal e.client ++ codes " " ++ decimal e.number ++ codes " " ++ call_text e.call ++ codes " " ++ reply_text e.reply ++ codes "\n"
+
+abbrev pub run_entry_line : RunEntry → List ℕ
+run_entry_line x = entry_line x.run x.stands x.entry
 
 -- the line of what an actor is told in place of an answer
 abbrev pub told_line : ℕ → List ℕ → List ℕ

@@ -1,6 +1,6 @@
 // Coded texts, read and written: printable bytes stand for themselves, every other byte is a percent
 // sign and two digits. Works on bytes alone.
-ghost use Rattle.std.specs.Prelude.{◌≡◌, ◌+◌, ◌*◌, ◌<◌, ℕ, List, ◌++◌, length, IfSome, IfNone, OnOk, flat_map};
+ghost use Rattle.std.specs.Prelude.{◌≡◌, ◌+◌, ◌*◌, ◌<◌, ℕ, List, ◌++◌, length, IsTrue, IfSome, IfNone, OnOk, flat_map};
 ghost use Rattle.clover_words.specs.Pack.{AreBytes};
 ghost use Rattle.clover_script.specs.Coded.{coded, coded_byte, hex_byte, hex_digit, is_plain};
 
@@ -58,11 +58,25 @@ fn first_byte(text: &[u8]) -> Option<(u8, &[u8])>
     }
 }
 
+/// Whether each byte stands for itself. It reads all of them, so that it can take many at a time.
+fn are_plain(bytes: &[u8]) -> bool
+    ensures { IsTrue result → coded bytes.now ≡ bytes.now }
+{
+    let mut plain = true;
+    for byte in bytes {
+        plain &= is_plain(*byte);
+    }
+    plain
+}
+
 /// How many bytes a coded text stands for. None exactly where the text is no coded text.
 pub fn spelled_length(text: &[u8]) -> Option<usize>
     ensures found { IfSome result (λ n. (bytes : List ℕ) × AreBytes bytes × (text.now ≡ coded bytes) × (n ≡ length bytes)) }
     ensures none { IfNone result ((bytes : List ℕ) → AreBytes bytes → text.now ≡ coded bytes → ⊥) }
 {
+    if are_plain(text) {
+        return Some(text.len());
+    }
     let mut length = 0;
     let mut rest = text;
     while !rest.is_empty() {
@@ -77,6 +91,11 @@ pub fn spelled_length(text: &[u8]) -> Option<usize>
 pub fn decode_into(text: &[u8], room: &mut [u8])
     ensures { (bytes : List ℕ) → AreBytes bytes → text.now ≡ coded bytes → length bytes ≡ length room.old → room.new ≡ bytes }
 {
+    // A text that is no longer than its bytes is those bytes.
+    if text.len() == room.len() {
+        room.copy_from_slice(text);
+        return;
+    }
     let mut rest = text;
     for index in 0..room.len() {
         let Some((byte, after)) = first_byte(rest) else {
@@ -92,6 +111,9 @@ pub fn decode_into(text: &[u8], room: &mut [u8])
 pub fn push_coded(out: &mut Vec<u8>, bytes: &[u8]) -> Result<(), AllocError>
     ensures ok { OnOk result (out.new.items ≡ out.old.items ++ coded bytes.now) }
 {
+    if are_plain(bytes) {
+        return out.extend_from_slice(bytes);
+    }
     for byte in bytes {
         push_coded_byte(out, *byte)?;
     }

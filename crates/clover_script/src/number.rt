@@ -11,6 +11,17 @@ pub fn number_of(text: &[u8]) -> Option<u64>
     ensures found { IfSome result (λ n. text.now ≡ decimal n) }
     ensures only { (n : ℕ) → n < 2 ^ 64 → text.now ≡ decimal n → result ≡ Some n }
 {
+    // Most numbers of a script have one digit, for which the way through the standard reader is long.
+    match text {
+        [digit] if digit.is_ascii_digit() => Some(u64::from(*digit - b'0')),
+        _ => read_exactly(text),
+    }
+}
+
+fn read_exactly(text: &[u8]) -> Option<u64>
+    ensures found { IfSome result (λ n. text.now ≡ decimal n) }
+    ensures only { (n : ℕ) → n < 2 ^ 64 → text.now ≡ decimal n → result ≡ Some n }
+{
     // The standard reader also takes a sign and leading zeros, so what it read is compared in print.
     let number = read_loosely(text)?;
     let mut buffer = Buffer::new();

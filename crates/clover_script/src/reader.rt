@@ -26,7 +26,7 @@ pub fn line_of(alloc: Global, line: &[u8]) -> Result<Option<Line>, OutOfMemory>
     }
 }
 
-/// The same with the value as the line spells it. It takes no memory.
+/// The same with the key and the value as the line spells them. It takes no memory.
 pub fn spelled_line(line: &[u8]) -> Option<LineText>
     ensures found { IfSome result (SpellsLine line.now) }
     ensures none { IfNone result (IsNoLine line.now) }

@@ -1,14 +1,26 @@
-// What a line says, with its value still as the line spells it. The first reading of a script makes no more of a line,
-// and takes no memory for it; the second reading decodes the value.
+// What a line says, with its key and its value still as the line spells them. The first reading of a script makes no
+// more of a line, and takes no memory for it; the second reading decodes both. So a line is small until it is run.
 ghost use Rattle.std.specs.Prelude.{◌≡◌, ℕ, List, IfOk};
 ghost use Rattle.clover_script.specs.Line.{cut_value, task_of, kept_task, kept_line};
-ghost use Rattle.clover_script.specs.Spelling.{value_with, IsValueText, call_said, HasBytes, asked_said, HasTaskBytes, said_by, HasLineBytes};
+ghost use Rattle.clover_script.specs.Spelling.{IsKeyText, value_with, IsValueText, call_said, HasBytes, asked_said, HasTaskBytes, said_by, HasLineBytes};
 
 use crate::coded::decode_into;
 use crate::line::{Line, Task};
 use clover_list::OutOfMemory;
 use clover_map::{Bytes, Call, Key, Value};
 use std::alloc::Global;
+
+/// How many bytes a key may have.
+pub const LONGEST_KEY: usize = 250;
+
+/// A key as a line spells it.
+#[derive(Clone, Copy)]
+pub struct KeyText<'a> {
+    /// The coded text of its bytes.
+    pub text: &'a [u8],
+    /// How many bytes that text stands for, 1 to 250.
+    pub length: usize,
+}
 
 /// A value as a line spells it.
 #[derive(Clone, Copy)]
@@ -23,17 +35,17 @@ pub struct ValueText<'a> {
 #[derive(Drop)]
 pub enum CallText<'a> {
     Get {
-        key: Key,
+        key: KeyText<'a>,
     },
     Put {
-        key: Key,
+        key: KeyText<'a>,
         value: ValueText<'a>,
     },
     Delete {
-        key: Key,
+        key: KeyText<'a>,
     },
     Swap {
-        key: Key,
+        key: KeyText<'a>,
         expected: u64,
         value: ValueText<'a>,
     },
@@ -57,6 +69,21 @@ pub enum LineText<'a> {
     Refuse { actor: u32 },
 }
 
+impl KeyText<'_> {
+    /// The key.
+    fn decode(&self) -> Key
+        requires { (key : List ℕ) × IsKeyText self.now key }
+        ensures { (key : List ℕ) → IsKeyText self.now key → result ≡ key }
+    {
+        let mut room = [0; LONGEST_KEY];
+        decode_into(self.text, &mut room[..self.length]);
+        match Key::of(&room[..self.length]) {
+            Ok(key) => key,
+            Err(_) => unreachable!(),
+        }
+    }
+}
+
 impl ValueText<'_> {
     /// The value as a call keeps it.
     fn decode(&self, alloc: Global) -> Result<Value, OutOfMemory>
@@ -72,16 +99,17 @@ impl ValueText<'_> {
 }
 
 impl CallText<'_> {
-    /// The call as a task, its value decoded.
+    /// The call as a task, its key and its value decoded.
     fn decode(self, alloc: Global) -> Result<Task, OutOfMemory>
-        ensures { IfOk result (λ task. (bytes : List ℕ) → HasBytes self.entry bytes → task ≡ task_of (call_said self.entry bytes)) }
+        requires { (key : List ℕ) × (value : List ℕ) × HasBytes self key value }
+        ensures { IfOk result (λ task. (key : List ℕ) (value : List ℕ) → HasBytes self.entry key value → task ≡ task_of (call_said self.entry key value)) }
     {
         let (call, written) = match self {
-            CallText::Get { key } => (Call::Get { key }, 0),
-            CallText::Delete { key } => (Call::Delete { key }, 0),
+            CallText::Get { key } => (Call::Get { key: key.decode() }, 0),
+            CallText::Delete { key } => (Call::Delete { key: key.decode() }, 0),
             CallText::Put { key, value } => (
                 Call::Put {
-                    key,
+                    key: key.decode(),
                     value: value.decode(alloc)?,
                 },
                 value.written,
@@ -92,7 +120,7 @@ impl CallText<'_> {
                 value,
             } => (
                 Call::Swap {
-                    key,
+                    key: key.decode(),
                     expected,
                     value: value.decode(alloc)?,
                 },
@@ -104,9 +132,10 @@ impl CallText<'_> {
 }
 
 impl TaskText<'_> {
-    /// The task, its value decoded.
+    /// The task, its key and its value decoded.
     fn decode(self, alloc: Global) -> Result<Task, OutOfMemory>
-        ensures { IfOk result (λ task. (bytes : List ℕ) → HasTaskBytes self.entry bytes → task ≡ kept_task (asked_said self.entry bytes)) }
+        requires { (key : List ℕ) × (value : List ℕ) × HasTaskBytes self key value }
+        ensures { IfOk result (λ task. (key : List ℕ) (value : List ℕ) → HasTaskBytes self.entry key value → task ≡ kept_task (asked_said self.entry key value)) }
     {
         match self {
             TaskText::Client(call) => call.decode(alloc),
@@ -117,9 +146,10 @@ impl TaskText<'_> {
 }
 
 impl LineText<'_> {
-    /// The line, its value decoded.
+    /// The line, its key and its value decoded.
     pub fn decode(self, alloc: Global) -> Result<Line, OutOfMemory>
-        ensures { IfOk result (λ line. (bytes : List ℕ) → HasLineBytes self.entry bytes → line ≡ kept_line (said_by self.entry bytes)) }
+        requires { (key : List ℕ) × (value : List ℕ) × HasLineBytes self key value }
+        ensures { IfOk result (λ line. (key : List ℕ) (value : List ℕ) → HasLineBytes self.entry key value → line ≡ kept_line (said_by self.entry key value)) }
     {
         Ok(match self {
             LineText::Begin { actor, task } => {

@@ -5,16 +5,12 @@ ghost use Rattle.clover_map.specs.declared.bytes.Value.{Value};
 ghost use Rattle.clover_script.specs.Coded.{coded};
 ghost use Rattle.clover_script.specs.Text.{tag_text, value_text};
 ghost use Rattle.clover_script.specs.Line.{IsActor, IsWritten};
-ghost use Rattle.clover_script.specs.Spelling.{value_with, IsValueText, SpellsCall, SpellsNoCall, SpellsTask, SpellsNoTask, SpellsAsked, SpellsNothingAsked};
+ghost use Rattle.clover_script.specs.Spelling.{IsKeyText, value_with, IsValueText, SpellsCall, SpellsNoCall, SpellsTask, SpellsNoTask, SpellsAsked, SpellsNothingAsked};
 
 use crate::coded::{decode_into, spelled_length};
 use crate::part::{actor_front, slot_of, tag_front};
-use crate::spelled::{CallText, TaskText, ValueText};
+use crate::spelled::{CallText, KeyText, LONGEST_KEY, TaskText, ValueText};
 use crate::split::{after_word, split_at_byte};
-use clover_map::Key;
-
-/// How many bytes a key may have.
-const LONGEST_KEY: usize = 250;
 
 /// How many bytes a value may have as it is written.
 const LONGEST_WRITTEN: usize = 65_535;
@@ -104,8 +100,8 @@ fn swap_of(text: &[u8]) -> Option<CallText>
 }
 
 /// The key that a text begins with, and the text behind the space after it.
-fn key_front(text: &[u8]) -> Option<(Key, &[u8])>
-    ensures found { IfSome result (λ p. IsKey p.0 × (text.now ≡ coded p.0 ++ 32 ∷ p.1.now)) }
+fn key_front(text: &[u8]) -> Option<(KeyText<'_>, &[u8])>
+    ensures found { IfSome result (λ p. (key : List ℕ) × IsKeyText p.0 key × (text.now ≡ coded key ++ 32 ∷ p.1.now)) }
     ensures none { IfNone result ((k : List ℕ) (rest : List ℕ) → IsKey k → text.now ≡ coded k ++ 32 ∷ rest → ⊥) }
 {
     let (word, rest) = split_at_byte(text, b' ')?;
@@ -114,19 +110,13 @@ fn key_front(text: &[u8]) -> Option<(Key, &[u8])>
 }
 
 /// The key of a coded text. None exactly where it is no key's.
-fn key_of(text: &[u8]) -> Option<Key>
-    ensures found { IfSome result (λ key. IsKey key × (text.now ≡ coded key)) }
+fn key_of(text: &[u8]) -> Option<KeyText<'_>>
+    ensures found { IfSome result (λ k. (key : List ℕ) × IsKeyText k key × (text.now ≡ coded key)) }
     ensures none { IfNone result ((k : List ℕ) → IsKey k → text.now ≡ coded k → ⊥) }
 {
-    let length = spelled_length(text)?;
-    if length > LONGEST_KEY {
-        return None;
-    }
-    let mut room = [0; LONGEST_KEY];
-    decode_into(text, &mut room[..length]);
-    match Key::of(&room[..length]) {
-        Ok(key) => Some(key),
-        Err(_) => None,
+    match spelled_length(text)? {
+        length @ 1..=LONGEST_KEY => Some(KeyText { text, length }),
+        _ => None,
     }
 }
 

@@ -1,11 +1,11 @@
-// The printed texts of calls, replies and entries, each built at the end of a list of bytes. Every
+// The printed texts of calls and replies, each built at the end of a list of bytes. Every
 // error here is want of memory, and then a front of the text may stand there.
 ghost use Rattle.std.specs.Prelude.{◌≡◌, ◌++◌, decimal, OnOk};
-ghost use Rattle.clover_script.specs.Text.{tag_text, value_text, reply_text, call_text, entry_line};
+ghost use Rattle.clover_script.specs.Text.{tag_text, value_text, reply_text, call_text};
 ghost use Rattle.clover_script.specs.Coded.{coded};
 
 use crate::coded::push_coded;
-use clover_map::{Call, Entry, Key, Reply, Value};
+use clover_map::{Call, Key, Reply, Value};
 use itoa::Buffer;
 use std::alloc::AllocError;
 
@@ -13,6 +13,11 @@ use std::alloc::AllocError;
 pub fn push_number(out: &mut Vec<u8>, number: u64) -> Result<(), AllocError>
     ensures ok { OnOk result (out.new.items ≡ out.old.items ++ decimal number) }
 {
+    // Most numbers that are printed have one digit.
+    if number < 10 {
+        out.push(b'0' + number as u8)?;
+        return Ok(());
+    }
     let mut buffer = Buffer::new();
     out.extend_from_slice(buffer.format(number).as_bytes())
 }
@@ -100,20 +105,4 @@ pub fn push_call(out: &mut Vec<u8>, call: &Call) -> Result<(), AllocError>
             push_value(out, value)
         }
     }
-}
-
-/// Puts the line of an entry of the history at the end, ended by LF: one that stands, of the first run.
-pub fn push_entry(out: &mut Vec<u8>, entry: &Entry) -> Result<(), AllocError>
-    ensures ok { OnOk result (out.new.items ≡ out.old.items ++ entry_line entry.now) }
-{
-    out.extend_from_slice(b"h 1 ")?;
-    push_number(out, u64::from(entry.client))?;
-    out.push(b' ')?;
-    push_number(out, entry.number)?;
-    out.push(b' ')?;
-    push_call(out, &entry.call)?;
-    out.push(b' ')?;
-    push_reply(out, &entry.reply)?;
-    out.push(b'\n')?;
-    Ok(())
 }

@@ -1,8 +1,8 @@
 // Printed texts.
 
 use crate::{
-    push_behind, push_busy, push_entry, push_hex, push_linked, push_none, push_number, push_reply,
-    push_tag, push_too_long, push_unreached, push_word,
+    RunEntry, push_behind, push_busy, push_entry, push_hex, push_linked, push_none, push_number,
+    push_reply, push_run_entry, push_tag, push_too_long, push_unreached, push_word,
 };
 use clover_map::{Bytes, Call, Entry, Key, Reply, Value};
 use clover_words::{Buffer, Side, Word};
@@ -203,5 +203,29 @@ fn prints_what_an_actor_is_told(rt: HostRuntime) -> Result<(), Fail> {
 9 none
 ";
     assert_eq!(rt; out.as_slice(), want.as_slice());
+    Ok(())
+}
+
+#[test]
+fn prints_an_entry_that_a_cut_took(rt: HostRuntime) -> Result<(), Fail> {
+    let mut out = Vec::new(rt.alloc());
+    let entry = RunEntry {
+        run: 3,
+        entry: Entry {
+            client: 2,
+            number: 1,
+            call: Call::Delete {
+                key: Key::of(b"a")?,
+            },
+            reply: Reply::Deleted { tag: 5 },
+        },
+        stands: false,
+        told: false,
+    };
+    push_run_entry(&mut out, &entry)?;
+    assert_eq!(rt;
+        out.as_slice(),
+        b"x 3 2 1 delete a deleted 0.0.5\n".as_slice()
+    );
     Ok(())
 }

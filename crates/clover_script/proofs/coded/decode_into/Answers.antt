@@ -1,7 +1,11 @@
 use Rattle.std.proofs.Common.{◌<◌, ◌++◌, ◌∷◌, [], ◌∙◌, List, ℕ, sym, ap, rules, arith, length, take, append_assoc}
 use Rattle.std.proofs.lemmas.List.{length-append, length-take-le, take_more_set}
-use Rattle.clover_script.proofs.CodedLemmas.{one_front, nowhere}
+use Rattle.clover_script.proofs.CodedLemmas.{one_front, nowhere, as_short}
 use Rattle.clover_script.proofs.coded.decode_into.Goals as goal
+
+pub returns-then-text-room : goal.returns-then-text-room
+returns-then-text-room c = λ bytes are e size.
+    c.copy_from_slice.ensures.after ∙ e ∙ as_short bytes (ap length (sym e) ∙ c.if-text-room.true ∙ sym size)
 
 pub returns-in_default : goal.returns-in_default
 returns-in_default c = λ bytes are e size.
