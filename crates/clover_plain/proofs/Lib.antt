@@ -2,6 +2,10 @@ pub mod Seating
 pub mod Trails
 pub mod Acting
 pub mod Stepping
+pub mod Showing
+pub mod Resting
+pub mod Cutting
+pub mod Reopening
 pub mod Standing
 pub mod Blanks
 pub mod Handing

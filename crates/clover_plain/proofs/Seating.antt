@@ -1,5 +1,5 @@
 -- The seats, and the views in them.
-use Rattle.std.proofs.Common.{◌≡◌, ◌≢◌, ℕ, zero, suc, ◌<◌, ◌≤◌, List, [], ◌∷◌, length, set, get_or, replicate, take, ◌++◌, ◌⊎◌, inl, inr, refl, sym, ap, ◌∙◌, ⊎_elim, arith}
+use Rattle.std.proofs.Common.{◌≡◌, ◌≢◌, ℕ, zero, suc, ◌+◌, ◌<◌, ◌≤◌, List, [], ◌∷◌, length, set, get_or, replicate, take, ◌++◌, ◌⊎◌, inl, inr, refl, sym, ap, ◌∙◌, ⊎_elim, arith}
 use Rattle.std.specs.Prelude.{Some}
 use mathlib.Core.Option.{some, some-injective}
 use lib.ListN.{get_elem?}
@@ -70,6 +70,15 @@ length_seats seats n v e = sym (length_views seats) ∙ ap length e ∙ length_c
     length_copies : (n : ℕ) (v : View) → length (replicate n v) ≡ n
     length_copies zero v = refl
     length_copies (suc n) v = ap suc (length_copies n v)
+
+pub length_more : (seats : List S) (s : S) → length (seats ++ s ∷ []) ≡ length seats + 1
+length_more [] s = refl
+length_more (x ∷ xs) s = let z = length_more xs s in omega arith
+
+-- the last of a list
+pub at_end : {A : Type 0} (xs : List A) (x : A) → nth (xs ++ x ∷ []) (length xs) ≡ Some x
+at_end [] x = refl
+at_end (y ∷ xs) x = at_end xs x
 
 -- a list with others behind it
 pub at_front : {A : Type 0} (xs ys : List A) (i : ℕ) (x : A) → nth xs i ≡ Some x → nth (xs ++ ys) i ≡ Some x

@@ -23,7 +23,7 @@ use Rattle.clover_rule.proofs.Telling.{told_at}
 use Rattle.clover_port.specs.Told.{Made}
 use Rattle.clover_plain.specs.Plain.{Plain, Running, Stepped, Refused, Leads, view_at, history, open_of, grown, access, first_of, role_at, used_of}
 use Rattle.clover_plain.proofs.Seating.{at_front, first_set, set_front, used_set}
-use Rattle.clover_plain.proofs.Trails.{leads_more, leads_refused}
+use Rattle.clover_plain.proofs.Trails.{story_refused, story_stepped, untraced_refused, untraced_stepped}
 
 pub nth_default : (vs : List View) (i : ℕ) (d : View) → i < length vs → nth vs i ≡ Some (get_or vs i d)
 nth_default [] i d h = absurd (omega arith)
@@ -34,12 +34,6 @@ pub default_nth : (vs : List View) (i : ℕ) (v d : View) → nth vs i ≡ Some 
 default_nth [] i v d e = absurd cc
 default_nth (x ∷ vs) zero v d e = cc
 default_nth (x ∷ vs) (suc i) v d e = default_nth vs i v d e
-
--- where the test is true, both are
-both : (s t : Bool) → (s && t) ≡ true → (s ≡ true) × (t ≡ true)
-both true true e = (refl, refl)
-both true false e = absurd cc
-both false t e = absurd cc
 
 -- the rule of alike words, views and histories
 pub rule_as : (p p1 : Pool) (f f1 : Tagged) (u u1 ws ws1 : List ℕ) (vs vs1 : List View) (h h1 : List Entry) → p1 ≡ p → f1 ≡ f → u1 ≡ u → ws1 ≡ ws → vs1 ≡ vs → h1 ≡ h → Rule p f u ws vs h → Rule p1 f1 u1 ws1 vs1 h1
@@ -87,28 +81,13 @@ module _ (a : Step) (b list : Bool) (seat x : ℕ) (p q : Plain) (r : Running p)
       (nth_set p.views seat i (next_view b a (history p) v x) u (ap (λ (l : List View). nth l i) (sym st.views) ∙ e)) ∙ ap (λ s. role_at s i) (sym st.same.setup)
 
   pub running : Running q
-  running =
-      let xs = r.story.0 in
-      let y : Access = access p.setup seat (act_of a x) false in
-      record {
-        rule = rule_now;
-        entered = subst (λ (l : List Entry). IsPrefix l (history q)) (sym st.same.entries) (subst (λ (h : List Entry). IsPrefix p.entries h) (sym longest_then) (prefix_trans p.entries (history p) _ r.entered (history_grows a (history p) v x)));
-        story = (
-          xs ++ y ∷ [],
-          subst (λ (n : Pool). Leads n q.start q.words q.made (xs ++ y ∷ [])) (ap (λ s. s.pool) (sym st.same.setup))
-              (subst (λ (l : List ℕ). Leads p.setup.pool l q.words q.made (xs ++ y ∷ [])) (sym st.same.start)
-              (leads_more p.setup.pool p.start p.words q.words p.made q.made xs y r.story.1 refl came words_then st.made)),
-          λ t w.
-              let s = both p.whole list (sym st.whole ∙ w) in
-              let d : p.traced ≡ true = sym st.same.traced ∙ t in
-              ap (λ (l : List Access). l ++ y ∷ []) (r.story.2 d s.0)
-              ∙ sym (ap (λ (z : Bool). grown (z && list) p.accesses y) d ∙ ap (λ (z : Bool). grown z p.accesses y) s.1) ∙ sym st.accesses,
-        );
-        untraced = λ t.
-            let d : p.traced ≡ false = sym st.same.traced ∙ t in
-            st.accesses ∙ ap (λ (z : Bool). grown (z && list) p.accesses y) d ∙ r.untraced d;
-        roles = roles_now;
-      }
+  running = record {
+    rule = rule_now;
+    entered = subst (λ (l : List Entry). IsPrefix l (history q)) (sym st.same.entries) (subst (λ (h : List Entry). IsPrefix p.entries h) (sym longest_then) (prefix_trans p.entries (history p) _ r.entered (history_grows a (history p) v x)));
+    story = story_stepped a b list seat x p q r.story came words_then st;
+    untraced = untraced_stepped a b list seat x p q r.untraced st;
+    roles = roles_now;
+  }
 
   view_then : view_at q seat ≡ next_view b a (history p) v x
   view_then = default_nth q.views seat _ nobody (ap (λ (l : List View). nth l seat) st.views ∙ set_here p.views seat _ v at)
@@ -132,25 +111,12 @@ first_kept vs us seat v b a h x at e =
 -- a refused step
 pub refused_running : (a : Act) (seat : ℕ) (p q : Plain) → Running p → Refused a seat p q → Running q
 refused_running a seat p q r st =
-    let y : Access = access p.setup seat a true in
     let all : q.views ++ q.absent ≡ p.views ++ p.absent = (λ k. st.views k ++ st.same.absent k) in
     let hist : history q ≡ history p = ap longest all in
     record {
       rule = rule_as p.setup.pool q.setup.pool p.first q.first p.used q.used p.words q.words (p.views ++ p.absent) (q.views ++ q.absent) (history p) (history q) (ap (λ s. s.pool) st.same.setup) st.same.first st.same.used st.words all hist r.rule;
       entered = subst (λ (l : List Entry). IsPrefix l (history q)) (sym st.same.entries) (subst (λ (h : List Entry). IsPrefix p.entries h) (sym hist) r.entered);
-      story = (
-        r.story.0 ++ y ∷ [],
-        subst (λ (n : Pool). Leads n q.start q.words q.made (r.story.0 ++ y ∷ [])) (ap (λ s. s.pool) (sym st.same.setup))
-            (subst (λ (l : List ℕ). Leads p.setup.pool l q.words q.made (r.story.0 ++ y ∷ [])) (sym st.same.start)
-            (subst (λ (l : List ℕ). Leads p.setup.pool p.start l q.made (r.story.0 ++ y ∷ [])) (sym st.words)
-            (subst (λ (n : ℕ). Leads p.setup.pool p.start p.words n (r.story.0 ++ y ∷ [])) (sym st.made)
-            (leads_refused p.setup.pool p.start p.words p.made r.story.0 y r.story.1 refl)))),
-        λ t w.
-            let d : p.traced ≡ true = sym st.same.traced ∙ t in
-            ap (λ (l : List Access). l ++ y ∷ []) (r.story.2 d (sym st.whole ∙ w)) ∙ sym (ap (λ (z : Bool). grown z p.accesses y) d) ∙ sym st.accesses,
-      );
-      untraced = λ t.
-          let d : p.traced ≡ false = sym st.same.traced ∙ t in
-          st.accesses ∙ ap (λ (z : Bool). grown z p.accesses y) d ∙ r.untraced d;
+      story = story_refused a seat p q r.story st;
+      untraced = untraced_refused a seat p q r.untraced st;
       roles = λ i u e. r.roles i u (ap (λ (l : List View). nth l i) (sym st.views) ∙ e) ∙ ap (λ s. role_at s i) (sym st.same.setup);
     }

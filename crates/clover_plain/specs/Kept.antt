@@ -1,5 +1,5 @@
 -- What a plain pool keeps.
-use Rattle.std.specs.Prelude.{◌≡◌, ℕ, ◌-◌, ◌<◌, ◌≤◌, List, map, length, vec_len, vec_capacity}
+use Rattle.std.specs.Prelude.{◌≡◌, ℕ, ◌+◌, ◌-◌, ◌<◌, ◌≤◌, List, map, length, vec_len, vec_capacity}
 use mathlib.Core.Option.{some}
 use lib.ListN.{get_elem?}
 use Rattle.atomic_table.specs.declared.shared.Seat.{Seat}
@@ -46,6 +46,8 @@ pub record IsKept (p : Inside) : Type 0 where
   pub stands : Stands p.opened (meaning p)
   pub sized : length p.words ≡ pool_words p.setup.pool
   pub seated : p.setup.clients ≤ length p.seats.items
+  -- there is room for the seats of the server and of restart
+  pub spare : p.setup.clients + 2 ≤ vec_capacity p.seats
   pub seats : AllFit p.knowing.shared.table_id p.seats.items
   pub one : 0 < p.knowing.shared.table_id.words
   pub beginning : (p.begun.table_id ≡ p.beginning.shared.table_id) × (0 < p.beginning.shared.table_id.words)

@@ -3,23 +3,28 @@ use Rattle.std.specs.Prelude.{◌≡◌, ℕ, ◌+◌, ◌-◌, ◌^◌, ◌≤�
 use Prim.Native.Nat.{zero, suc}
 use Rattle.std.specs.FinMap as finite
 use Rattle.atomic_table.specs.Seated.{TableId}
+use Rattle.clover_words.specs.Place.{durable_words}
 use Rattle.clover_words.specs.declared.pool.Pool.{Pool}
 use Rattle.clover_words.specs.declared.setup.Setup.{Setup}
 use Rattle.clover_map.specs.declared.call.Entry.{Entry}
 use Rattle.clover_map.specs.Tagged.{Tagged}
 use Rattle.clover_rule.specs.Accesses.{Replays, done, words_after_act}
+use Rattle.clover_rule.specs.Cut.{Rests, image_of}
 use Rattle.clover_rule.specs.Lists.{nth, IsPrefix}
+use Rattle.clover_rule.specs.Restart.{plan, rested_words, words_after_stores}
 use Rattle.clover_rule.specs.Rule.{Rule, longest}
 use Rattle.clover_rule.specs.Learned.{words_after_step, next_view, found}
 use Rattle.clover_rule.specs.Steps.{Step, act_of}
 use Rattle.clover_rule.specs.Moves.{nobody}
+use Rattle.clover_rule.specs.Told.{Facts}
 use Rattle.clover_rule.specs.Views.{alone, no_server, start_pass}
 use Rattle.clover_rule.specs.declared.access.Access.{Access}
 use Rattle.clover_rule.specs.declared.access.Act.{Act}
 use Rattle.clover_rule.specs.declared.access.Actor.{Actor}
 use Rattle.clover_rule.specs.declared.access.Actor.TheVariants.{Client, Server, Restart}
+use Rattle.clover_rule.specs.declared.view.RestartStore.{RestartStore}
 use Rattle.clover_rule.specs.declared.view.Role.{Role}
-use Rattle.clover_rule.specs.declared.view.Role.TheVariants.{Client as ClientRole, Serving}
+use Rattle.clover_rule.specs.declared.view.Role.TheVariants.{Client as ClientRole, Restarting, Serving}
 use Rattle.clover_rule.specs.declared.view.View.{View}
 use Rattle.std.specs.Prelude.{Some}
 use Rattle.clover_words.specs.declared.word.Word.{Word}
@@ -32,10 +37,10 @@ use Rattle.clover_port.specs.declared.op.Op.TheVariants.{Load as ToLoad, Store a
 -- what contracts see of a plain pool
 pub record Plain : Type 0 where
   pub setup : Setup
-  -- the map and the used tags with which the run began
+  -- the map and the used tags with which the run began, or with which the next one begins
   pub first : Tagged
   pub used : List ℕ
-  -- the words with which it began, and the present words
+  -- the words with which it began or that the last cut left, and the present words
   pub start : List ℕ
   pub words : List ℕ
   -- what each actor knows, by its seat, and the views that no actor's seat holds
@@ -100,17 +105,27 @@ after_acts p ws (a ∷ as1) = after_acts p (words_after_act p ws a) as1
 abbrev pub counted : ℕ → ℕ
 counted n = min n (2 ^ 64 - 1)
 
--- These accesses replay from the first words and lead to the other ones, and so many of them were not refused.
-pub record Leads (p : Pool) (start words : List ℕ) (made : ℕ) (xs : List Access) : Type 0 where
-  pub replays : Replays p start xs
-  pub ends : after_acts p start (done xs) ≡ words
-  pub count : made ≡ counted (length (done xs))
+-- The later accesses replay from the first words and lead to the other ones, and so many of all were not refused.
+pub record Leads (p : Pool) (start words : List ℕ) (made : ℕ) (earlier since : List Access) : Type 0 where
+  pub replays : Replays p start since
+  pub ends : after_acts p start (done since) ≡ words
+  pub count : made ≡ counted (length (done (earlier ++ since)))
 
--- The seat of an actor: the clients come first, in the order of their numbers, and behind them the server, which a preset pool has not. Restart has none yet.
+-- The seat of an actor: the clients come first, in the order of their numbers, and behind them the server, which a preset pool has not. Restart's is the last one, while the pool is down.
 abbrev pub HasSeat : Plain → Actor → ℕ → Type 0
 HasSeat p (Client n) seat = (1 ≤ n) × (n ≤ p.setup.clients) × (suc seat ≡ n)
 HasSeat p Server seat = (seat ≡ p.setup.clients) × (seat < length p.views)
-HasSeat p Restart seat = ⊥
+HasSeat p Restart seat = (seat ≡ suc p.setup.clients) × (seat < length p.views)
+
+-- Restart steps while the pool is down, and every other actor while it runs.
+abbrev pub HasTurn : Plain → Actor → Type 0
+HasTurn p (Client n) = p.opened ≡ true
+HasTurn p Server = p.opened ≡ true
+HasTurn p Restart = p.opened ≡ false
+
+-- the same of the actor of a seat
+abbrev pub IsTurn : Plain → ℕ → Type 0
+IsTurn p seat = p.opened ≡ false → seat ≡ suc p.setup.clients
 
 -- the actor has a seat
 abbrev pub IsActor : Plain → Actor → Type 0
@@ -118,9 +133,9 @@ IsActor p a = (seat : ℕ) × HasSeat p a seat
 
 -- the actor of a seat
 abbrev pub actor_at : Setup → ℕ → Actor
-actor_at s seat = if nat_lt seat s.clients then Client (suc seat) else Server
+actor_at s seat = if nat_lt seat s.clients then Client (suc seat) else if nat_lt s.clients seat then Restart else Server
 
--- the role of what the actor of a seat knows
+-- the role of what the actor of a seat knows, a client or the server
 abbrev pub role_at : Setup → ℕ → Role
 role_at s seat = if nat_lt seat s.clients then ClientRole (suc seat) else Serving
 
@@ -128,24 +143,56 @@ role_at s seat = if nat_lt seat s.clients then ClientRole (suc seat) else Servin
 abbrev pub HasRole : Actor → View → Type 0
 HasRole (Client n) v = v.pass.role ≡ ClientRole n
 HasRole Server v = v.pass.role ≡ Serving
-HasRole Restart v = ⊥
+HasRole Restart v = v.pass.role ≡ Restarting
+
+-- There is a list of all accesses, before the last cut and since, and it is the listed one where each port made one access at most.
+abbrev pub HasStory : Plain → Type 0
+HasStory p = (earlier since : List Access) × Leads p.setup.pool p.start p.words p.made earlier since × (p.traced ≡ true → p.whole ≡ true → earlier ++ since ≡ p.accesses)
 
 -- Between any two steps of a pool that runs.
 pub record Running (p : Plain) : Type 0 where
   pub rule : Rule p.setup.pool p.first p.used p.words (p.views ++ p.absent) (history p)
   -- the entries that were entered begin the history
   pub entered : IsPrefix p.entries (history p)
-  -- there is a list of all accesses, and it is the listed one where each port made one access at most
-  pub story : (xs : List Access) × Leads p.setup.pool p.start p.words p.made xs × (p.traced ≡ true → p.whole ≡ true → xs ≡ p.accesses)
+  pub story : HasStory p
   -- without a trace nothing is listed
   pub untraced : p.traced ≡ false → p.accesses ≡ []
   -- each seat has its actor's role
   pub roles : (i : ℕ) (v : View) → nth p.views i ≡ Some v → v.pass.role ≡ role_at p.setup i
 
--- what holds of a pool that runs; none is at rest yet
+-- what a client or the server knows while the pool is down: how the next run begins, and nothing else
+abbrev pub resting_view : Plain → ℕ → View
+resting_view p seat = alone (start_pass p.setup.pool p.first p.used (role_at p.setup seat))
+
+-- what restart knows
+abbrev pub restart_view : Plain → View
+restart_view p = view_at p (suc p.setup.clients)
+
+-- Between any two stores of restart, once the pool has lost its power.
+pub record IsDown (p : Plain) : Type 0 where
+  -- the image that the cut left rests, with the map and the used tags of the next run
+  pub image : List ℕ
+  pub sized : length image ≡ durable_words p.setup.pool
+  pub rests : Rests p.setup.pool image p.first p.used
+  pub start : p.start ≡ rested_words p.setup.pool image
+  -- these stores of the image's plan were made, and restart has the others still to make
+  pub stored : List RestartStore
+  pub plan : plan p.setup.pool (image_of p.setup.pool image) rests.sound.reads ≡ stored ++ (restart_view p).plan
+  pub words : p.words ≡ words_after_stores p.setup.pool p.start stored
+  -- each actor has a seat, and nobody knows more than how the next run begins
+  pub seats : length p.views ≡ p.setup.clients + 2
+  pub renewed : (i : ℕ) → i ≤ p.setup.clients → view_at p i ≡ resting_view p i
+  pub restart : (restart_view p).pass.role ≡ Restarting
+  pub facts : Facts p.setup.pool (restart_view p) []
+  pub absent : p.absent ≡ []
+  pub entries : p.entries ≡ []
+  pub story : HasStory p
+  pub untraced : p.traced ≡ false → p.accesses ≡ []
+
+-- what holds of a pool that runs, or is down
 abbrev pub Stands : Bool → Plain → Type 0
 Stands true p = Running p
-Stands false p = ⊥
+Stands false p = IsDown p
 
 -- A run that has begun from a map with nothing and no used tag, and in which nothing has happened.
 pub record IsFresh (p : Plain) : Type 0 where

@@ -1,14 +1,17 @@
 // The pool: its words, the seats of its actors, the entries and the accesses that were made.
-ghost use Rattle.std.specs.Prelude.{◌≡◌, ◌≤◌, ◌<◌, ◌+◌, ◌++◌, ℕ, List, [], ◌∷◌, length, Some, true, false, IfOk, OnOk, replicate};
-ghost use Rattle.clover_words.specs.Place.{pool_words};
-ghost use Rattle.clover_plain.specs.Plain.{HasRoom, IsFresh, Kept, KeptButEntries, Leads, Running, first_view, history, IsActor, HasSeat, HasRole, view_at};
+ghost use Rattle.std.specs.Prelude.{◌≡◌, ◌≤◌, ◌<◌, ◌+◌, ◌++◌, ℕ, List, [], ◌∷◌, length, Some, true, false, IfNone, IfOk, IfSome, OnOk, replicate, vec_capacity};
+ghost use Rattle.clover_words.specs.Place.{HasSide, IsWithin, copy_in, pool_words};
+ghost use Rattle.clover_words.specs.declared.word.Side.TheVariants.{Flushed};
+ghost use Rattle.clover_plain.specs.Plain.{HasRoom, HasTurn, IsDown, IsFresh, Kept, KeptButEntries, Leads, Running, first_view, history, IsActor, HasSeat, HasRole, view_at};
 ghost use Rattle.clover_rule.specs.Lists.{IsPrefix, nth};
 ghost use Rattle.clover_rule.specs.Moves.{nobody};
 ghost use Rattle.clover_rule.specs.declared.access.Access.{Access};
 ghost use Rattle.clover_rule.specs.declared.view.View.{View};
 ghost use Rattle.clover_plain.specs.Kept.{AllFit, views_of};
 
+mod cut;
 mod hand;
+mod open;
 mod preset;
 mod steps;
 #[cfg(test)]
@@ -21,7 +24,7 @@ use atomic_table::{Seat, Table};
 use clover_list::OutOfMemory;
 use clover_map::Entry;
 use clover_rule::{Access, Actor, View};
-use clover_words::Setup;
+use clover_words::{Setup, Side, Word};
 use std::alloc::Global;
 use std::marker::{Brand, Model};
 
@@ -70,7 +73,7 @@ impl Model for PlainPool {
     ghost invariant = { IsKept };
 }
 
-// So many seats, of which nothing is known yet.
+// So many seats, of which nothing is known yet, and room for one more.
 fn seats_of(
     alloc: Global,
     knowing: &Knowing,
@@ -80,9 +83,10 @@ fn seats_of(
     requires first { (first.table_id ≡ knowing.now.shared.table_id) × (first.me.0 ≡ nobody) }
     requires one { (0 < knowing.now.shared.table_id.words) × (1 ≤ count) }
     ensures seats { IfOk result (λ seats. AllFit knowing.now.shared.table_id seats.items × (views_of seats.items ≡ replicate count nobody)) }
+    ensures spare { IfOk result (λ seats. count + 1 ≤ vec_capacity seats) }
 {
     let mut seats = Vec::new(alloc);
-    seats.reserve(count as usize)?;
+    seats.reserve(count as usize + 1)?;
     seats.push(first)?;
     for _ in 1..count {
         let (_, seat) = knowing.shared.load_new_seat::<Becomes<Brand>>(0);
@@ -142,7 +146,7 @@ impl PlainPool {
     ///
     /// A port makes and counts further accesses too, but lists the first one alone.
     pub fn port(&mut self, actor: Actor, refuse: bool) -> PlainPort<'_>
-        requires opened { self.old.opened ≡ true }
+        requires opened { HasTurn self.old actor }
         requires actor { IsActor self.old actor }
         requires room { HasRoom self.old }
         requires entered { self.old.entries ≡ history self.old }
@@ -170,7 +174,7 @@ impl PlainPool {
         match actor {
             Actor::Client(number) => number as usize - 1,
             Actor::Server => self.setup.clients as usize,
-            Actor::Restart => unreachable!(),
+            Actor::Restart => self.setup.clients as usize + 1,
         }
     }
 
@@ -204,27 +208,39 @@ impl PlainPool {
     }
 
     /// The accesses, in order, refused ones among them; none without a trace. Where no port made a second access, they
-    /// are all accesses since the run began.
+    /// are all accesses, and those since the last power cut lead from the words that it left to the present ones.
     pub fn accesses(&self) -> &[Access]
         ensures value { result.now ≡ self.now.accesses }
-        ensures replay { self.now.opened ≡ true → self.now.traced ≡ true → self.now.whole ≡ true → Leads self.now.setup.pool self.now.start self.now.words self.now.made self.now.accesses }
+        ensures replay { self.now.traced ≡ true → self.now.whole ≡ true → (earlier since : List Access) × (earlier ++ since ≡ self.now.accesses) × Leads self.now.setup.pool self.now.start self.now.words self.now.made earlier since }
         ensures untraced { self.now.traced ≡ false → self.now.accesses ≡ [] }
     {
         self.trace.as_slice()
     }
 
+    /// What a copy of a durable word says. `None` exactly where the word is no durable word of the pool: shortcuts and
+    /// the count are none.
+    pub fn durable(&self, word: Word, side: Side) -> Option<u64>
+        ensures some { IfSome result (λ number. IsWithin self.now.setup.pool word × HasSide word Flushed × (number ≡ copy_in self.now.setup.pool self.now.words word side)) }
+        ensures none { IfNone result (IsWithin self.now.setup.pool word → HasSide word Flushed → ⊥) }
+    {
+        self.setup.pool.address(word, Side::Flushed)?;
+        let at = self.setup.pool.address(word, side)?;
+        Some(self.words.get(at as usize))
+    }
+
     /// How many accesses were made and not refused, 2^64 - 1 also where there were more.
     pub fn made(&self) -> u64
         ensures value { result ≡ self.now.made }
-        ensures counted { self.now.opened ≡ true → (all : List Access) × Leads self.now.setup.pool self.now.start self.now.words result all }
+        ensures counted { (earlier since : List Access) × Leads self.now.setup.pool self.now.start self.now.words result earlier since }
     {
         self.made
     }
 
-    /// What holds of a pool that runs between any two accesses, the rule above all. This is for proofs, and does
-    /// nothing.
+    /// What holds of a pool between any two accesses: the rule above all of one that runs, and how far restart has come
+    /// of one that is down. This is for proofs, and does nothing.
     pub fn stands(&self)
         ensures running { self.now.opened ≡ true → Running self.now }
+        ensures down { self.now.opened ≡ false → IsDown self.now }
     {
         let _ = &self.setup;
     }

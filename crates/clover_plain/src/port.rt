@@ -1,7 +1,7 @@
 // An actor's port: each access is made at once, by a step of the pool, or refused.
 ghost use Rattle.std.specs.Prelude.{◌≡◌, ◌≤◌, ◌<◌, ◌&&◌, true, false, length};
 ghost use Rattle.clover_port.specs.Told.{Rose};
-ghost use Rattle.clover_plain.specs.Plain.{Refused};
+ghost use Rattle.clover_plain.specs.Plain.{IsTurn, Refused};
 
 use crate::pool::PlainPool;
 use crate::words::act_of;
@@ -23,7 +23,7 @@ pub struct PlainPort<'a> {
     /// How many accesses were refused.
     pub faults: u64,
     pub ghost seated: { seat < length pool.now.views },
-    pub ghost opened: { pool.now.opened ≡ true },
+    pub ghost turn: { IsTurn pool.now seat },
     pub ghost room: { (pool.now.traced && list) ≡ true → 1 ≤ pool.now.access_room },
     pub ghost first: { refuse ≡ true → list ≡ true },
 }

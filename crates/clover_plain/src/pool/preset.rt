@@ -1,7 +1,7 @@
 // The preset pool: as long as no metadata server hands out space, the first slots are bound as the run begins, and
 // every other buffer that holds no tombstone is dealt to a client. This writes the words and gives each client's seat
 // what it knows then.
-ghost use Rattle.std.specs.Prelude.{◌≡◌, ◌≤◌, ◌<◌, ℕ, List, [], ◌∷◌, length, true, false, Some};
+ghost use Rattle.std.specs.Prelude.{◌≡◌, ◌≤◌, ◌<◌, ℕ, List, [], ◌∷◌, length, true, false, Some, vec_capacity};
 ghost use Rattle.clover_words.specs.Place.{IsWithin, pool_words};
 ghost use Rattle.clover_words.specs.Pack.{packed};
 ghost use Rattle.clover_words.specs.Preset.{buffers_total};
@@ -164,6 +164,7 @@ fn deal_views(setup: &Setup, knowing: &Knowing, seats: &mut Vec<Seat<(), View>>,
     ensures views { (i : ℕ) (v : View) → nth (views_of seats.new.items) i ≡ Some v → v ≡ start_view setup.now keys.now i }
     ensures fits { AllFit knowing.now.shared.table_id seats.new.items }
     ensures length { length seats.new.items ≡ length seats.old.items }
+    ensures room { vec_capacity seats.new ≡ vec_capacity seats.old }
 {
     for seat in 0..seats.len() {
         deal_view::<Brand>(setup, knowing, seats, seat, keys);

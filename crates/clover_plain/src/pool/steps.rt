@@ -4,7 +4,7 @@ ghost use Rattle.std.specs.Prelude.{◌≡◌, ◌≤◌, ◌<◌, ◌+◌, ◌-
 ghost use Rattle.clover_rule.specs.Asks.{Asks};
 ghost use Rattle.clover_port.specs.Asked.{IsOp};
 ghost use Rattle.clover_port.specs.Told.{Made};
-ghost use Rattle.clover_plain.specs.Plain.{Stepped, Refused, view_at, open_of, counted};
+ghost use Rattle.clover_plain.specs.Plain.{IsTurn, Stepped, Refused, view_at, open_of, counted};
 
 use crate::pool::PlainPool;
 use crate::seats::{actor_of, set_view};
@@ -18,7 +18,7 @@ impl PlainPool {
     /// The access is made, as the step that M names. It gives the number that stood there.
     pub(crate) fn access<M: StepName>(&mut self, seat: usize, list: bool, op: Op) -> u64
         requires seat { seat < length self.old.views }
-        requires opened { self.old.opened ≡ true }
+        requires turn { IsTurn self.old seat }
         requires room { (self.old.traced && list) ≡ true → 1 ≤ self.old.access_room }
         requires step { IsOp M.step op }
         requires rule { Asks self.old.setup.pool M.step (view_at self.old seat) }
@@ -45,7 +45,6 @@ impl PlainPool {
     /// The access is refused: it is listed, and changes nothing else.
     pub(crate) fn refuse(&mut self, seat: usize, act: Act)
         requires seat { seat < length self.old.views }
-        requires opened { self.old.opened ≡ true }
         requires room { self.old.traced ≡ true → 1 ≤ self.old.access_room }
         ensures { Refused act seat self.old self.new }
     {

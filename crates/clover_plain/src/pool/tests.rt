@@ -1,6 +1,7 @@
 // A small preset pool, its words worked out by hand, and the accesses of a client to it. A small pool as its run
 // begins: the server begins a binding and hands a buffer over, and the client writes there.
-ghost use Rattle.std.specs.Prelude.{◌≡◌, ◌≤◌, ◌<◌, length, true, OnOk, IfOk};
+ghost use Rattle.std.specs.Prelude.{◌≡◌, ◌≤◌, ◌<◌, length, replicate, true, OnOk, IfOk};
+ghost use Rattle.clover_words.specs.Place.{pool_words};
 ghost use Rattle.clover_alloc.specs.Ledger.{IsLedger, new_ledger};
 ghost use Rattle.clover_plain.specs.Plain.{first_view, history, view_at};
 
@@ -140,6 +141,38 @@ fn hand_and_write(pool: &mut PlainPool, books: &mut Books) -> Result<bool, OutOf
     let mut port = pool.port(Actor::Client(1), false);
     let word = Word::Meta(Buffer { node: 0, index: 0 });
     Ok(port.store::<Brand>(word, Side::Current, 7).is_ok())
+}
+
+// The pool, whose words are all 0, loses its power; restart then has a port.
+fn lose_power(pool: &mut PlainPool) -> Result<u64, OutOfMemory>
+    requires blank { pool.old.words ≡ replicate (pool_words pool.old.setup.pool) 0 }
+    requires small { (pool.old.setup.pool.nodes ≡ 1) × (pool.old.setup.pool.buffers ≡ 2) × (pool.old.setup.pool.slots ≡ 1) × (pool.old.setup.pool.words ≡ 1) }
+{
+    pool.power_cut(&[0; 39]);
+    pool.reserve()?;
+    let port = pool.port(Actor::Restart, false);
+    Ok(port.seat as u64)
+}
+
+// A new pool, with two buffers of one value word.
+fn new_pool(alloc: Global) -> Result<PlainPool, Fail>
+    ensures blank { IfOk result (λ pool. pool.words ≡ replicate (pool_words pool.setup.pool) 0) }
+    ensures small { IfOk result (λ pool. (pool.setup.pool.nodes ≡ 1) × (pool.setup.pool.buffers ≡ 2) × (pool.setup.pool.slots ≡ 1) × (pool.setup.pool.words ≡ 1)) }
+{
+    let shape = Pool::check(1, 2, 1, 1, 9)?;
+    let setup = Setup::check(shape, 1, 1)?;
+    Ok(PlainPool::make(alloc, setup, true)?)
+}
+
+#[test]
+fn restart_has_the_last_seat_behind_a_cut(rt: HostRuntime) -> Result<(), Fail> {
+    let mut pool = new_pool(rt.alloc())?;
+    assert_eq!(rt; lose_power(&mut pool)?, 2);
+    assert_eq!(rt; pool.durable(Word::Root(0), Side::Flushed), Some(0));
+    assert_eq!(rt; pool.durable(Word::Count, Side::Current), None);
+    assert_eq!(rt; pool.durable(Word::Root(1), Side::Current), None);
+    assert_eq!(rt; pool.made(), 0);
+    Ok(())
 }
 
 #[test]

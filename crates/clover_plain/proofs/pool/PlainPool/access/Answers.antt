@@ -13,10 +13,11 @@ use Rattle.clover_rule.specs.declared.access.Act.{Act}
 use Rattle.clover_port.specs.Asked.{act_by}
 use Rattle.clover_port.specs.Told.{Made}
 use Rattle.clover_plain.specs.Kept.{meaning}
-use Rattle.clover_plain.specs.Plain.{op_word, op_side, Plain, Running, Stands, Stepped, grown, history, open_of, view_at}
+use Rattle.clover_plain.specs.Plain.{op_word, op_side, IsTurn, Plain, Stepped, grown, history, open_of, view_at}
 use Rattle.clover_rule.proofs.Acting.{act_word, act_side, words_as, found_as, within_as}
 use Rattle.clover_plain.proofs.Acting.{access_as, op_place}
-use Rattle.clover_plain.proofs.Stepping.{first_kept, running, made, nth_default}
+use Rattle.clover_plain.proofs.Resting.{made_stepped, stands_stepped}
+use Rattle.clover_plain.proofs.Stepping.{first_kept, nth_default}
 use Rattle.clover_plain.proofs.pool.PlainPool.access.Goals as goal
 use Rattle.clover_plain.proofs.pool.PlainPool.access.Goals.{After-note}
 
@@ -37,11 +38,8 @@ before g c = meaning c.self.inside
 abbrev then : (g : _) → After-note g → Plain
 then g c = meaning record { setup = c.self.inside.setup; words = c.apply-found.new.words; seats = c.set_view.new.seats; knowing = c.self.inside.knowing; begun = c.self.inside.begun; beginning = c.self.inside.beginning; entries = c.self.inside.entries; traced = c.self.inside.traced; trace = c.note.new.trace; made = c.saturating_add-self-inside.result; opened = c.self.inside.opened; whole = c.self.inside.whole && c.args.list }
 
-opened_before : (g : _) (c : After-note g) → c.self.inside.opened ≡ true
-opened_before g c = ap (λ (p : Plain). p.opened) c.self.view_is ∙ c.requires.opened
-
-running_before : (g : _) (c : After-note g) → Running (before g c)
-running_before g c = subst (λ (b : Bool). Stands b (before g c)) (opened_before g c) c.self.invariant.stands
+turn : (g : _) (c : After-note g) → IsTurn (before g c) c.args.seat
+turn g c = subst (λ (p : Plain). IsTurn p c.args.seat) (sym c.self.view_is) c.requires.turn
 
 asks : (g : _) (c : After-note g) → Asks (inside_pool g c) (step g c) (view_at (before g c) c.args.seat)
 asks g c = subst (λ (p : Plain). Asks p.setup.pool (step g c) (view_at p c.args.seat)) (sym c.self.view_is) c.requires.rule
@@ -80,9 +78,10 @@ apply-found-requires-clause-within g c =
 
 pub invariant_of-self : goal.invariant_of-self
 invariant_of-self g c = record {
-  stands = subst (λ (b : Bool). Stands b (then g c)) (sym (opened_before g c)) (running (step g c) g.M.StepName.first c.args.list c.args.seat c.apply-found.result (before g c) (then g c) (running_before g c) (below g c) (asks g c) (stepped g c));
+  stands = stands_stepped c.self.inside.opened (step g c) g.M.StepName.first c.args.list c.args.seat c.apply-found.result (before g c) (then g c) c.self.invariant.stands (turn g c) (below g c) (asks g c) (stepped g c);
   sized = ap length (words_are g c) ∙ length-set _ _ _ ∙ c.self.invariant.sized;
   seated = let y = c.set_view.ensures.length in let z = c.self.invariant.seated in omega arith;
+  spare = let y = c.set_view.ensures.room in let z = c.self.invariant.spare in omega arith;
   seats = c.set_view.ensures.fits;
   one = c.self.invariant.one;
   beginning = c.self.invariant.beginning;
@@ -93,4 +92,4 @@ returns-clause-step g c = subst (λ (p : Plain). Stepped (step g c) g.M.StepName
 
 pub returns-clause-made : goal.returns-clause-made
 returns-clause-made g c = subst (λ (p : Plain). Made p.setup.pool (step g c) g.M.StepName.first (view_at p c.args.seat) (Some (open_of p)) c.apply-found.result (view_at (then g c) c.args.seat) (Some (open_of (then g c)))) c.self.view_is
-    (made (step g c) g.M.StepName.first c.args.list c.args.seat c.apply-found.result (before g c) (then g c) (running_before g c) (below g c) (asks g c) (stepped g c))
+    (made_stepped c.self.inside.opened (step g c) g.M.StepName.first c.args.list c.args.seat c.apply-found.result (before g c) (then g c) c.self.invariant.stands (turn g c) (below g c) (asks g c) (stepped g c))

@@ -14,6 +14,7 @@ invariant_of-self c =
           (record { rule = r.rule; entered = ([], e ∙ sym n ∙ sym (append-nil c.push.new.self.items)); story = r.story; untraced = r.untraced; roles = r.roles });
       sized = c.self.invariant.sized;
       seated = c.self.invariant.seated;
+      spare = c.self.invariant.spare;
       seats = c.self.invariant.seats;
       one = c.self.invariant.one;
       beginning = c.self.invariant.beginning;

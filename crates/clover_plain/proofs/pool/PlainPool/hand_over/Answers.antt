@@ -70,6 +70,7 @@ invariant_of-self c = record {
   stands = subst (λ (b : Bool). Stands b (then c)) (sym (opened_before c)) (running_then c);
   sized = c.self.invariant.sized;
   seated = let x = c.hand_view-2.ensures.length in let y = c.hand_view.ensures.length in let z = c.self.invariant.seated in omega arith;
+  spare = let x = c.hand_view-2.ensures.room in let y = c.hand_view.ensures.room in let z = c.self.invariant.spare in omega arith;
   seats = c.hand_view-2.ensures.fits;
   one = c.self.invariant.one;
   beginning = c.self.invariant.beginning;

@@ -25,7 +25,7 @@ seats : (c : After-new-2) → length (made c).views ≡ c.args.setup.clients + 1
 seats c = length_views c.open_views.new.seats.items ∙ seated c
 
 absent : (c : After-new-2) → (made c).absent ≡ []
-absent c = c.begin.ensures.views ∙ ap (λ m. m.0.views) c.in_ok-beginning.ensures.4
+absent c = c.begin.ensures.views
 
 all : (c : After-new-2) → (made c).views ++ (made c).absent ≡ (made c).views
 all c = ap (λ (l : List View). (made c).views ++ l) (absent c) ∙ append-nil (made c).views
@@ -61,7 +61,7 @@ running c = record {
   rule = rule_as _ _ finite.empty (made c).first [] (made c).used _ _ (made c).views _ [] (history (made c)) refl (first c) (used c) refl (all c) (no_history c)
       (opened_rule c.args.setup c.in_ok-words.words (words_are c) (made c).views (seats c) c.open_views.ensures.views);
   entered = subst (λ (l : List Entry). IsPrefix l (history (made c))) (sym c.new.ensures.items) (history (made c), refl);
-  story = ([], record { replays = tt; ends = c.begin.ensures.words; count = refl }, λ t w. sym c.new-2.ensures.items);
+  story = ([], [], record { replays = tt; ends = c.begin.ensures.words; count = refl }, λ t w. sym c.new-2.ensures.items);
   untraced = λ t. c.new-2.ensures.items;
   roles = λ i v e. ap (λ (u : View). u.pass.role) (c.open_views.ensures.views i v e);
 }
@@ -71,6 +71,7 @@ invariant_of-result c = record {
   stands = running c;
   sized = ap length (words_are c) ∙ length-replicate _ _;
   seated = let z = seated c in omega arith;
+  spare = let x = c.open_views.ensures.room in let y = c.in_ok-seats.ensures.spare in omega arith;
   seats = c.open_views.ensures.fits;
   one = let e = c.in_ok-knowing.ensures.0 in omega arith;
   beginning = (c.begin.ensures.fits, let e = c.in_ok-beginning.ensures.0 in omega arith);

@@ -42,7 +42,7 @@ rule : (c : After-begin) → Rule c.self.inside.setup.pool finite.empty [] c.fil
 rule c = preset_rule c.self.inside.setup c.args.keys.now c.fill.new.words (c.fill.ensures.sized ∙ c.self.invariant.sized) c.fill.ensures.words (slots c) (buffers c) c.are_keys.ensures c.requires.distinct (then c).views (seats_are c) c.deal_views.ensures.views
 
 absent : (c : After-begin) → (then c).absent ≡ []
-absent c = c.begin.ensures.views ∙ (blank c).absent
+absent c = c.begin.ensures.views
 
 all : (c : After-begin) → (then c).views ++ (then c).absent ≡ (then c).views
 all c = ap (λ (l : List View). (then c).views ++ l) (absent c) ∙ append-nil (then c).views
@@ -74,7 +74,7 @@ running : (c : After-begin) → Running (then c)
 running c = record {
   rule = rule_as _ _ finite.empty (then c).first [] (then c).used _ _ (then c).views _ [] (history (then c)) refl (first c) (used c) refl (all c) (no_history c) (rule c);
   entered = subst (λ (l : List Entry). IsPrefix l (history (then c))) (sym (blank c).entries) (history (then c), refl);
-  story = ([], record { replays = tt; ends = c.begin.ensures.words; count = (blank c).made }, λ t w. sym (blank c).accesses);
+  story = ([], [], record { replays = tt; ends = c.begin.ensures.words; count = (blank c).made }, λ t w. sym (blank c).accesses);
   untraced = λ t. (blank c).accesses;
   roles = λ i v e. ap (λ (u : View). u.pass.role) (c.deal_views.ensures.views i v e) ∙ sym (client_role c.self.inside.setup i (let z = nth_within (then c).views i v e in let y = seats_are c in omega arith));
 }
@@ -87,6 +87,7 @@ invariant_of-self c = record {
   stands = subst (λ (b : Bool). Stands b (then c)) (sym (blank c).opened) (running c);
   sized = c.fill.ensures.sized ∙ c.self.invariant.sized;
   seated = let z = seated c in omega arith;
+  spare = let x = c.deal_views.ensures.room in let y = c.truncate.ensures.capacity in let z = c.self.invariant.spare in omega arith;
   seats = c.deal_views.ensures.fits;
   one = c.self.invariant.one;
   beginning = (c.begin.ensures.fits, c.self.invariant.beginning.1);

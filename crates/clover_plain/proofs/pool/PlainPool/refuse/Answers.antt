@@ -1,8 +1,8 @@
-use Rattle.std.proofs.Common.{◌≡◌, Bool, true, refl, sym, ap, ◌∙◌, subst}
+use Rattle.std.proofs.Common.{refl, true, ap, ◌∙◌}
 use Rattle.clover_rule.specs.declared.access.Actor.{Actor}
 use Rattle.clover_plain.specs.Kept.{meaning}
-use Rattle.clover_plain.specs.Plain.{Plain, Stands, Refused, grown}
-use Rattle.clover_plain.proofs.Stepping.{refused_running}
+use Rattle.clover_plain.specs.Plain.{Plain, Refused, grown}
+use Rattle.clover_plain.proofs.Resting.{stands_refused}
 use Rattle.clover_plain.proofs.pool.PlainPool.refuse.Goals as goal
 use Rattle.clover_plain.proofs.pool.PlainPool.refuse.Goals.{After-note}
 
@@ -12,9 +12,6 @@ before c = meaning c.self.inside
 
 abbrev then : After-note → Plain
 then c = meaning record { setup = c.self.inside.setup; words = c.self.inside.words; seats = c.self.inside.seats; knowing = c.self.inside.knowing; begun = c.self.inside.begun; beginning = c.self.inside.beginning; entries = c.self.inside.entries; traced = c.self.inside.traced; trace = c.note.new.trace; made = c.self.inside.made; opened = c.self.inside.opened; whole = c.self.inside.whole }
-
-opened_before : (c : After-note) → c.self.inside.opened ≡ true
-opened_before c = ap (λ (p : Plain). p.opened) c.self.view_is ∙ c.requires.opened
 
 refused : (c : After-note) → Refused c.args.act c.args.seat (before c) (then c)
 refused c = record {
@@ -28,9 +25,10 @@ refused c = record {
 
 pub invariant_of-self : goal.invariant_of-self
 invariant_of-self c = record {
-  stands = subst (λ (b : Bool). Stands b (then c)) (sym (opened_before c)) (refused_running c.args.act c.args.seat (before c) (then c) (subst (λ (b : Bool). Stands b (before c)) (opened_before c) c.self.invariant.stands) (refused c));
+  stands = stands_refused c.self.inside.opened c.args.act c.args.seat (before c) (then c) c.self.invariant.stands (refused c);
   sized = c.self.invariant.sized;
   seated = c.self.invariant.seated;
+  spare = c.self.invariant.spare;
   seats = c.self.invariant.seats;
   one = c.self.invariant.one;
   beginning = c.self.invariant.beginning;
