@@ -1,0 +1,7 @@
+use Rattle.std.proofs.Common.{◌≡◌, ◌++◌, ◌-◌, length}
+use Rattle.clover_image.specs.Choosing.{mixed, seeded}
+use Rattle.clover_image.proofs.choosing.by_seed.Given as goal
+
+-- what stands there and what is still to come are all words
+abbrev pub invariant-loop-at : goal.invariant-loop-at
+invariant-loop-at g l = (l.kept.items ++ mixed l.generator l.pool (g.W.PoolWords.numbers l.words) l.at (l.count - l.at) ≡ mixed (seeded l.seed) l.pool (g.W.PoolWords.numbers l.words) 0 l.count) × (length l.kept.items ≡ l.at)

@@ -1,0 +1,15 @@
+-- An image as contracts see it, and which words it has.
+use Rattle.std.specs.Prelude.{ℕ, List}
+use Rattle.clover_words.specs.declared.pool.Pool.{Pool}
+use Rattle.clover_words.specs.declared.word.Word.{Word}
+use Rattle.clover_words.specs.declared.word.Side.TheVariants.{Flushed}
+use Rattle.clover_words.specs.Place.{IsWithin, HasSide}
+
+-- a pool, and one number for each of its durable words, in the order of their addresses
+pub record PoolImage : Type 0 where
+  pub pool : Pool
+  pub words : List ℕ
+
+-- the word is in the pool, and has a flushed copy
+abbrev pub IsDurable : Pool → Word → Type 0
+IsDurable p w = IsWithin p w × HasSide w Flushed

@@ -1,0 +1,9 @@
+pub mod Decoding
+pub mod Chains
+pub mod KeyWords
+pub mod Lifts
+pub mod Marking
+pub mod ChainMarks
+pub mod BufferSteps
+pub mod Slotwise
+pub mod Begins

@@ -1,0 +1,9 @@
+pub mod Stores
+pub mod Restart
+pub mod Kept
+pub mod Going
+pub mod Reading
+pub mod Chaining
+pub mod Slots
+pub mod Lifting
+pub mod Begun
