@@ -1,6 +1,6 @@
 -- What holds of a caller still, or again, behind a step: it is its client's, and its cursors are.
 use Rattle.std.proofs.Common.{◌≡◌, ℕ, Bool, true, false, refl, sym, ◌∙◌, subst}
-use Rattle.std.specs.Prelude.{Option}
+use Rattle.std.specs.Prelude.{Option, Some}
 use Rattle.clover_words.specs.declared.bytes.ValueBuf.{ValueBuf}
 use Rattle.clover_words.specs.declared.pool.Pool.{Pool}
 use Rattle.clover_rule.specs.Steps.{Step, number_of}
@@ -10,15 +10,27 @@ use Rattle.clover_rule.specs.declared.view.View.{View}
 use Rattle.clover_port.specs.Told.{Open, Made}
 use Rattle.clover_cache.specs.Node.{Known}
 use Rattle.clover_walk.proofs.Endings.{stepped}
+use Rattle.clover_get.specs.Getting.{Getting}
+use Rattle.clover_put.specs.Putting.{Putting}
 use Rattle.clover_call.specs.Going.{Went}
+use Rattle.clover_call.specs.Kept.{under_of}
 use Rattle.clover_call.specs.Caller.{CallerState, CallerHolds, AreCursors, slot_of}
 use Rattle.clover_call.specs.Turning.{OnMade, OnRefused, ends, left_by}
 use Rattle.clover_call.specs.declared.answer.CallerRefusal.TheVariants.{Unreached, Behind, Linked, TooLong}
 use Rattle.clover_call.specs.declared.answer.CallerTurn.{CallerTurn}
 use Rattle.clover_call.specs.declared.answer.CallerTurn.TheVariants.{More, Decided, Done, Refused}
+use Rattle.clover_call.specs.declared.under.Kind.{Kind}
+use Rattle.clover_call.specs.declared.under.Kind.TheVariants.{Get as IsGet, Write as IsWrite}
 use Rattle.clover_call.specs.declared.under.Underway.{Underway}
-use Rattle.clover_call.specs.declared.under.Underway.TheVariants.{Nothing}
+use Rattle.clover_call.specs.declared.under.Underway.TheVariants.{Nothing, Get, Write}
 use Rattle.clover_call.proofs.Knowing.{KnowsMore, knows_more, cursors_kept, cursors_set}
+
+-- what is under way where its kind and its place say so
+pub under_get : {k : Kind} {o : Option Getting} (g : Getting) (w : Option Putting) → k ≡ IsGet → o ≡ Some g → Get g ≡ under_of k o w
+under_get g w e f = sym (λ i. under_of (e i) (f i) w)
+
+pub under_write : {k : Kind} {o : Option Putting} (c : Putting) (g : Option Getting) → k ≡ IsWrite → o ≡ Some c → Write c ≡ under_of k g o
+under_write c g e f = sym (λ i. under_of (e i) g (f i))
 
 -- an access was made or refused
 pub by_turn : {A B C : Type 0} (r : CallerTurn) → OnMade r A → OnRefused r B → (A → C) → (B → C) → C

@@ -14,7 +14,7 @@ ghost use Rattle.clover_call.specs.Going.{GoesOn, IsDue, Stays, Went};
 ghost use Rattle.clover_call.specs.Caller.{CallerHolds, AreCursors, copied_flags, next_step, is_first, first_caller};
 ghost use Rattle.clover_call.specs.Turning.{OnMade, OnRefused, left_by};
 ghost use Rattle.clover_call.specs.declared.answer.CallerRefusal.TheVariants.{TooLong as IsTooLong};
-ghost use Rattle.clover_call.specs.declared.under.Underway.TheVariants.{Nothing as IsNothing};
+ghost use Rattle.clover_call.specs.declared.under.Underway.TheVariants.{Nothing as IsNothing, Get as IsGet, Write as IsWrite};
 
 mod access;
 mod start;
@@ -22,7 +22,7 @@ mod start;
 mod tests;
 
 use crate::answer::{CallerRefusal, CallerTurn};
-use crate::under::Underway;
+use crate::under::{Kind, Underway};
 use clover_cache::NodeCursors;
 use clover_get::GetCall;
 use clover_list::OutOfMemory;
@@ -39,15 +39,22 @@ use std::marker::Model;
 pub struct Caller {
     pool: Pool,
     cursors: NodeCursors,
-    under: Underway,
+    // Which call is under way, and where each kind of call stands: a call stays in its place from its start to its end,
+    // since one that writes is large.
+    kind: Kind,
+    get: Option<GetCall>,
+    write: Option<PutCall>,
 }
 
 impl Model for Caller {
     ghost use Rattle.clover_call.specs.Caller.{CallerState};
+    ghost use Rattle.clover_call.specs.Kept.{meaning, IsThere};
 
     ghost Value = { CallerState };
 
-    ghost view = { λ n. record { pool = n.pool; cursors = n.cursors; under = n.under } };
+    ghost view = { meaning };
+
+    ghost invariant = { λ n. IsThere n.kind n.get n.write };
 }
 
 impl Caller {
@@ -58,7 +65,9 @@ impl Caller {
         Ok(Caller {
             pool,
             cursors: NodeCursors::make(alloc)?,
-            under: Underway::Nothing,
+            kind: Kind::Nothing,
+            get: None,
+            write: None,
         })
     }
 
@@ -66,7 +75,7 @@ impl Caller {
     pub fn is_busy(&self) -> bool
         ensures { IsTrue result ↔ (self.now.under ≢ IsNothing) }
     {
-        !matches!(&self.under, Underway::Nothing)
+        !matches!(self.kind, Kind::Nothing)
     }
 
     /// Starts a call on the slot of its key, with the tag of the buffer that a call that writes may commit: the next
@@ -90,8 +99,35 @@ impl Caller {
             return Err(CallerRefusal::TooLong { length, room });
         }
         let walk = self.walk(slot);
-        self.under = start::call_on(walk, own, call);
+        self.place(start::call_on(walk, own, call));
         Ok(())
+    }
+
+    // Has this under way.
+    fn place(&mut self, under: Underway)
+        ensures { self.new ≡ record self.old { under = under } }
+    {
+        match under {
+            Underway::Nothing => self.kind = Kind::Nothing,
+            Underway::Get(call) => self.place_get(call),
+            Underway::Write(call) => self.place_write(call),
+        }
+    }
+
+    // Has this get under way.
+    fn place_get(&mut self, call: GetCall)
+        ensures { self.new ≡ record self.old { under = IsGet call } }
+    {
+        self.get = Some(call);
+        self.kind = Kind::Get;
+    }
+
+    // Has this call that writes under way.
+    fn place_write(&mut self, call: PutCall)
+        ensures { self.new ≡ record self.old { under = IsWrite call } }
+    {
+        self.write = Some(call);
+        self.kind = Kind::Write;
     }
 
     // The walk of a call that begins on the slot: from the cursor that the caller has for it.
@@ -112,7 +148,7 @@ impl Caller {
         ensures { (key : List ℕ) → Starts self.old slot 0 (GetOf key) self.new }
     {
         let walk = self.walk(slot);
-        self.under = Underway::Get(GetCall::make(walk));
+        self.place_get(GetCall::make(walk));
     }
 
     /// Starts a call that writes these flags and bytes, as `start` does. The bytes have room in a buffer; a delete has
@@ -128,7 +164,7 @@ impl Caller {
     {
         let walk = self.walk(slot);
         match PutCall::make(walk, job, own, flags, bytes) {
-            Ok(call) => self.under = Underway::Write(call),
+            Ok(call) => self.place_write(call),
             Err(_) => unreachable!(),
         }
     }
@@ -145,9 +181,9 @@ impl Caller {
     pub fn copied(&self) -> Option<u32>
         ensures { result ≡ copied_flags self.now.under }
     {
-        match &self.under {
-            Underway::Get(call) => call.copied(),
-            Underway::Nothing | Underway::Write(_) => None,
+        match (self.kind, &self.get) {
+            (Kind::Get, Some(call)) => call.copied(),
+            _ => None,
         }
     }
 
@@ -171,7 +207,7 @@ impl Caller {
     {
         let turn = self.access(port, into);
         if turn.is_over() {
-            self.under = Underway::Nothing;
+            self.kind = Kind::Nothing;
         }
         turn
     }
@@ -186,10 +222,16 @@ impl Caller {
         ensures refused { OnRefused result (P.failed port.old port.new × (into.new ≡ into.old)) }
         ensures pool { self.new.pool ≡ self.old.pool }
     {
-        match &mut self.under {
-            Underway::Nothing => unreachable!(),
-            Underway::Get(call) => access::get(call, &mut self.cursors, port, into),
-            Underway::Write(call) => access::write(call, &mut self.cursors, port),
+        match self.kind {
+            Kind::Nothing => unreachable!(),
+            Kind::Get => match &mut self.get {
+                Some(call) => access::get(call, &mut self.cursors, port, into),
+                None => unreachable!(),
+            },
+            Kind::Write => match &mut self.write {
+                Some(call) => access::write(call, &mut self.cursors, port),
+                None => unreachable!(),
+            },
         }
     }
 }
