@@ -1,8 +1,6 @@
-pub mod Folds
-pub mod Ends
-pub mod Run
-pub mod Text
-pub mod Alone
-pub mod Client
-pub mod Machine
-pub mod Stepping
+pub mod Cuts
+pub mod ItemLines
+pub mod Items
+pub mod Laws
+pub mod Outages
+pub mod Told

@@ -1,9 +1,7 @@
-//! What the runs of a script's events share: the events themselves, why a client's call is refused, what a call that
-//! runs alone comes to, and the printed text of accesses and of a run's end.
+//! What may happen in a script whose power may fail: runs, one behind the other, and between them losses of power, of
+//! which each leaves an image and a restart from it.
 #![tactic(auto)]
 
-mod event;
-mod text;
+mod laws;
 
-pub use event::{CallRefusal, Event, Note};
-pub use text::{push_access, push_ending, push_note};
+pub use laws::runs_stand_law;

@@ -20,8 +20,8 @@ use Rattle.clover_put.specs.Putting.{Putting, put_step, Over as PutOver}
 use Rattle.clover_words.specs.declared.bytes.ValueBuf.{ValueBuf}
 use Rattle.clover_call.specs.declared.under.Underway.{Underway}
 use Rattle.clover_call.specs.declared.under.Underway.TheVariants.{Nothing, Get, Write}
-use Rattle.clover_sched.specs.declared.event.Note.{Note}
-use Rattle.clover_sched.specs.declared.event.Note.TheVariants.{Quiet, Answered}
+use Rattle.clover_event.specs.declared.event.Note.{Note}
+use Rattle.clover_event.specs.declared.event.Note.TheVariants.{Quiet, Answered}
 
 -- the slot's chain leads in these words from its root over some tags to a tail, which has a version
 pub record HasChain (p : Pool) (ws : List ℕ) (slot : ℕ) : Type 0 where

@@ -22,8 +22,8 @@ use Rattle.clover_call.specs.declared.answer.CallerTurn.TheVariants.{Done, Refus
 use Rattle.clover_call.specs.declared.under.Underway.{Underway}
 use Rattle.clover_call.specs.declared.under.Underway.TheVariants.{Nothing, Get, Write}
 use Rattle.clover_call.proofs.GetGoes.{holding_open}
-use Rattle.clover_sched.specs.declared.event.Note.TheVariants.{Quiet, Answered}
-use Rattle.clover_sched.specs.Alone.{GetEnds, PutEnds, EndsIn, NotesWith, Advances}
+use Rattle.clover_event.specs.declared.event.Note.TheVariants.{Quiet, Answered}
+use Rattle.clover_event.specs.Alone.{GetEnds, PutEnds, EndsIn, NotesWith, Advances}
 
 -- what a client knows at its next access, and at those behind it
 abbrev first_then : View → (ℕ → View) → ℕ → View

@@ -25,8 +25,8 @@ use Rattle.clover_rule.specs.declared.access.Act.TheVariants.{Load, Store, Excha
 use Rattle.clover_rule.specs.declared.access.Actor.TheVariants.{Client}
 use Rattle.clover_plain.specs.Preset.{tag_at}
 use Rattle.clover_walk.specs.Walking.{Ended, budget, most_accesses}
-use Rattle.clover_sched.specs.declared.event.CallRefusal.{CallRefusal}
-use Rattle.clover_sched.specs.declared.event.CallRefusal.TheVariants.{Unreached, Linked}
+use Rattle.clover_event.specs.declared.event.CallRefusal.{CallRefusal}
+use Rattle.clover_event.specs.declared.event.CallRefusal.TheVariants.{Unreached, Linked}
 use Rattle.clover_call.specs.Calling.{Calling, begun_call, due, LeadsTo}
 
 -- how many bytes of a value a buffer has room for

@@ -21,7 +21,7 @@ use Rattle.clover_rule.specs.declared.view.View.{View}
 use Rattle.clover_rule.specs.Moves.{nobody}
 use Rattle.clover_plain.specs.Plain.{Plain, Kept, view_at, history}
 use Rattle.clover_call.specs.Caller.{CallerHolds, AreCursors, CallHolds, call_under}
-use Rattle.clover_sched.specs.Client.{access}
+use Rattle.clover_event.specs.Client.{access}
 
 -- one entry more of a client
 pub own_more : (h : List Entry) (e : Entry) (c : ℕ) → e.client ≡ c → length (own (h ++ e ∷ []) c) ≡ length (own h c) + 1

@@ -9,10 +9,10 @@ use Rattle.clover_rule.specs.declared.access.Act.{Act}
 use Rattle.clover_rule.specs.declared.access.Act.TheVariants.{Load, Store, Exchange, Raise}
 use Rattle.clover_rule.specs.declared.access.Actor.{Actor}
 use Rattle.clover_rule.specs.declared.access.Actor.TheVariants.{Client, Server, Restart}
-use Rattle.clover_sched.specs.declared.event.CallRefusal.{CallRefusal}
-use Rattle.clover_sched.specs.declared.event.CallRefusal.TheVariants.{Unreached, Linked, Behind, TooLong}
-use Rattle.clover_sched.specs.declared.event.Note.{Note}
-use Rattle.clover_sched.specs.declared.event.Note.TheVariants.{Quiet, Answered, Refused, Busy, Missing}
+use Rattle.clover_event.specs.declared.event.CallRefusal.{CallRefusal}
+use Rattle.clover_event.specs.declared.event.CallRefusal.TheVariants.{Unreached, Linked, Behind, TooLong}
+use Rattle.clover_event.specs.declared.event.Note.{Note}
+use Rattle.clover_event.specs.declared.event.Note.TheVariants.{Quiet, Answered, Refused, Busy, Missing}
 
 abbrev pub actor_text : Actor → List ℕ
 actor_text (Client n) = decimal n
@@ -69,4 +69,4 @@ traced trace o = []
 
 -- what stands behind the last record's lines
 abbrev pub ending : List Entry → ℕ → List ℕ
-ending h n = codes "history\n" ++ (flat_map entry_line h ++ (codes "accesses " ++ (decimal n ++ codes "\nend\n")))
+ending h n = codes "history\n" ++ (flat_map (entry_line 1 true) h ++ (codes "accesses " ++ (decimal n ++ codes "\nend\n")))

@@ -10,8 +10,8 @@ use Rattle.clover_script.specs.declared.line.Task.{Task}
 use Rattle.clover_rule.specs.declared.access.Access.{Access}
 use Rattle.clover_rule.specs.declared.access.Act.{Act}
 use Rattle.clover_plain.specs.Plain.{Plain}
-use Rattle.clover_sched.proofs.Stepping.{own_more}
-use Rattle.clover_sched.specs.Client.{access}
+use Rattle.clover_event.proofs.Stepping.{own_more}
+use Rattle.clover_event.specs.Client.{access}
 
 -- the numbers of a client's entries, with none more and with one more
 pub number_same : (n c : ℕ) (h k : List Entry) → n ≡ length (own h c) → k ≡ h ++ [] → n ≡ length (own k c)

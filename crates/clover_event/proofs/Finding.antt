@@ -44,7 +44,7 @@ use Rattle.clover_call.specs.declared.under.Underway.{Underway}
 use Rattle.clover_words.specs.declared.bytes.ValueBuf.{ValueBuf}
 use Rattle.clover_call.specs.Caller.{IsCursor}
 use Rattle.clover_call.specs.Beginning.{IsBegun, size_of}
-use Rattle.clover_sched.proofs.Starting.{value_fits, dead_fits}
+use Rattle.clover_event.proofs.Starting.{value_fits, dead_fits}
 
 -- a content has no more words than a buffer
 content_fits : (p : Pool) (x : Option Value) → Fits p x → length (content x) ≤ p.words + 1

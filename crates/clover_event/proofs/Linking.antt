@@ -30,9 +30,9 @@ use Rattle.clover_call.specs.declared.answer.CallerTurn.TheVariants.{More, Decid
 use Rattle.clover_call.specs.declared.under.Underway.{Underway}
 use Rattle.clover_call.specs.declared.under.Underway.TheVariants.{Nothing, Get, Write}
 use Rattle.clover_call.proofs.Staying.{raises_at, shortens_at}
-use Rattle.clover_sched.specs.declared.event.CallRefusal.TheVariants as why
-use Rattle.clover_sched.specs.Client.{HasLinked, LinkedAt}
-use Rattle.clover_sched.specs.Run.{Flushes, Shortens, lost}
+use Rattle.clover_event.specs.declared.event.CallRefusal.TheVariants as why
+use Rattle.clover_event.specs.Client.{HasLinked, LinkedAt}
+use Rattle.clover_event.specs.Run.{Flushes, Shortens, lost}
 
 unlinked_before : (s : Stage) (t : ℕ) (acts : List Act) → IsBefore s → LinkedAt s t acts
 unlinked_before (Storing j) t acts b = tt

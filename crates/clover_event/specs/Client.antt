@@ -30,7 +30,7 @@ use Rattle.clover_call.specs.Beginning.{IsBegun, size_of, ExpectsTag}
 use Rattle.clover_call.specs.Caller.{CallerHolds, HasCommitted, IsUncommitted, call_under, first_caller, is_first, new_tag, slot_of}
 use Rattle.clover_call.specs.Calling.{Calling, due, after}
 use Rattle.clover_call.specs.Mirroring.{Mirrors}
-use Rattle.clover_sched.specs.Run.{Flushes}
+use Rattle.clover_event.specs.Run.{Flushes}
 
 -- the acts of the call under way since its start, as the client's view holds them
 abbrev pub since_of : Underway → View → List Act

@@ -28,11 +28,11 @@ use Rattle.clover_put.specs.declared.job.Job.{Job}
 use Rattle.clover_put.specs.declared.job.Job.TheVariants.{Put, Delete, Swap}
 use Rattle.clover_put.proofs.Alone.{put_law}
 use Rattle.clover_call.specs.declared.under.Underway.{Underway}
-use Rattle.clover_sched.specs.Alone.{GetEnds, PutEnds, EndsIn, cost}
+use Rattle.clover_event.specs.Alone.{GetEnds, PutEnds, EndsIn, cost}
 use Rattle.clover_call.specs.Beginning.{IsBegun, no_value, size_of}
-use Rattle.clover_sched.specs.Run.{room}
+use Rattle.clover_event.specs.Run.{room}
 use Rattle.clover_call.proofs.Begins.{made_pool}
-use Rattle.clover_sched.proofs.Chains.{few_links}
+use Rattle.clover_event.proofs.Chains.{few_links}
 
 -- a load that shows the tail unlinked makes no turn
 no_turn : (a b : Step) (u x : ℕ) → turn_of b x ≡ turn_at u x → a ≡ b → x ≡ unlinked u → turn_of a x ≡ 0

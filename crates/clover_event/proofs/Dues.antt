@@ -36,15 +36,15 @@ use Rattle.clover_put.proofs.Known.{bounded}
 use Rattle.clover_call.specs.Calling.{Calling, Deed, Reads, Links, Ends, Leaves, own_words, begun_call, deed, done, due, after, walks, LeadsTo}
 use Rattle.clover_call.specs.Mirroring.{reads, GetMirrors, PutMirrors, Mirrors, Writes}
 use Rattle.clover_call.specs.Beginning.{size_of}
-use Rattle.clover_sched.specs.Client.{since_of}
-use Rattle.clover_sched.specs.Run.{room}
+use Rattle.clover_event.specs.Client.{since_of}
+use Rattle.clover_event.specs.Run.{room}
 use Rattle.clover_call.specs.declared.under.Underway.{Underway}
 use Rattle.clover_call.specs.declared.under.Underway.TheVariants.{Nothing, Get, Write}
 use Rattle.clover_call.specs.Caller.{CallHolds}
 use Rattle.clover_call.proofs.Begins.{mirrors}
 use Rattle.clover_call.proofs.Calling.{leads_more}
-use Rattle.clover_sched.proofs.Lefts.{copied_few}
-use Rattle.clover_sched.proofs.Starting.{value_fits}
+use Rattle.clover_event.proofs.Lefts.{copied_few}
+use Rattle.clover_event.proofs.Starting.{value_fits}
 
 -- the turns of what is under way
 abbrev turns_of : Underway → ℕ

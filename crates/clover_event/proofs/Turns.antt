@@ -33,8 +33,8 @@ use Rattle.clover_call.specs.declared.answer.CallerTurn.TheVariants.{More}
 use Rattle.clover_call.specs.declared.under.Underway.{Underway}
 use Rattle.clover_call.specs.declared.under.Underway.TheVariants.{Nothing, Get, Write}
 use Rattle.clover_call.proofs.PutStep.{both}
-use Rattle.clover_sched.specs.Ends.{seen_tag}
-use Rattle.clover_sched.specs.Run.{Shortens, Wrote}
+use Rattle.clover_event.specs.Ends.{seen_tag}
+use Rattle.clover_event.specs.Run.{Shortens, Wrote}
 
 -- a quiet step adds no entry
 pub quiet_history : (a : Step) (h : List Entry) (v : View) (x : ℕ) → IsQuiet a x → next_history a h v x ≡ h

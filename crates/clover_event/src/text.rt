@@ -1,8 +1,8 @@
 // The printed text of a run, piece by piece, each built at the end of a list of bytes. Every error here is want
 // of memory, and then a front of the piece may stand there.
-ghost use Rattle.std.specs.Prelude.{◌≡◌, ◌++◌, flat_map, OnOk};
+ghost use Rattle.std.specs.Prelude.{◌≡◌, ◌++◌, true, flat_map, OnOk};
 ghost use Rattle.clover_script.specs.Text.{told_line, entry_line};
-ghost use Rattle.clover_sched.specs.Text.{actor_text, operand_text, exchange_text, act_text, back_text, came_text, access_line, refusal_text, note_line, ending};
+ghost use Rattle.clover_event.specs.Text.{actor_text, operand_text, exchange_text, act_text, back_text, came_text, access_line, refusal_text, note_line, ending};
 
 use crate::event::{CallRefusal, Note};
 use clover_map::Entry;
@@ -144,7 +144,7 @@ pub fn push_ending(out: &mut Vec<u8>, history: &[Entry], made: u64) -> Result<()
 }
 
 fn push_history(out: &mut Vec<u8>, history: &[Entry]) -> Result<(), AllocError>
-    ensures ok { OnOk result (out.new.items ≡ out.old.items ++ flat_map entry_line history.now) }
+    ensures ok { OnOk result (out.new.items ≡ out.old.items ++ flat_map (entry_line 1 true) history.now) }
 {
     for entry in history {
         push_entry(out, entry)?;

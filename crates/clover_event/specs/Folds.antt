@@ -9,8 +9,8 @@ use Rattle.clover_script.specs.declared.line.Task.{Task}
 use Rattle.clover_rule.specs.Accesses.{words_after_act}
 use Rattle.clover_rule.specs.declared.access.Access.{Access}
 use Rattle.clover_rule.specs.declared.access.Act.{Act}
-use Rattle.clover_sched.specs.declared.event.Event.{Event}
-use Rattle.clover_sched.specs.declared.event.Event.TheVariants.{Begin, Step, Refuse}
+use Rattle.clover_event.specs.declared.event.Event.{Event}
+use Rattle.clover_event.specs.declared.event.Event.TheVariants.{Begin, Step, Refuse}
 
 -- the words after some records
 abbrev pub words_by : Pool → List ℕ → Option Access → List ℕ

@@ -1,0 +1,14 @@
+pub mod Chains
+pub mod Advancing
+pub mod Stepping
+pub mod Turns
+pub mod Going
+pub mod Linking
+pub mod Starting
+pub mod Finding
+pub mod Places
+pub mod Remembering
+pub mod Bound
+pub mod Lefts
+pub mod Dues
+pub mod Budget
