@@ -11,7 +11,7 @@ use Rattle.clover_run.specs.Lines.{Covers}
 use Rattle.clover_run.specs.Machine.{Parts, IsAt, first_opening}
 use Rattle.clover_run.specs.Record.{Record}
 use Rattle.clover_run.specs.Run.{Opening}
-use Rattle.clover_sched.specs.Text.{ending}
+use Rattle.clover_event.specs.Text.{ending}
 use Rattle.clover_run.specs.Text.{said, text}
 use Rattle.clover_main.specs.Beginnings.{CoversFront}
 use Rattle.clover_port.specs.Told.{Rose}

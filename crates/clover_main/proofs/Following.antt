@@ -14,13 +14,15 @@ use Rattle.clover_rule.specs.Accesses.{CameBack, words_after_act, ActsReplay, do
 use Rattle.clover_rule.specs.declared.access.Access.{Access}
 use Rattle.clover_rule.specs.declared.access.Act.{Act}
 use Rattle.clover_run.specs.Folds.{accesses_in, entries_in, words_after}
-use Rattle.clover_sched.specs.Folds.{words_by}
+use Rattle.clover_event.specs.Folds.{words_by}
 use Rattle.clover_run.specs.Machine.{Parts, IsAt}
 use Rattle.clover_run.specs.Record.{Record}
 use Rattle.clover_run.specs.Run.{Opening, IsAccess, IsEntry, IsStepFor, IsStepOf, Fits, GoesOn, IsRun, standing, want_in}
-use Rattle.clover_sched.specs.declared.event.Event.{Event}
-use Rattle.clover_sched.specs.declared.event.Event.TheVariants.{Begin, Step, Refuse}
+use Rattle.clover_event.specs.declared.event.Event.{Event}
+use Rattle.clover_event.specs.declared.event.Event.TheVariants.{Begin, Step, Refuse}
 use Rattle.clover_run.proofs.Pasts.{entries_more, words_more}
+use Rattle.clover_run.proofs.Paying.{all_paid}
+use Rattle.clover_run.proofs.Rounding.{all_rounds}
 use Rattle.clover_main.specs.Performing.{IsLawful}
 
 -- an access that was made came back with what the words give
@@ -95,6 +97,9 @@ lawful_at o m rs at = record {
   legal = at.legal;
   numbered = run_numbered o rs at.run;
   found = at.found;
+  counted = at.counted;
   free = at.free;
   alone = at.alone.all;
+  paid = all_paid o rs at.begins at.run;
+  rounds = all_rounds o rs at.begins at.run at.alone.all;
 }

@@ -11,13 +11,13 @@ use Rattle.clover_script.specs.Lines.{Say, IsLinesOf}
 use Rattle.clover_script.specs.declared.line.Line.{Line}
 use Rattle.clover_script.specs.declared.line.PoolLine.{PoolLine}
 use Rattle.clover_script.proofs.SpokenLemmas.{no_pool, not_ignored}
-use Rattle.clover_sched.specs.Client.{IsCallTask}
+use Rattle.clover_event.specs.Client.{IsCallTask}
 use Rattle.clover_run.specs.Machine.{IsTaskOfActor}
 use Rattle.clover_run.specs.Running.{MayRun}
 use Rattle.clover_main.specs.Hearing.{Heard}
 
 -- a line that is passed over is no actor's, and neither is a pool line
-over_none : (text : List ℕ) → IsIgnored text → IsNoLine text
+pub over_none : (text : List ℕ) → IsIgnored text → IsNoLine text
 over_none text over spoken is e = not_ignored spoken (subst IsIgnored e over)
 
 pool_none : (n : PoolLine) → IsNoLine (pool_line n)

@@ -13,7 +13,7 @@ use Rattle.clover_run.specs.Machine.{Parts, IsAt}
 use Rattle.clover_run.specs.Record.{Record}
 use Rattle.clover_run.specs.Run.{Opening}
 use Rattle.clover_run.specs.Running.{IsSilent, IsUnsaid}
-use Rattle.clover_sched.specs.Text.{traced}
+use Rattle.clover_event.specs.Text.{traced}
 use Rattle.clover_run.specs.Text.{said, noted}
 use Rattle.clover_run.specs.declared.event.Note.{Note}
 use Rattle.clover_run.specs.declared.event.Note.TheVariants.{Quiet, Waits}

@@ -6,16 +6,16 @@ ghost use Rattle.clover_run.specs.Machine.{IsAt};
 ghost use Rattle.clover_run.specs.Record.{Record};
 ghost use Rattle.clover_run.specs.Run.{Opening};
 ghost use Rattle.clover_run.specs.Text.{said};
-ghost use Rattle.clover_sched.specs.Text.{traced, ending};
+ghost use Rattle.clover_event.specs.Text.{traced, ending};
 ghost use Rattle.clover_port.specs.Told.{Rose};
 ghost use Rattle.clover_main.specs.Causes.{AppendsFront, HasStopCause};
 ghost use Rattle.clover_main.specs.Running.{Says, Puts, PutsEnding};
 
 use crate::io::{Failed, Sink, put_both};
+use clover_event::{push_access, push_ending};
 use clover_list::OutOfMemory;
 use clover_rule::Access;
 use clover_run::{Machine, Note, push_note};
-use clover_sched::{push_access, push_ending};
 use std::alloc::{AllocError, Global};
 
 /// How many bytes may wait before they are put.
@@ -81,6 +81,10 @@ impl Output {
     {
         self.piece.clear();
         push_said(&mut self.piece, machine, listed, note)?;
+        // Most events print nothing.
+        if self.piece.is_empty() {
+            return Ok(());
+        }
         self.waiting.extend_from_slice(&self.piece)
     }
 

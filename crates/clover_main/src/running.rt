@@ -18,7 +18,7 @@ ghost use Rattle.clover_main.specs.Running.{Ran, Runs, Fails, Stops, left_of, mo
 use crate::io::Sink;
 use crate::output::{Output, Stop};
 use clover_run::{Advance, Machine, Work, begin_line, work_on};
-use clover_script::{Line, first_line, line_of};
+use clover_script::{Line, first_line, is_ignored, line_of};
 use std::alloc::Global;
 
 /// Puts out what the last event printed, with a trace the access behind those that were listed before it, and
@@ -119,6 +119,9 @@ fn run_text<K: Sink>(
     ensures err { IfErr result (λ stop. Stops machine.old stop (K.taken sink.old) (K.taken sink.new) out.old.waiting.items (IsPartOfSaid text.now)) }
     ensures cause { HasStopCause (K.faults sink.old) (K.faults sink.new) result }
 {
+    if is_ignored(text) {
+        return Ok(());
+    }
     match line_of(alloc, text) {
         Ok(Some(line)) => run_line(machine, line, out, sink),
         Ok(None) => Ok(()),

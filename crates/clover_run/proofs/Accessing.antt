@@ -31,10 +31,10 @@ use Rattle.clover_node.specs.Node.{NodeState, NodeHolds, IsAsked, IsIdle, IsUnde
 use Rattle.clover_node.specs.declared.answer.NodeTurn.{NodeTurn}
 use Rattle.clover_node.specs.declared.counting.Counting.{Counting}
 use Rattle.clover_node.specs.declared.counting.Counting.TheVariants.{No}
-use Rattle.clover_sched.specs.Client.{HasLinked, IsLast, access}
-use Rattle.clover_sched.specs.Run.{IsBlank, Wrote, lost}
-use Rattle.clover_sched.proofs.Advancing.{IsMade}
-use Rattle.clover_sched.proofs.Turns.{apart}
+use Rattle.clover_event.specs.Client.{HasLinked, IsLast, access}
+use Rattle.clover_event.specs.Run.{IsBlank, Wrote, lost}
+use Rattle.clover_event.proofs.Advancing.{IsMade}
+use Rattle.clover_event.proofs.Turns.{apart}
 use Rattle.clover_run.specs.Client.{Phase, Rests, Wants, Calls, Ends, IsIn, IsOwnPhase, Stands, Matches, IsCall, IsDoing, IsTaskOf, LacksNames, Moved, MakesDue, call_at, call_or, since_of, step_record}
 use Rattle.clover_run.specs.Folds.{Doing}
 use Rattle.clover_run.specs.Run.{Opening, Standing, IsAccess, IsCause, IsEntry, IsOwnAccess, TakesFirst, Tells}

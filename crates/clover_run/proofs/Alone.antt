@@ -1,6 +1,6 @@
 -- Calls that run alone, behind one record more: one that has nothing to do with them, one that starts a call, and one that is a step of such a call.
 use Prim.Native.Nat.{suc}
-use Rattle.std.proofs.Common.{◌≡◌, ◌≢◌, ℕ, ◌+◌, List, [], ◌∷◌, ◌++◌, length, Bool, true, false, refl, sym, ap, ◌∙◌, subst, arith, inl, inr}
+use Rattle.std.proofs.Common.{◌≡◌, ◌≢◌, ℕ, ◌+◌, List, [], ◌∷◌, ◌++◌, length, Bool, true, false, refl, sym, ap, ◌∙◌, subst, arith, inl, inr, append-nil}
 use Rattle.std.specs.Prelude.{Option, Some, None}
 use Rattle.clover_words.specs.declared.pool.Pool.{Pool}
 use Rattle.clover_map.specs.declared.call.Call.{Call}
@@ -10,11 +10,11 @@ use Rattle.clover_rule.specs.declared.access.Access.{Access}
 use Rattle.clover_call.specs.declared.under.Underway.{Underway}
 use Rattle.clover_call.specs.declared.under.Underway.TheVariants.{Nothing as NoCall}
 use Rattle.clover_node.specs.Node.{IsIdle}
-use Rattle.clover_sched.specs.Run.{lost}
-use Rattle.clover_sched.specs.Alone.{EndsIn}
-use Rattle.clover_sched.specs.declared.event.Event.{Event}
-use Rattle.clover_sched.specs.declared.event.Event.TheVariants.{Step}
-use Rattle.clover_run.specs.Alone.{Starts, IsOwnStep, RunsAlone, Finds, cost_of, IsAnswered, NotesWith, Advances, EndsAlone}
+use Rattle.clover_event.specs.Run.{lost}
+use Rattle.clover_event.specs.Alone.{EndsIn}
+use Rattle.clover_event.specs.declared.event.Event.{Event}
+use Rattle.clover_event.specs.declared.event.Event.TheVariants.{Step}
+use Rattle.clover_run.specs.Alone.{Starts, IsOwnStep, RunsAlone, Finds, cost_of, IsAnswered, NotesWith, IsCount, Advances, EndsAlone}
 use Rattle.clover_run.specs.Record.{Record}
 use Rattle.clover_run.specs.Run.{Opening, Standing, IsCause, IsOwnAccess, standing, known_slot, want_in}
 use Rattle.clover_run.specs.SoFar.{Will, AloneSoFar}
@@ -98,7 +98,7 @@ module _ (o : Opening) (rs : List Record) (r : Record) (ws ws1 : List ℕ) (clie
 
     -- an own access of this client that was made: x is the client before it, which has a call under way
     module _ (x : ClientState) (before : nth clients i ≡ Some x) (event : r.event ≡ Step (suc i)) (busy : IsIdle x.node → ⊥)
-        (counts : x.node.caller.under ≡ NoCall → IsIdle y.node) (over : IsAnswered (suc i) r.note → IsIdle y.node)
+        (counts : x.node.caller.under ≡ NoCall → IsIdle y.node × ((call : Call) (written : ℕ) → (standing o (suc i) rs).does.task ≡ Some (ClientTask call written) → IsCount (standing o (suc i) rs) call r)) (over : IsAnswered (suc i) r.note → IsIdle y.node)
         (advances : (n : ℕ) → x.node.caller.under ≢ NoCall → EndsIn o.setup.pool ws n x.node.caller.under x.room → Advances (suc i) o.setup.pool n ws1 y.node.caller.under y.room r.note) where
       ended_now : (n : ℕ) → NotesWith (suc i) n r.note → n ≡ 0 → IsIdle y.node
       ended_now n notes e = over (subst (λ (k : ℕ). NotesWith (suc i) k r.note) e notes)
@@ -106,11 +106,18 @@ module _ (o : Opening) (rs : List Record) (r : Record) (ws ws1 : List ℕ) (clie
       no_call : (n : ℕ) → (n ≡ 0 → IsIdle x.node) → EndsIn o.setup.pool ws n x.node.caller.under x.room → x.node.caller.under ≢ NoCall
       no_call n over_at ends u = busy (over_at (subst (λ (k : Underway). EndsIn o.setup.pool ws n k x.room) u ends))
 
-      steps_on : (z : RunsAlone o rs) → z.client ≡ suc i → (slot : Option ℕ) (ends : EndsAlone o.setup.pool (standing o z.client z.before) slot z.call z.client z.steps) → Will o ws x rs z slot ends
-          → Leaves o.setup.pool (standing o z.client z.before) ws1 clients1 z.client z.call z.steps r.note slot ends
-      steps_on z e None ends (inl w) = (w.0, λ j k seat here. subst (λ (l : ClientState). IsIdle l.node) (same_client z.client e j k seat here) (counts w.1))
-      steps_on z e None ends (inr idle) = absurd (busy idle)
-      steps_on z e (Some slot) ends w =
+      -- the load of the count is that of the call under way
+      count_now : (z : RunsAlone o rs) → z.client ≡ suc i → z.after ≡ [] → z.steps ≡ [] → x.node.caller.under ≡ NoCall → IsCount (standing o z.client z.before) z.call r
+      count_now z e now none calls =
+          let all : rs ≡ z.before = z.whole ∙ (λ k. z.before ++ (none k ++ now k)) ∙ append-nil z.before in
+          let task : (standing o (suc i) rs).does.task ≡ Some (ClientTask z.call z.written) = subst (λ (c : ℕ). (standing o c rs).does.task ≡ Some (ClientTask z.call z.written)) e (subst (λ (l : List Record). (standing o z.client l).does.task ≡ Some (ClientTask z.call z.written)) (sym all) z.task) in
+          subst (λ (l : List Record). IsCount (standing o z.client l) z.call r) all (subst (λ (c : ℕ). IsCount (standing o c rs) z.call r) (sym e) ((counts calls).1 z.call z.written task))
+
+      steps_on : (z : RunsAlone o rs) → z.client ≡ suc i → z.after ≡ [] → (slot : Option ℕ) (ends : EndsAlone o.setup.pool (standing o z.client z.before) slot z.call z.client z.steps) → Will o ws x rs z slot ends
+          → Leaves o.setup.pool (standing o z.client z.before) ws1 clients1 z.client z.call z.steps r slot ends
+      steps_on z e now None ends (inl w) = (w.0, count_now z e now w.0 w.1, λ j k seat here. subst (λ (l : ClientState). IsIdle l.node) (same_client z.client e j k seat here) (counts w.1).0)
+      steps_on z e now None ends (inr idle) = absurd (busy idle)
+      steps_on z e now (Some slot) ends w =
           let a = advances w.0 (no_call w.0 w.3 w.2) w.2 in
           let one = a.one in (
             a.left,
@@ -122,4 +129,4 @@ module _ (o : Opening) (rs : List Record) (r : Record) (ws ws1 : List ℕ) (clie
       pub alone_stepped : StartsNone → AloneSoFar o ws1 clients1 (rs ++ r ∷ [])
       alone_stepped none = alone_more o rs r at.all ws1 clients1 (λ c call written s t f. absurd (none c call written s t f)) (λ z now s.
           let e : z.client ≡ suc i = (let q : Step z.client ≡ Step (suc i) = sym s.event ∙ event in cc) in
-          steps_on z e (known_slot (standing o z.client z.before) z.call) (at.all z) (at.underway z now i x (sym e) before))
+          steps_on z e now (known_slot (standing o z.client z.before) z.call) (at.all z) (at.underway z now i x (sym e) before))

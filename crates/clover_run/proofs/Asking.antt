@@ -16,12 +16,12 @@ use Rattle.clover_call.specs.declared.under.Underway.TheVariants.{Nothing as NoC
 use Rattle.clover_node.specs.Beginning.{NodeStarts, Refuses}
 use Rattle.clover_node.specs.Node.{NodeState}
 use Rattle.clover_node.specs.declared.answer.NodeRefusal.TheVariants.{NeedsStock}
-use Rattle.clover_sched.specs.Client.{IsCallTask}
-use Rattle.clover_sched.specs.Ends.{MayBegin}
-use Rattle.clover_sched.specs.Run.{room}
-use Rattle.clover_sched.specs.declared.event.CallRefusal.TheVariants.{TooLong}
-use Rattle.clover_sched.specs.declared.event.Event.TheVariants.{Begin}
-use Rattle.clover_sched.proofs.Places.{set_same}
+use Rattle.clover_event.specs.Client.{IsCallTask}
+use Rattle.clover_event.specs.Ends.{MayBegin}
+use Rattle.clover_event.specs.Run.{room}
+use Rattle.clover_event.specs.declared.event.CallRefusal.TheVariants.{TooLong}
+use Rattle.clover_event.specs.declared.event.Event.TheVariants.{Begin}
+use Rattle.clover_event.proofs.Places.{set_same}
 use Rattle.clover_run.specs.Client.{Phase, Rests, HasTask, Stands, Matches, GoesSoFar, Remembers, Begun, Started, call_at}
 use Rattle.clover_run.specs.Ends.{ended}
 use Rattle.clover_run.specs.Folds.{Doing, begun, doing, names_of, served_after}

@@ -22,9 +22,9 @@ use Rattle.clover_node.specs.declared.answer.NodeRefusal.TheVariants.{NeedsStock
 use Rattle.clover_server.specs.Server.{ServerState}
 use Rattle.clover_server.specs.declared.turn.ServerTurn.{ServerTurn}
 use Rattle.clover_server.specs.declared.turn.ServerTurn.TheVariants.{More, Ready, Unlinked as TurnUnlinked, Recycled as TurnRecycled, Full as TurnFull, NoSlot as TurnNoSlot, Unreached as TurnUnreached}
-use Rattle.clover_sched.specs.Ends.{MayBegin}
-use Rattle.clover_sched.specs.declared.event.CallRefusal.TheVariants.{Unreached as WasUnreached}
-use Rattle.clover_sched.proofs.Bound.{AreBindings}
+use Rattle.clover_event.specs.Ends.{MayBegin}
+use Rattle.clover_event.specs.declared.event.CallRefusal.TheVariants.{Unreached as WasUnreached}
+use Rattle.clover_event.proofs.Bound.{AreBindings}
 use Rattle.clover_run.specs.Client.{Phase, Wants, Stands, Matches, IsOf, GoesSoFar, Remembers, Started, call_at, call_or, granted_to, step_record}
 use Rattle.clover_run.specs.Ends.{ended}
 use Rattle.clover_run.specs.Folds.{Doing, doing, names_of, served_after, stepped}

@@ -24,7 +24,7 @@ use Rattle.clover_server.specs.Left.{work_left}
 use Rattle.clover_server.specs.Server.{ServerState}
 use Rattle.clover_server.specs.declared.turn.ServerTurn.{ServerTurn}
 use Rattle.clover_server.specs.declared.turn.ServerTurn.TheVariants as turn
-use Rattle.clover_sched.specs.Machine.{most_made}
+use Rattle.clover_event.specs.Machine.{most_made}
 use Rattle.clover_script.specs.declared.line.Task.{Task}
 use Rattle.clover_run.specs.Client.{LacksNames, Phase, Rests, Wants, Calls, Ends, IsIn, IsOf, Matches, call_at, since_of, step_record}
 use Rattle.clover_run.specs.Folds.{Doing, stepped}

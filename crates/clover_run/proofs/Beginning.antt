@@ -18,9 +18,9 @@ use Rattle.clover_call.specs.Beginning.{size_of}
 use Rattle.clover_node.specs.Accepting.{MayTake}
 use Rattle.clover_node.specs.Beginning.{room_of}
 use Rattle.clover_node.specs.Node.{NodeState, NodeHolds, IsIdle}
-use Rattle.clover_sched.specs.Client.{IsCallTask}
-use Rattle.clover_sched.specs.Run.{room}
-use Rattle.clover_sched.specs.declared.event.CallRefusal.TheVariants.{TooLong}
+use Rattle.clover_event.specs.Client.{IsCallTask}
+use Rattle.clover_event.specs.Run.{room}
+use Rattle.clover_event.specs.declared.event.CallRefusal.TheVariants.{TooLong}
 use Rattle.clover_run.specs.Client.{Phase, Rests, Stands, StartsFrom, IsCall, Begun, Matches}
 use Rattle.clover_run.specs.Folds.{Doing, begun, started}
 use Rattle.clover_run.specs.Run.{Opening, begin_note}

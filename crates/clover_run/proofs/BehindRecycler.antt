@@ -9,9 +9,9 @@ use Rattle.clover_rule.specs.Lists.{nth, IsPrefix}
 use Rattle.clover_rule.specs.declared.access.Access.{Access}
 use Rattle.clover_rule.specs.declared.access.Actor.TheVariants.{Client, Server}
 use Rattle.clover_plain.specs.Plain.{Plain}
-use Rattle.clover_sched.specs.Folds.{actor_of}
-use Rattle.clover_sched.specs.declared.event.Event.{Event}
-use Rattle.clover_sched.specs.declared.event.Event.TheVariants.{Begin, Step}
+use Rattle.clover_event.specs.Folds.{actor_of}
+use Rattle.clover_event.specs.declared.event.Event.{Event}
+use Rattle.clover_event.specs.declared.event.Event.TheVariants.{Begin, Step}
 use Rattle.clover_run.specs.Alone.{AllFound, IsOwnStep, Starts}
 use Rattle.clover_run.specs.Client.{KeepsOthers, Moved}
 use Rattle.clover_run.specs.Ends.{ended}

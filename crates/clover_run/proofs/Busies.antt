@@ -3,7 +3,7 @@ use Rattle.std.proofs.Common.{◌≡◌, ℕ, suc, ◌-◌, ◌<◌, length, get
 use Rattle.std.specs.Prelude.{Bool, Option, Some, None, ◌↔◌, IsTrue}
 use Rattle.clover_rule.specs.Lists.{nth}
 use Rattle.clover_rule.proofs.Tools.{nth_within}
-use Rattle.clover_sched.proofs.Places.{nth_here}
+use Rattle.clover_event.proofs.Places.{nth_here}
 use Rattle.clover_run.specs.Client.{HasTask}
 use Rattle.clover_run.specs.Machine.{Parts, IsTasked, IsBusy, WaitsFor, OnlyWaits}
 use Rattle.clover_run.specs.declared.client.ClientState.{ClientState}

@@ -8,10 +8,10 @@ use Rattle.clover_dir.specs.Directory.{root_of}
 use Rattle.clover_rule.specs.Lists.{IsPrefix, Within}
 use Rattle.clover_plain.specs.Plain.{Plain}
 use Rattle.clover_server.specs.Server.{ServerState}
-use Rattle.clover_sched.specs.Alone.{HasChain}
-use Rattle.clover_sched.specs.Folds.{actor_of}
-use Rattle.clover_sched.specs.declared.event.Event.{Event}
-use Rattle.clover_sched.specs.declared.event.Event.TheVariants.{Begin, Refuse}
+use Rattle.clover_event.specs.Alone.{HasChain}
+use Rattle.clover_event.specs.Folds.{actor_of}
+use Rattle.clover_event.specs.declared.event.Event.{Event}
+use Rattle.clover_event.specs.declared.event.Event.TheVariants.{Begin, Refuse}
 use Rattle.clover_run.specs.Alone.{AllFound}
 use Rattle.clover_run.specs.Folds.{Doing, begun, does, doing, served_after}
 use Rattle.clover_run.specs.Machine.{Parts, IsAt, IsTaskOfActor, IsTold, Happens}

@@ -4,7 +4,7 @@ use Rattle.std.specs.Prelude.{Option, Some, None, IfSome}
 use Rattle.clover_words.specs.declared.pool.Pool.{Pool}
 use Rattle.clover_script.specs.declared.line.Task.{Task}
 use Rattle.clover_plain.specs.Plain.{Plain, Running}
-use Rattle.clover_sched.specs.declared.event.Event.TheVariants.{Step}
+use Rattle.clover_event.specs.declared.event.Event.TheVariants.{Step}
 use Rattle.clover_run.specs.Cleaning.{IsCleaned}
 use Rattle.clover_run.specs.Client.{step_record}
 use Rattle.clover_run.specs.Folds.{stepped}

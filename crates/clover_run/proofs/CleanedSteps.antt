@@ -4,7 +4,7 @@ use Rattle.std.specs.Prelude.{Option, Some, None, Result, Ok, Err, IfOk, OnErr}
 use Rattle.std.proofs.lemmas.Result.{IfOk-weaker}
 use Rattle.clover_list.specs.declared.memory.OutOfMemory.{OutOfMemory}
 use Rattle.clover_plain.specs.Plain.{Plain, Kept, Running}
-use Rattle.clover_sched.specs.declared.event.Event.TheVariants.{Step}
+use Rattle.clover_event.specs.declared.event.Event.TheVariants.{Step}
 use Rattle.clover_run.specs.Left.{left}
 use Rattle.clover_run.specs.Machine.{Parts, IsAt, IsBehind, IsSame, IsBusy, Continues, Happens, OnlyWaits}
 use Rattle.clover_run.specs.Record.{Record}

@@ -20,13 +20,13 @@ use Rattle.clover_node.specs.Node.{NodeState}
 use Rattle.clover_node.specs.declared.answer.NodeTurn.{NodeTurn}
 use Rattle.clover_node.specs.declared.answer.NodeTurn.TheVariants.{Done}
 use Rattle.clover_node.specs.declared.counting.Counting.TheVariants.{No}
-use Rattle.clover_sched.specs.Alone.{Advances as SchedAdvances}
-use Rattle.clover_sched.specs.Client.{access}
-use Rattle.clover_sched.specs.Run.{Wrote}
-use Rattle.clover_sched.specs.declared.event.Note.TheVariants.{Answered as SchedAnswered}
-use Rattle.clover_sched.proofs.Advancing.{answers}
-use Rattle.clover_sched.proofs.Going.{number_same}
-use Rattle.clover_sched.proofs.Turns.{busy_behind}
+use Rattle.clover_event.specs.Alone.{Advances as SchedAdvances}
+use Rattle.clover_event.specs.Client.{access}
+use Rattle.clover_event.specs.Run.{Wrote}
+use Rattle.clover_event.specs.declared.event.Note.TheVariants.{Answered as SchedAnswered}
+use Rattle.clover_event.proofs.Advancing.{answers}
+use Rattle.clover_event.proofs.Going.{number_same}
+use Rattle.clover_event.proofs.Turns.{busy_behind}
 use Rattle.clover_run.specs.Client.{Rests, Ends, Stands, IsKeptOrSet, Went, call_at}
 use Rattle.clover_run.specs.Ends.{end_tags}
 use Rattle.clover_run.specs.Run.{Opening, IsAnswer}

@@ -26,7 +26,7 @@ use Rattle.clover_node.specs.declared.answer.NodeTurn.{NodeTurn}
 use Rattle.clover_node.specs.declared.answer.NodeTurn.TheVariants.{More, Decided, Done, Refused as RefusedTurn}
 use Rattle.clover_node.specs.declared.counting.Counting.{Counting}
 use Rattle.clover_node.specs.declared.counting.Counting.TheVariants.{No, Names as CountsNames, Absence}
-use Rattle.clover_sched.specs.Stepping.{next_entry}
+use Rattle.clover_event.specs.Stepping.{next_entry}
 use Rattle.clover_run.specs.Client.{Phase, Rests, Wants, Calls, Ends, IsOwnPhase, Stands, call_at, call_or}
 use Rattle.clover_run.specs.Run.{Opening}
 use Rattle.clover_run.specs.Stepping.{Accesses, Enters, IsFound, IsValue}

@@ -28,12 +28,12 @@ use Rattle.clover_node.specs.declared.answer.NodeTurn.{NodeTurn}
 use Rattle.clover_node.specs.declared.answer.NodeTurn.TheVariants.{Decided, Done}
 use Rattle.clover_node.specs.declared.counting.Counting.{Counting}
 use Rattle.clover_node.specs.declared.counting.Counting.TheVariants.{No}
-use Rattle.clover_sched.specs.Client.{access, HasLinked}
-use Rattle.clover_sched.specs.Stepping.{next_entry}
-use Rattle.clover_sched.proofs.Advancing.{goes_on, answers}
-use Rattle.clover_sched.proofs.Linking.{linked_now, link_act}
-use Rattle.clover_sched.proofs.Places.{same_snoc}
-use Rattle.clover_sched.proofs.Turns.{busy_behind, commits_always, commits_nothing}
+use Rattle.clover_event.specs.Client.{access, HasLinked}
+use Rattle.clover_event.specs.Stepping.{next_entry}
+use Rattle.clover_event.proofs.Advancing.{goes_on, answers}
+use Rattle.clover_event.proofs.Linking.{linked_now, link_act}
+use Rattle.clover_event.proofs.Places.{same_snoc}
+use Rattle.clover_event.proofs.Turns.{busy_behind, commits_always, commits_nothing}
 use Rattle.clover_run.specs.Alone.{Advances}
 use Rattle.clover_run.specs.Client.{Rests, Calls, Ends, Stands, Matches, IsKeptOrSet, Went, call_at, since_of, step_record, call_or}
 use Rattle.clover_run.specs.Ends.{end_tags, seen_tags}
@@ -47,8 +47,8 @@ use Rattle.clover_run.proofs.Entering.{decides_so, last_in, moved_in, number_in,
 use Rattle.clover_run.proofs.Linking.{answer_tags, answered_advances, quiet_advances, seen_tail, under_named, wants_nothing}
 use Rattle.clover_run.proofs.OnSlots.{OnSlot, called_by, on_slot, slot_says, uncommitted_of_open}
 use Rattle.clover_script.specs.declared.line.Task.TheVariants.{Client as ClientTask}
-use Rattle.clover_sched.specs.Alone.{Advances as SchedAdvances}
-use Rattle.clover_sched.specs.declared.event.Note.TheVariants.{Answered as SchedAnswered}
+use Rattle.clover_event.specs.Alone.{Advances as SchedAdvances}
+use Rattle.clover_event.specs.declared.event.Note.TheVariants.{Answered as SchedAnswered}
 
 module _ (o : Opening) (i : ℕ) (x : ClientState) (p q : Plain) (st : Stands o p i x Calls) (few : p.made < 2 ^ 64 - 1) (y : ClientState) where
   abbrev v : View

@@ -23,9 +23,9 @@ use Rattle.clover_rule.specs.declared.view.View.{View}
 use Rattle.clover_port.specs.Told.{Open, Made, opened}
 use Rattle.clover_plain.specs.Plain.{Plain, Stepped, KeptButEntries, view_at, history, open_of}
 use Rattle.clover_walk.proofs.Endings.{stepped}
-use Rattle.clover_sched.specs.Client.{IsLast, access}
-use Rattle.clover_sched.specs.Stepping.{next_entry}
-use Rattle.clover_sched.proofs.Going.{number_more}
+use Rattle.clover_event.specs.Client.{IsLast, access}
+use Rattle.clover_event.specs.Stepping.{next_entry}
+use Rattle.clover_event.proofs.Going.{number_more}
 use Rattle.clover_run.specs.Client.{Calls, Stands, IsOf, IsTaskOf, Moved, KeepsOthers, call_at, step_record}
 use Rattle.clover_run.specs.Run.{Opening, Standing, IsCause, IsOwnAccess, TakesFirst}
 use Rattle.clover_run.specs.declared.client.ClientState.{ClientState}

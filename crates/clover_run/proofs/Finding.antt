@@ -1,5 +1,5 @@
 -- What is found at any moment in a pool that runs: from its root the chain of each bound slot leads over some tags to a tail, which has a version.
-use Rattle.std.proofs.Common.{◌≡◌, ◌⊎◌, ℕ, ◌<◌, List, [], ◌∷◌, ◌++◌, length, sym, ap, ◌∙◌, subst, arith, inl, inr}
+use Rattle.std.proofs.Common.{◌≡◌, ◌⊎◌, ℕ, ◌<◌, List, [], ◌∷◌, ◌++◌, length, length-append, sym, ap, ◌∙◌, subst, arith, inl, inr}
 use Rattle.std.specs.Prelude.{Some}
 use Rattle.clover_words.specs.declared.setup.Setup.{Setup}
 use Rattle.clover_rule.specs.Lists.{nth, Within}
@@ -18,8 +18,8 @@ use Rattle.clover_plain.proofs.Opening.{server_role}
 use Rattle.clover_plain.proofs.Seating.{at_front}
 use Rattle.clover_plain.proofs.Stepping.{nth_default}
 use Rattle.clover_server.specs.Server.{ServerState}
-use Rattle.clover_sched.specs.Alone.{HasChain}
-use Rattle.clover_sched.proofs.Finding.{from_root}
+use Rattle.clover_event.specs.Alone.{HasChain}
+use Rattle.clover_event.proofs.Finding.{from_root}
 use Rattle.clover_run.specs.Alone.{AllFound}
 use Rattle.clover_run.specs.Folds.{words_after, served_after}
 use Rattle.clover_run.specs.Record.{Record}
@@ -87,6 +87,16 @@ module _ (o : Opening) (p : Plain) (s : ServerState) (setup : p.setup ≡ o.setu
   chains slot key named =
       let f = from_root o.setup.pool p.first p.used p.words (p.views ++ p.absent) story (history p) (met_in o p setup running) slot key (bound_key slot key named) in
       record { tags = f.tags; tail = f.tail; leads = f.leads; version = f.version; has = f.has }
+
+  -- and the count is the number of the server's bindings
+  pub counted : (mem_of p.setup.pool p.words).count ≡ length s.directory.list
+  counted =
+      let serves = met.whole.serves p.setup.clients v (seat_here p p.setup.clients server.seat) is_serving in
+      let both : length (s.directory.list ++ waiting_name v.server.task) ≡ length (story.bindings ++ waiting_name story.task) = ap length (sym server.agrees.directory.list ∙ serves.directory) in
+      let same : length (waiting_name v.server.task) ≡ length (waiting_name story.task) = ap (λ (t : ServerTask). length (waiting_name t)) serves.task_is in
+      let one = length-append s.directory.list (waiting_name v.server.task) in
+      let other = length-append story.bindings (waiting_name story.task) in
+      met.whole.help.naming.counted ∙ omega arith
 
 -- each slot that is bound behind these records has a chain
 abbrev BoundFound : Opening → List Record → Type 0

@@ -1,7 +1,10 @@
--- A buffer that the server's books have as free lies free at any moment of a run: so the rule has it of a pool that runs.
+-- A buffer that the server's books have as free lies free at any moment of a run, and the count is the number of bindings: so the rule has it of a pool that runs.
 use Rattle.std.proofs.Common.{◌≡◌, ℕ, suc, ◌<◌, List, [], ◌∷◌, ◌++◌, length, true, sym, ap, ◌∙◌, subst, arith, inl, inr, ◌⊎◌, append-nil}
 use Rattle.std.specs.Prelude.{Some}
+use Rattle.clover_words.specs.Place.{copy_in}
 use Rattle.clover_words.specs.declared.setup.Setup.{Setup}
+use Rattle.clover_words.specs.declared.word.Side.TheVariants.{Current}
+use Rattle.clover_words.specs.declared.word.Word.TheVariants.{Count}
 use Rattle.clover_words.specs.Version.{buffer_at}
 use Rattle.clover_map.specs.Legal.{used_by}
 use Rattle.clover_map.specs.declared.call.Entry.{Entry}
@@ -19,8 +22,9 @@ use Rattle.clover_plain.specs.Plain.{Plain, Running, history, view_at}
 use Rattle.clover_server.specs.Laws.{AreElsewhere, IsOld, IsVacant}
 use Rattle.clover_server.specs.Server.{ServerState}
 use Rattle.clover_server.proofs.Vacant.{vacant}
-use Rattle.clover_sched.proofs.Chains.{one_walk}
-use Rattle.clover_run.specs.Folds.{entries_in, served_after, doing}
+use Rattle.clover_event.proofs.Chains.{one_walk}
+use Rattle.clover_run.specs.Alone.{AllCounted}
+use Rattle.clover_run.specs.Folds.{entries_in, words_after, served_after, doing}
 use Rattle.clover_run.specs.Freed.{mem_behind, FreeLie, AllFree}
 use Rattle.clover_run.specs.Machine.{Parts, IsAt, IsPoolAt, IsClientAt}
 use Rattle.clover_run.specs.Record.{Record}
@@ -28,7 +32,7 @@ use Rattle.clover_run.specs.Run.{Opening}
 use Rattle.clover_run.specs.Working.{HasServer}
 use Rattle.clover_run.specs.declared.client.ClientState.{ClientState}
 use Rattle.clover_run.specs.declared.served.Served.{Served}
-use Rattle.clover_run.proofs.Finding.{seat_here, is_serving}
+use Rattle.clover_run.proofs.Finding.{seat_here, is_serving, counted}
 use Rattle.clover_run.proofs.Listed.{nth_in}
 use Rattle.clover_run.proofs.Moments.{at_more}
 
@@ -109,3 +113,21 @@ module _ (o : Opening) (m n : Parts) (rs : List Record) (r : Record) (at : IsAt 
   pub free_behind : RunsOrStays m n → AllFree o new
   free_behind (inl running) = at_more (FreeLie o) rs r at.free (free_lie o new n.pool n.served.server n.clients pool running server (ap (λ (v : Served). v.server) side) count each)
   free_behind (inr left) = at_more (FreeLie o) rs r at.free (stays left.0 left.1)
+
+-- the count is the number of bindings behind one record more, too
+abbrev pub CountsBindings : Opening → List Record → Type 0
+CountsBindings o rs = copy_in o.setup.pool (words_after o.setup.pool o.words rs) Count Current ≡ length (served_after o.served rs).server.directory.list
+
+pub counted_at : (o : Opening) (rs : List Record) (p : Plain) (s : ServerState) → IsPoolAt o p rs → Running p → HasServer p s → s ≡ (served_after o.served rs).server → CountsBindings o rs
+counted_at o rs p s at running server same =
+    ap (λ (ws : List ℕ). copy_in o.setup.pool ws Count Current) (sym at.words)
+    ∙ ap (λ (u : Setup). copy_in u.pool p.words Count Current) (sym at.setup)
+    ∙ counted o p s at.setup running server
+    ∙ ap (λ (t : ServerState). length t.directory.list) same
+
+pub counted_behind : (o : Opening) (m n : Parts) (rs : List Record) (r : Record) → IsAt o m rs → IsPoolAt o n.pool (rs ++ r ∷ []) → HasServer n.pool n.served.server → n.served ≡ served_after o.served (rs ++ r ∷ []) → RunsOrStays m n → AllCounted o (rs ++ r ∷ [])
+counted_behind o m n rs r at pool server side (inl running) = at_more (CountsBindings o) rs r at.counted (counted_at o (rs ++ r ∷ []) n.pool n.served.server pool running server (ap (λ (v : Served). v.server) side))
+counted_behind o m n rs r at pool server side (inr left) = at_more (CountsBindings o) rs r at.counted
+    (ap (λ (ws : List ℕ). copy_in o.setup.pool ws Count Current) (sym pool.words ∙ ap (λ (q : Plain). q.words) left.0 ∙ at.pool.words)
+    ∙ at.counted rs [] (sym (append-nil rs))
+    ∙ ap (λ (v : ServerState). length v.directory.list) (ap (λ (v : Served). v.server) (sym at.served) ∙ sym left.1 ∙ ap (λ (v : Served). v.server) side))

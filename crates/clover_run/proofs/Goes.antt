@@ -30,13 +30,13 @@ use Rattle.clover_node.specs.Node.{NodeState, NodeHolds, IsAsked, first_of as no
 use Rattle.clover_node.specs.declared.answer.NodeRefusal.TheVariants.{NeedsStock}
 use Rattle.clover_node.specs.declared.counting.Counting.{Counting}
 use Rattle.clover_node.specs.declared.counting.Counting.TheVariants.{No, Names as CountsNames, Absence}
-use Rattle.clover_sched.specs.Client.{since_of as since_under}
-use Rattle.clover_sched.specs.Ends.{MayBegin}
-use Rattle.clover_sched.specs.Machine.{most_made}
-use Rattle.clover_sched.specs.Run.{room}
-use Rattle.clover_sched.proofs.Bound.{AreBindings}
-use Rattle.clover_sched.proofs.Budget.{leads_within, begun_within}
-use Rattle.clover_sched.proofs.Dues.{after_turns, more_allow, stands_turns, under_within, words_fit}
+use Rattle.clover_event.specs.Client.{since_of as since_under}
+use Rattle.clover_event.specs.Ends.{MayBegin}
+use Rattle.clover_event.specs.Machine.{most_made}
+use Rattle.clover_event.specs.Run.{room}
+use Rattle.clover_event.proofs.Bound.{AreBindings}
+use Rattle.clover_event.proofs.Budget.{leads_within, begun_within}
+use Rattle.clover_event.proofs.Dues.{after_turns, more_allow, stands_turns, under_within, words_fit}
 use Rattle.clover_run.specs.Client.{GoesSoFar, MakesDue, Remembers, Started, call_at, call_or, since_of}
 use Rattle.clover_run.specs.Run.{Opening, Standing, IsCalling, IsDue, IsDueOn, Tells, first_of, known_slot, own_tag}
 use Rattle.clover_run.specs.Wanting.{slot_for}

@@ -7,9 +7,9 @@ use Rattle.clover_rule.specs.declared.access.Access.{Access}
 use Rattle.clover_plain.specs.Plain.{Plain, Running}
 use Rattle.clover_map.specs.declared.call.Call.{Call}
 use Rattle.clover_script.specs.declared.line.Task.TheVariants.{Client as ClientTask}
-use Rattle.clover_sched.specs.Client.{IsCallTask}
-use Rattle.clover_sched.specs.declared.event.Event.{Event}
-use Rattle.clover_sched.specs.declared.event.Event.TheVariants.{Begin, Refuse}
+use Rattle.clover_event.specs.Client.{IsCallTask}
+use Rattle.clover_event.specs.declared.event.Event.{Event}
+use Rattle.clover_event.specs.declared.event.Event.TheVariants.{Begin, Refuse}
 use Rattle.clover_run.specs.Client.{HasTask, Rests, Stands, Begun}
 use Rattle.clover_run.specs.Machine.{Parts, IsAt, IsBehind, Happens}
 use Rattle.clover_run.specs.Record.{Record}

@@ -9,8 +9,8 @@ use Rattle.clover_rule.specs.Moves.{nobody}
 use Rattle.clover_rule.specs.declared.view.View.{View}
 use Rattle.clover_plain.specs.Plain.{Plain, Kept, history, view_at}
 use Rattle.clover_node.specs.Node.{NodeHolds}
-use Rattle.clover_sched.specs.Alone.{EndsIn}
-use Rattle.clover_sched.specs.Client.{HasLinked}
+use Rattle.clover_event.specs.Alone.{EndsIn}
+use Rattle.clover_event.specs.Client.{HasLinked}
 use Rattle.clover_run.specs.Client.{IsIn, IsOf, Matches, Phase, Rests, Wants, Calls, Ends, Stands, Went, call_at, call_or, since_of}
 use Rattle.clover_run.specs.Run.{IsCounting, Opening, Standing}
 use Rattle.clover_run.specs.declared.client.ClientState.{ClientState}

@@ -21,7 +21,7 @@ use Rattle.clover_node.specs.declared.counting.Counting.{Counting}
 use Rattle.clover_node.specs.declared.counting.Counting.TheVariants.{No, Names as ForNames, Absence}
 use Rattle.clover_server.specs.Left.{work_left}
 use Rattle.clover_server.specs.Server.{ServerState}
-use Rattle.clover_sched.specs.Machine.{most_made}
+use Rattle.clover_event.specs.Machine.{most_made}
 use Rattle.clover_script.specs.declared.line.Task.{Task}
 use Rattle.clover_run.specs.Client.{Phase, Rests, Wants, Calls, Ends, IsIn, IsOwnPhase, IsOf, IsTaskOf, Matches, Stands, Went, call_at, since_of, step_record}
 use Rattle.clover_run.specs.Folds.{Doing, ends, ended_if, granted, entered, accessed, stepped}

@@ -71,3 +71,6 @@ pub mod RecyclerMoves
 pub mod Recycled
 pub mod RecyclerSteps
 pub mod RecyclerKept
+pub mod Paying
+pub mod Learning
+pub mod Rounding

@@ -30,12 +30,12 @@ use Rattle.clover_call.specs.declared.answer.CallerTurn.TheVariants.{Done}
 use Rattle.clover_call.specs.declared.under.Underway.{Underway}
 use Rattle.clover_call.specs.declared.under.Underway.TheVariants.{Nothing, Get, Write}
 use Rattle.clover_call.proofs.Staying.{shortens_at}
-use Rattle.clover_sched.specs.Alone.{Advances as SchedAdvances, NotesWith as SchedNotes}
-use Rattle.clover_sched.specs.Client.{HasLinked, LinkedAt}
-use Rattle.clover_sched.specs.Run.{Flushes}
-use Rattle.clover_sched.specs.declared.event.Note.TheVariants.{Quiet as SchedQuiet, Answered as SchedAnswered}
-use Rattle.clover_sched.proofs.Remembering.{key_of_call}
-use Rattle.clover_sched.proofs.Turns.{seen_dead}
+use Rattle.clover_event.specs.Alone.{Advances as SchedAdvances, NotesWith as SchedNotes}
+use Rattle.clover_event.specs.Client.{HasLinked, LinkedAt}
+use Rattle.clover_event.specs.Run.{Flushes}
+use Rattle.clover_event.specs.declared.event.Note.TheVariants.{Quiet as SchedQuiet, Answered as SchedAnswered}
+use Rattle.clover_event.proofs.Remembering.{key_of_call}
+use Rattle.clover_event.proofs.Turns.{seen_dead}
 use Rattle.clover_run.specs.Alone.{Advances, NotesWith}
 use Rattle.clover_run.specs.Ends.{end_tags, seen_tags}
 use Rattle.clover_run.specs.Run.{Standing, EndsCommit, IsAnswer}

@@ -18,8 +18,8 @@ use Rattle.clover_plain.proofs.Stepping.{nth_default}
 use Rattle.clover_walk.specs.Walking.{key_at}
 use Rattle.clover_node.specs.Node.{NodeState, IsIdle}
 use Rattle.clover_server.specs.Holding.{Agrees}
-use Rattle.clover_sched.specs.Client.{HasLinked}
-use Rattle.clover_sched.specs.Ends.{IsLatest}
+use Rattle.clover_event.specs.Client.{HasLinked}
+use Rattle.clover_event.specs.Ends.{IsLatest}
 use Rattle.clover_run.specs.Client.{IsFirst, Rests, Stands, Remembers, call_at}
 use Rattle.clover_run.specs.Folds.{nothing}
 use Rattle.clover_run.specs.Freed.{FreeLie}
@@ -31,7 +31,7 @@ use Rattle.clover_run.specs.declared.client.ClientState.{ClientState}
 use Rattle.clover_run.specs.declared.recycler.Chore.{Chore}
 use Rattle.clover_run.specs.declared.served.Served.{Served}
 use Rattle.clover_run.proofs.Finding.{found_first}
-use Rattle.clover_run.proofs.Freed.{free_lie}
+use Rattle.clover_run.proofs.Freed.{CountsBindings, counted_at, free_lie}
 use Rattle.clover_run.proofs.Moments.{at_first}
 use Rattle.clover_run.proofs.Lacking.{free_lacks}
 
@@ -147,7 +147,9 @@ module _ (m : Parts) (s : Setup) (setup : m.setup ≡ s) (made : IsNew s m.pool)
     each = each;
     far = λ a above. refl;
     legal = tt;
+    begins = refl;
     found = found_first (first_opening s) refl;
+    counted = λ before after whole. at_first (CountsBindings (first_opening s)) (counted_at (first_opening s) [] m.pool m.served.server pool running server (ap (λ (v : Served). v.server) side.value)) before after whole;
     free = at_first (FreeLie (first_opening s)) (free_lie (first_opening s) [] m.pool m.served.server m.clients pool running server (ap (λ (v : Served). v.server) side.value) count each);
     alone = alone;
   }

@@ -1,6 +1,6 @@
 -- What holds between any two records: it holds before the first, and where it holds behind one record more.
 use Rattle.std.proofs.Common.{◌≡◌, List, [], ◌∷◌, ◌++◌, refl, sym, ap, ◌∙◌, subst, inl, inr, ◌⊎◌, append_assoc, append-nil}
-use Rattle.clover_sched.proofs.Places.{same_snoc}
+use Rattle.clover_event.proofs.Places.{same_snoc}
 use Rattle.clover_run.specs.Record.{Record}
 use Rattle.clover_run.proofs.Stretch.{ending}
 

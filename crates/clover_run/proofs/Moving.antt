@@ -12,7 +12,7 @@ use Rattle.clover_rule.specs.Rule.{longest}
 use Rattle.clover_rule.specs.Steps.{Step, Operation, loads, stores, exchanges, raises, operation_of, act_on, act_of, word_of}
 use Rattle.clover_rule.specs.declared.access.Access.{Access}
 use Rattle.clover_rule.specs.declared.access.Act.{Act}
-use Rattle.clover_rule.specs.declared.access.Actor.TheVariants.{Client, Server}
+use Rattle.clover_rule.specs.declared.access.Actor.TheVariants.{Client, Restart, Server}
 use Rattle.clover_rule.specs.declared.view.View.{View}
 use Rattle.clover_rule.proofs.Acting.{access_law}
 use Rattle.clover_rule.proofs.Ties.{test_below}
@@ -20,14 +20,14 @@ use Rattle.clover_words.specs.declared.setup.Setup.{Setup}
 use Rattle.clover_words.specs.declared.word.Word.{Word}
 use Rattle.clover_port.specs.Told.{Open, Made}
 use Rattle.clover_plain.specs.Plain.{Plain, Kept, KeptButEntries, Refused as RefusedAt, Stepped, access as listed_access, grown, history, open_of, view_at}
-use Rattle.clover_sched.specs.Client.{access}
-use Rattle.clover_sched.specs.Folds.{made_by, words_by}
-use Rattle.clover_sched.specs.Run.{IsBlank}
+use Rattle.clover_event.specs.Client.{access}
+use Rattle.clover_event.specs.Folds.{made_by, words_by}
+use Rattle.clover_event.specs.Run.{IsBlank}
 use Rattle.clover_run.specs.Client.{KeepsOthers, Moved}
 
 -- whose the access of a seat is: a client's, or behind all clients the server's
 pub client_access : (s : Setup) (i : ℕ) (act : Act) (refused : Bool) → i < s.clients → listed_access s i act refused ≡ access i act refused
-client_access s i act refused h = ap (λ (b : Bool). record { actor = cond b (Client (suc i)) Server; act = act; refused = refused }) (test_below i s.clients h)
+client_access s i act refused h = ap (λ (b : Bool). record { actor = cond b (Client (suc i)) (cond (nat_lt s.clients i) Restart Server); act = act; refused = refused }) (test_below i s.clients h)
 
 abbrev pub servers_access : Act → Bool → Access
 servers_access act refused = record { actor = Server; act = act; refused = refused }
@@ -36,7 +36,7 @@ test_same : (n : ℕ) → nat_lt n n ≡ false
 test_same n = grind (arith, nat_tests)
 
 pub server_access : (s : Setup) (act : Act) (refused : Bool) → listed_access s s.clients act refused ≡ servers_access act refused
-server_access s act refused = ap (λ (b : Bool). record { actor = cond b (Client (suc s.clients)) Server; act = act; refused = refused }) (test_same s.clients)
+server_access s act refused = ap (λ (b : Bool). record { actor = cond b (Client (suc s.clients)) (cond b Restart Server); act = act; refused = refused }) (test_same s.clients)
 
 -- a list that grows by an access, where accesses are listed
 grown_listed : (t : Bool) (xs : List Access) (x : Access) → grown (t && true) xs x ≡ (if t then xs ++ x ∷ [] else xs)

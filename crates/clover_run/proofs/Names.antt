@@ -13,7 +13,7 @@ use Rattle.clover_rule.proofs.Keys.{eq_key}
 use Rattle.clover_rule.proofs.Snocs.{within_nth}
 use Rattle.clover_dir.specs.Names.{IsNew}
 use Rattle.clover_walk.specs.Walking.{key_at}
-use Rattle.clover_sched.proofs.Bound.{AreBindings}
+use Rattle.clover_event.proofs.Bound.{AreBindings}
 use Rattle.clover_run.specs.Wanting.{slot_for}
 
 -- where the key has a slot, that is bound to it

@@ -15,10 +15,10 @@ use Rattle.clover_rule.specs.declared.view.View.{View}
 use Rattle.clover_plain.specs.Plain.{Plain, view_at, history}
 use Rattle.clover_call.specs.Caller.{HasCommitted}
 use Rattle.clover_call.specs.declared.under.Underway.TheVariants.{Nothing as NoCall}
-use Rattle.clover_sched.specs.Alone.{HasChain}
-use Rattle.clover_sched.specs.Folds.{actor_of}
-use Rattle.clover_sched.specs.declared.event.Event.{Event}
-use Rattle.clover_sched.specs.declared.event.Event.TheVariants.{Begin, Step, Refuse}
+use Rattle.clover_event.specs.Alone.{HasChain}
+use Rattle.clover_event.specs.Folds.{actor_of}
+use Rattle.clover_event.specs.declared.event.Event.{Event}
+use Rattle.clover_event.specs.declared.event.Event.TheVariants.{Begin, Step, Refuse}
 use Rattle.clover_run.specs.Alone.{Starts, IsOwnStep, AllFound}
 use Rattle.clover_run.specs.Client.{LacksNames, Phase, Rests, Wants, Calls, Ends, HasTask, Stands, Matches, Moved, GoesSoFar, Remembers, call_at}
 use Rattle.clover_run.specs.Ends.{ended}

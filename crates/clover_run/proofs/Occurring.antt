@@ -10,9 +10,9 @@ use Rattle.clover_rule.specs.declared.view.View.{View}
 use Rattle.clover_plain.specs.Plain.{Plain, Kept, Running, view_at}
 use Rattle.clover_words.specs.declared.pool.Pool.{Pool}
 use Rattle.clover_call.specs.declared.under.Underway.TheVariants.{Nothing as NoCall}
-use Rattle.clover_sched.specs.Machine.{most_made}
-use Rattle.clover_sched.specs.declared.event.Event.TheVariants.{Step}
-use Rattle.clover_sched.proofs.Places.{nth_here, set_same}
+use Rattle.clover_event.specs.Machine.{most_made}
+use Rattle.clover_event.specs.declared.event.Event.TheVariants.{Step}
+use Rattle.clover_event.proofs.Places.{nth_here, set_same}
 use Rattle.clover_run.specs.Client.{HasTask, IsOwnPhase, Phase, Wants, Stands, Went, Matches, call_at, since_of, LacksNames, GoesSoFar}
 use Rattle.clover_run.specs.Folds.{accesses_in, doing}
 use Rattle.clover_run.specs.Left.{left, left_by}
@@ -78,7 +78,9 @@ kept_at o m n rs same at =
       };
       far = at.far;
       legal = at.legal;
+      begins = at.begins;
       found = at.found;
+      counted = at.counted;
       free = at.free;
       alone = subst (λ (ws : List ℕ). AloneSoFar o ws n.clients rs) (sym k.words) (subst (λ (cs : List ClientState). AloneSoFar o m.pool.words cs rs) (sym same.clients) at.alone);
     }

@@ -27,14 +27,14 @@ use Rattle.clover_node.specs.declared.answer.NodeTurn.{NodeTurn}
 use Rattle.clover_node.specs.declared.answer.NodeTurn.TheVariants.{More, Refused as RefusedTurn}
 use Rattle.clover_node.specs.declared.counting.Counting.{Counting}
 use Rattle.clover_node.specs.declared.counting.Counting.TheVariants.{No, Names, Absence}
-use Rattle.clover_sched.specs.Client.{access}
-use Rattle.clover_sched.specs.declared.event.CallRefusal.{CallRefusal}
-use Rattle.clover_sched.specs.declared.event.CallRefusal.TheVariants as why
-use Rattle.clover_sched.specs.Run.{lost}
-use Rattle.clover_sched.proofs.Advancing.{goes_on, stays_ahead}
-use Rattle.clover_sched.proofs.Going.{number_same}
-use Rattle.clover_sched.proofs.Linking.{linked_more, lost_commit}
-use Rattle.clover_sched.proofs.Turns.{quiet_history, quiet_act}
+use Rattle.clover_event.specs.Client.{access}
+use Rattle.clover_event.specs.declared.event.CallRefusal.{CallRefusal}
+use Rattle.clover_event.specs.declared.event.CallRefusal.TheVariants as why
+use Rattle.clover_event.specs.Run.{lost}
+use Rattle.clover_event.proofs.Advancing.{goes_on, stays_ahead}
+use Rattle.clover_event.proofs.Going.{number_same}
+use Rattle.clover_event.proofs.Linking.{linked_more, lost_commit}
+use Rattle.clover_event.proofs.Turns.{quiet_history, quiet_act}
 use Rattle.clover_run.specs.Client.{Phase, Rests, Calls, Ends, IsOwnPhase, Stands, IsDoing, Went, call_at, since_of}
 use Rattle.clover_run.specs.Folds.{Doing}
 use Rattle.clover_run.specs.Run.{Opening}

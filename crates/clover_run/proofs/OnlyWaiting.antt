@@ -10,7 +10,7 @@ use Rattle.clover_rule.specs.Lists.{nth}
 use Rattle.clover_rule.specs.declared.access.Access.{Access}
 use Rattle.clover_rule.proofs.Tools.{nth_past}
 use Rattle.clover_plain.specs.Plain.{view_at}
-use Rattle.clover_sched.specs.declared.event.Event.TheVariants.{Step}
+use Rattle.clover_event.specs.declared.event.Event.TheVariants.{Step}
 use Rattle.clover_run.specs.Client.{Phase, Rests, Wants, Calls, Ends, IsDoing, IsIn, call_at}
 use Rattle.clover_run.specs.Folds.{doing}
 use Rattle.clover_run.specs.Machine.{Parts, IsAt, IsBusy, IsTasked, IsTold, Happens, OnlyWaits, WaitsFor}

@@ -23,9 +23,9 @@ use Rattle.clover_call.specs.Calling.{begun_call, LeadsTo}
 use Rattle.clover_call.specs.Mirroring.{Mirrors}
 use Rattle.clover_call.specs.declared.under.Underway.TheVariants.{Nothing as NoCall}
 use Rattle.clover_node.specs.Node.{NodeHolds}
-use Rattle.clover_sched.specs.Client.{HasLinked}
-use Rattle.clover_sched.specs.Ends.{MayBegin}
-use Rattle.clover_sched.specs.Folds.{words_by, made_by, actor_of}
+use Rattle.clover_event.specs.Client.{HasLinked}
+use Rattle.clover_event.specs.Ends.{MayBegin}
+use Rattle.clover_event.specs.Folds.{words_by, made_by, actor_of}
 use Rattle.clover_run.specs.Alone.{AllFound}
 use Rattle.clover_run.specs.Client.{LacksNames, Phase, Stands, Matches, Moved, IsOf, GoesSoFar, Remembers, call_at}
 use Rattle.clover_run.specs.Ends.{ended}
@@ -39,7 +39,7 @@ use Rattle.clover_run.specs.Wanting.{slot_for}
 use Rattle.clover_run.specs.Working.{HasServer}
 use Rattle.clover_run.specs.declared.client.ClientState.{ClientState}
 use Rattle.clover_run.specs.declared.served.Served.{Served}
-use Rattle.clover_run.proofs.Freed.{RunsOrStays, free_behind}
+use Rattle.clover_run.proofs.Freed.{RunsOrStays, free_behind, counted_behind}
 use Rattle.clover_run.proofs.Pasts.{accesses_more, entries_more, words_more, made_more, served_more, goes_more, doing_own, doing_other}
 
 -- one record more, from what it owes
@@ -60,7 +60,9 @@ pushed o m n rs r at follows setup pool served server recycler clients each far 
       (λ e. ap (λ (d : Doing). d.task) (doing_own a rs r e) ∙ far (doing a rs) (subst (λ (b : ℕ). o.setup.clients < b) (sym e) above) (at.far a above))
       (λ e. ap (λ (d : Doing). d.task) (doing_other a rs r e) ∙ at.far a above);
   legal = legal;
+  begins = at.begins;
   found = found;
+  counted = counted_behind o m n rs r at pool server (served ∙ sym (served_more o.served rs r)) runs;
   free = free_behind o m n rs r at pool server (served ∙ sym (served_more o.served rs r)) (clients ∙ at.clients) each runs;
   alone = alone;
 }

@@ -15,7 +15,7 @@ use Rattle.clover_node.specs.declared.answer.NodeRefusal.{NodeRefusal}
 use Rattle.clover_node.specs.declared.answer.NodeRefusal.TheVariants.{Unreached, Behind, Linked, TooLong, NeedsStock, NeedsNames}
 use Rattle.clover_node.specs.declared.answer.NodeTurn.TheVariants.{More, Decided, Done, Refused as RefusedTurn}
 use Rattle.clover_node.specs.declared.counting.Counting.TheVariants.{No}
-use Rattle.clover_sched.specs.declared.event.CallRefusal.{CallRefusal}
+use Rattle.clover_event.specs.declared.event.CallRefusal.{CallRefusal}
 use Rattle.clover_run.specs.Client.{Phase, Calls, Ends, IsOwnPhase, Stands, Went, call_at}
 use Rattle.clover_run.specs.Run.{Opening}
 use Rattle.clover_run.specs.Stepping.{Accesses, Enters, refused_as}

@@ -16,8 +16,8 @@ use Rattle.clover_rule.specs.declared.access.Actor.TheVariants.{Client}
 use Rattle.clover_rule.proofs.Steps.{prefix_self, set_here}
 use Rattle.clover_plain.specs.Plain.{Plain, Running, view_at}
 use Rattle.clover_call.specs.declared.under.Underway.TheVariants.{Nothing as NoCall}
-use Rattle.clover_sched.specs.Client.{IsLast}
-use Rattle.clover_sched.specs.declared.event.Event.TheVariants.{Step}
+use Rattle.clover_event.specs.Client.{IsLast}
+use Rattle.clover_event.specs.declared.event.Event.TheVariants.{Step}
 use Rattle.clover_run.specs.Client.{IsOwnPhase, IsOf, GoesSoFar, Remembers, Went, call_at, step_record}
 use Rattle.clover_run.specs.Ends.{ended}
 use Rattle.clover_run.specs.Folds.{doing, ends, names_of, stepped}

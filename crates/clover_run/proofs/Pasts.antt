@@ -9,7 +9,7 @@ use Rattle.clover_map.specs.declared.call.Reply.{Reply}
 use Rattle.clover_script.specs.declared.line.Task.{Task}
 use Rattle.clover_script.specs.declared.line.Task.TheVariants.{Client as ClientTask, Recycle, Sweep}
 use Rattle.clover_rule.specs.declared.access.Access.{Access}
-use Rattle.clover_sched.specs.Folds.{words_by, made_by, actor_of}
+use Rattle.clover_event.specs.Folds.{words_by, made_by, actor_of}
 use Rattle.clover_run.specs.Ends.{with_end, end_tags, ended_by, ended_from, ended}
 use Rattle.clover_run.specs.Folds.{Doing, nothing, accesses_in, entries_in, words_after, made_after, served_after, does, does_of, doing}
 use Rattle.clover_run.specs.Record.{Record}

@@ -22,7 +22,7 @@ use Rattle.clover_node.specs.Going.{IsOpen}
 use Rattle.clover_node.specs.Node.{NodeState, NodeHolds, IsAsked, IsIdle, IsUnder}
 use Rattle.clover_node.specs.declared.answer.NodeRefusal.TheVariants.{NeedsStock}
 use Rattle.clover_node.specs.declared.counting.Counting.{Counting}
-use Rattle.clover_sched.specs.Client.{HasLinked, LinkedAt}
+use Rattle.clover_event.specs.Client.{HasLinked, LinkedAt}
 use Rattle.clover_run.specs.Client.{Calls, IsCall, IsIn, Moved, Phase, Stands, Started, Wants, call_at, call_or}
 use Rattle.clover_run.specs.Run.{Opening}
 use Rattle.clover_run.specs.declared.client.ClientState.{ClientState}

@@ -25,8 +25,8 @@ use Rattle.clover_call.specs.declared.under.Underway.{Underway}
 use Rattle.clover_call.specs.declared.under.Underway.TheVariants.{Nothing as NoCall, Get as GetUnder, Write as WriteUnder}
 use Rattle.clover_node.specs.Node.{NodeState, IsAsked, IsUnder}
 use Rattle.clover_node.specs.declared.counting.Counting.{Counting}
-use Rattle.clover_sched.proofs.Bound.{AreBindings}
-use Rattle.clover_sched.proofs.Remembering.{key_of_call}
+use Rattle.clover_event.proofs.Bound.{AreBindings}
+use Rattle.clover_event.proofs.Remembering.{key_of_call}
 use Rattle.clover_run.specs.Client.{Phase, Stands, IsOwnPhase, Matches, IsOf, IsKeptOrSet, SetsCursor, Remembers, Went, call_at}
 use Rattle.clover_run.specs.Ends.{end_tags, ended_by, with_end}
 use Rattle.clover_run.specs.Run.{Opening, Standing, IsCause, IsCounting, counted}

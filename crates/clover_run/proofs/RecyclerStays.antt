@@ -2,7 +2,7 @@
 use Rattle.std.proofs.Common.{◌≡◌, ◌≢◌, List, [], ◌∷◌, ◌++◌, true, false, refl, sym, ap, ◌∙◌, subst}
 use Rattle.std.specs.Prelude.{Option, Some, None}
 use Rattle.clover_script.specs.declared.line.Task.{Task}
-use Rattle.clover_sched.specs.declared.event.Event.TheVariants.{Step}
+use Rattle.clover_event.specs.declared.event.Event.TheVariants.{Step}
 use Rattle.clover_run.specs.Cleaning.{IsCleaned}
 use Rattle.clover_run.specs.Folds.{doing}
 use Rattle.clover_run.specs.Machine.{Parts, IsAt}

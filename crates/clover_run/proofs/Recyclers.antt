@@ -11,7 +11,7 @@ use Rattle.clover_plain.specs.Plain.{Plain}
 use Rattle.clover_server.specs.Server.{ServerState}
 use Rattle.clover_server.specs.declared.turn.ServerTurn.{ServerTurn}
 use Rattle.clover_server.specs.declared.turn.ServerTurn.TheVariants.{More, Ready, Unlinked, Recycled, Full, NoSlot, Unreached}
-use Rattle.clover_sched.specs.Folds.{actor_of, made_by}
+use Rattle.clover_event.specs.Folds.{actor_of, made_by}
 use Rattle.clover_run.specs.Client.{Moved}
 use Rattle.clover_run.specs.Folds.{Doing, doing}
 use Rattle.clover_run.specs.Record.{Record}

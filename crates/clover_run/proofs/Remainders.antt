@@ -5,8 +5,8 @@ use Rattle.std.proofs.lemmas.List.Elements.{All-nil, All-cons}
 use Rattle.clover_script.specs.declared.line.Line.{Line}
 use Rattle.clover_script.specs.declared.line.Line.TheVariants as line
 use Rattle.clover_script.specs.declared.line.Task.{Task}
-use Rattle.clover_sched.specs.declared.event.Event.TheVariants.{Begin, Step}
-use Rattle.clover_sched.specs.declared.event.Event.{Event}
+use Rattle.clover_event.specs.declared.event.Event.TheVariants.{Begin, Step}
+use Rattle.clover_event.specs.declared.event.Event.{Event}
 use Rattle.clover_run.specs.declared.event.Note.{Note}
 use Rattle.clover_run.specs.declared.event.Note.TheVariants.{Quiet, Waits}
 use Rattle.clover_run.specs.declared.runner.Advance.{Advance}

@@ -15,8 +15,8 @@ use Rattle.clover_cache.proofs.Known.{held_at, last-asked, All-asked, All-set_cu
 use Rattle.clover_node.specs.Beginning.{NodeStarts, Refuses}
 use Rattle.clover_node.specs.Node.{NodeState}
 use Rattle.clover_node.specs.declared.answer.NodeRefusal.TheVariants.{NeedsStock}
-use Rattle.clover_sched.specs.Ends.{IsLatest, IsElsewhere, MayBegin}
-use Rattle.clover_sched.proofs.Bound.{AreBindings}
+use Rattle.clover_event.specs.Ends.{IsLatest, IsElsewhere, MayBegin}
+use Rattle.clover_event.proofs.Bound.{AreBindings}
 use Rattle.clover_run.specs.Client.{Remembers, Started}
 use Rattle.clover_run.specs.Wanting.{slot_for}
 use Rattle.clover_run.specs.declared.client.ClientState.{ClientState}

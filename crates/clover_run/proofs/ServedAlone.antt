@@ -24,8 +24,8 @@ use Rattle.clover_server.proofs.Repeating.{access_leaves, want_leaves}
 use Rattle.clover_node.specs.Beginning.{NodeStarts, Refuses}
 use Rattle.clover_node.specs.declared.answer.NodeRefusal.TheVariants.{NeedsStock}
 use Rattle.clover_node.specs.Node.{NodeState}
-use Rattle.clover_sched.specs.Ends.{MayBegin}
-use Rattle.clover_sched.specs.declared.event.Event.TheVariants.{Step}
+use Rattle.clover_event.specs.Ends.{MayBegin}
+use Rattle.clover_event.specs.declared.event.Event.TheVariants.{Step}
 use Rattle.clover_run.specs.Alone.{Starts, IsOwnStep}
 use Rattle.clover_run.specs.Client.{Wants, IsOf, Matches, Stands, Started, call_at, granted_to, step_record}
 use Rattle.clover_run.specs.Folds.{Doing, ends, ended_if, granted, entered, accessed, stepped}

@@ -13,8 +13,8 @@ use Rattle.clover_plain.specs.Plain.{Kept, Plain, Running, history, view_at}
 use Rattle.clover_node.specs.Node.{NodeHolds}
 use Rattle.clover_server.specs.Holding.{Agrees}
 use Rattle.clover_server.specs.Server.{ServerState}
-use Rattle.clover_sched.specs.Client.{HasLinked}
-use Rattle.clover_sched.specs.Folds.{made_by, words_by}
+use Rattle.clover_event.specs.Client.{HasLinked}
+use Rattle.clover_event.specs.Folds.{made_by, words_by}
 use Rattle.clover_run.specs.Client.{LacksNames, Matches, Moved, Phase, Stands, Wants, call_at, step_record}
 use Rattle.clover_run.specs.Run.{Opening}
 use Rattle.clover_run.specs.Serving.{IsServed}

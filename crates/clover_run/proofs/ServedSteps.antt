@@ -15,7 +15,7 @@ use Rattle.clover_server.specs.Left.{OnMore, work_left}
 use Rattle.clover_server.specs.Server.{ServerState}
 use Rattle.clover_server.specs.declared.turn.ServerTurn.{ServerTurn}
 use Rattle.clover_server.specs.declared.turn.ServerTurn.TheVariants.{More, Full as TurnFull, NoSlot as TurnNoSlot, Unreached as TurnUnreached}
-use Rattle.clover_sched.specs.declared.event.CallRefusal.TheVariants.{Unreached}
+use Rattle.clover_event.specs.declared.event.CallRefusal.TheVariants.{Unreached}
 use Rattle.clover_run.specs.Client.{IsDoing, IsOf, IsTaskOf, LacksNames, Matches, Phase, Rests, Stands, Wants, call_at, step_record, want_of}
 use Rattle.clover_run.specs.Folds.{Doing, acted, accessed, ended_if, stepped}
 use Rattle.clover_run.specs.Run.{IsAccess, Opening, Standing}

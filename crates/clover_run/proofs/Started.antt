@@ -36,10 +36,10 @@ use Rattle.clover_call.proofs.Knowing.{cursor_held}
 use Rattle.clover_node.specs.Beginning.{NodeStarts, NeedsBuffer, Refuses, own_tag}
 use Rattle.clover_node.specs.Node.{NodeState, NodeHolds, IsIdle}
 use Rattle.clover_node.specs.declared.answer.NodeRefusal.TheVariants.{NeedsStock}
-use Rattle.clover_sched.specs.Alone.{GetEnds, PutEnds, EndsIn, cost}
-use Rattle.clover_sched.specs.Ends.{MayBegin}
-use Rattle.clover_sched.proofs.Finding.{Comes, comes, durable_range, short_range}
-use Rattle.clover_sched.proofs.Starting.{comes_made, get_ends, put_ends, value_fits, dead_fits}
+use Rattle.clover_event.specs.Alone.{GetEnds, PutEnds, EndsIn, cost}
+use Rattle.clover_event.specs.Ends.{MayBegin}
+use Rattle.clover_event.proofs.Finding.{Comes, comes, durable_range, short_range}
+use Rattle.clover_event.proofs.Starting.{comes_made, get_ends, put_ends, value_fits, dead_fits}
 use Rattle.clover_run.specs.Alone.{Finds, cost_of}
 use Rattle.clover_run.specs.Client.{Started}
 use Rattle.clover_run.specs.Run.{Opening, Standing, known_slot, want_in}

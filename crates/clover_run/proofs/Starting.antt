@@ -20,7 +20,7 @@ use Rattle.clover_node.specs.Beginning.{NodeStarts, NeedsBuffer, Refuses}
 use Rattle.clover_node.specs.Node.{NodeState, NodeHolds, IsAsked, IsIdle, IsUnder}
 use Rattle.clover_node.specs.declared.answer.NodeRefusal.TheVariants.{NeedsStock}
 use Rattle.clover_node.specs.declared.counting.Counting.{Counting}
-use Rattle.clover_sched.specs.Client.{HasLinked}
+use Rattle.clover_event.specs.Client.{HasLinked}
 use Rattle.clover_run.specs.Client.{Phase, Rests, Wants, Calls, Ends, Stands, IsCall, Started, Matches, call_at, call_or}
 use Rattle.clover_run.specs.Folds.{Doing}
 use Rattle.clover_run.specs.Run.{Opening}

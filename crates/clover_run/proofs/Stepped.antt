@@ -32,7 +32,7 @@ use Rattle.clover_run.specs.Alone.{Starts, IsAnswered}
 use Rattle.clover_run.specs.Client.{Phase, Rests, Wants, Calls, Ends, IsIn, IsOwnPhase, IsTaskOf, IsDoing, Matches, IsOf, Stands, Went, call_at, since_of, step_record}
 use Rattle.clover_run.specs.Folds.{Doing, ends, ended_if, granted, entered, acted, accessed, stepped}
 use Rattle.clover_run.specs.Record.{Record}
-use Rattle.clover_run.specs.Run.{Opening, Standing, IsEntry, IsOwnAccess, standing}
+use Rattle.clover_run.specs.Run.{Opening, Standing, IsCounting, IsEntry, IsOwnAccess, standing}
 use Rattle.clover_run.specs.SoFar.{AloneSoFar}
 use Rattle.clover_run.specs.Wanting.{slot_for, wants}
 use Rattle.clover_run.specs.declared.client.ClientState.{ClientState}
@@ -249,6 +249,14 @@ module _ (o : Opening) (rs : List Record) (clients clients1 : List ClientState) 
   starts_none : (c : ℕ) → Starts c step_of.event step_of.note → ⊥
   starts_none c s = own_starts_none o.setup.pool st_of step_of w.access (suc i) refl (w.follows st_of is matches).0 c s
 
+  -- a load of the count is that of the call under way
+  counting : x.node.caller.under ≡ NoCall → w.access.refused ≡ false → (call : Call) (written : ℕ) → st_of.does.task ≡ Some (ClientTask call written) → IsCounting st_of call w.access.act note
+  counting none made call written task =
+      let b = (begun o i f x y p q note own_phase stands st_of is matches w none made).0 in
+      let same : Some (ClientTask (call_at x (view_at p i)) b.0) ≡ Some (ClientTask call written) = sym b.1 ∙ task in
+      let here : call_at x (view_at p i) ≡ call = cc in
+      subst (λ (c : Call). IsCounting st_of c w.access.act note) here (w.counts none made st_of is matches)
+
   pub alone_went : AloneSoFar o q.words clients1 (rs ++ step_of ∷ [])
   alone_went = by_refused w.access.refused refl
     where
@@ -257,7 +265,7 @@ module _ (o : Opening) (rs : List Record) (clients clients1 : List ClientState) 
           (λ c s. let z : Some w.access ≡ Some s.access = s.is in let k : w.access ≡ s.access = cc in absurd (let l : true ≡ false = sym e ∙ ap (λ (a : Access). a.refused) k ∙ s.made in cc))
       by_refused false e = alone_stepped o rs step_of p.words q.words clients clients1 at i y there x here refl
           (busy o i f x y p q note own_phase stands st_of is matches w)
-          (λ none. counted_idle o i f x y p q note own_phase stands st_of is matches w none e)
+          (λ none. (counted_idle o i f x y p q note own_phase stands st_of is matches w none e, λ call written task. (w.access, refl, counting none e call written task)))
           (λ a. answered_idle o i f x y p q note own_phase stands st_of is matches w a)
           (λ n u h. w.alone n u e h)
           (λ c call written s t h. starts_none c s)

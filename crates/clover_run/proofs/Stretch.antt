@@ -13,10 +13,10 @@ use Rattle.clover_rule.proofs.Tools.{nth_snoc, nth_within}
 use Rattle.clover_walk.specs.Alone.{way_from, LeadsOver, HasVersion}
 use Rattle.clover_call.specs.declared.under.Underway.TheVariants.{Nothing as NoCall}
 use Rattle.clover_node.specs.Node.{IsIdle}
-use Rattle.clover_sched.specs.Alone.{EndsIn, cost}
-use Rattle.clover_sched.specs.Ends.{MayBegin}
-use Rattle.clover_sched.proofs.Places.{same_snoc}
-use Rattle.clover_run.specs.Alone.{Starts, IsOwnStep, RunsAlone, Finds, cost_of, IsAnswered, NotesWith, IsAnsweredAt, EndsAlone, AllAlone}
+use Rattle.clover_event.specs.Alone.{EndsIn, cost}
+use Rattle.clover_event.specs.Ends.{MayBegin}
+use Rattle.clover_event.proofs.Places.{same_snoc}
+use Rattle.clover_run.specs.Alone.{Starts, IsOwnStep, RunsAlone, Finds, cost_of, IsAnswered, NotesWith, IsAnsweredAt, IsCount, EndsAlone, AllAlone}
 use Rattle.clover_run.specs.Ends.{ended}
 use Rattle.clover_run.specs.Folds.{words_after}
 use Rattle.clover_run.specs.Record.{Record}
@@ -80,14 +80,16 @@ abbrev pub Begins : Pool → Standing → List ℕ → List ClientState → ℕ 
 Begins p st ws clients c call None = Of clients c (λ y. y.node.caller.under ≡ NoCall)
 Begins p st ws clients c call (Some slot) = (f : Finds p st slot call) × Of clients c (λ y. EndsIn p ws (cost_of p st slot call f) y.node.caller.under y.room)
 
--- a client that has made one more step of such a call: on no slot that was its first and it is over, and on a slot as many are left of the cost as the note says, and it is over where none are
-abbrev pub Leaves : (p : Pool) (st : Standing) → List ℕ → List ClientState → (c : ℕ) (call : Call) (steps : List Record) → Note → (slot : Option ℕ) → EndsAlone p st slot call c steps → Type 0
-Leaves p st ws clients c call steps note None ends = (steps ≡ []) × Of clients c (λ y. IsIdle y.node)
-Leaves p st ws clients c call steps note (Some slot) ends = (n : ℕ) × (suc (length steps) + n ≡ cost_of p st slot call ends.0) × NotesWith c n note × Of clients c (λ y. EndsIn p ws n y.node.caller.under y.room × (n ≡ 0 → IsIdle y.node))
+-- a client that has made this one more step of such a call: on no slot that was its first, the load of the count, and it is over, and on a slot as many are left of the cost as the note says, and it is over where none are
+abbrev pub Leaves : (p : Pool) (st : Standing) → List ℕ → List ClientState → (c : ℕ) (call : Call) (steps : List Record) → Record → (slot : Option ℕ) → EndsAlone p st slot call c steps → Type 0
+Leaves p st ws clients c call steps r None ends = (steps ≡ []) × IsCount st call r × Of clients c (λ y. IsIdle y.node)
+Leaves p st ws clients c call steps r (Some slot) ends = (n : ℕ) × (suc (length steps) + n ≡ cost_of p st slot call ends.0) × NotesWith c n r.note × Of clients c (λ y. EndsIn p ws n y.node.caller.under y.room × (n ≡ 0 → IsIdle y.node))
 
 -- one step more
-abbrev ends_more : (p : Pool) (st : Standing) (ws : List ℕ) (clients : List ClientState) (c : ℕ) (call : Call) (steps more : List Record) (r : Record) → more ≡ steps ++ r ∷ [] → (slot : Option ℕ) (ends : EndsAlone p st slot call c steps) → Leaves p st ws clients c call steps r.note slot ends → EndsAlone p st slot call c more
-ends_more p st ws clients c call steps more r e None ends l = let k = length-append steps (r ∷ []) in let q : length more ≡ length (steps ++ r ∷ []) = ap length e in let z : length steps ≡ 0 = ap length l.0 in omega arith
+abbrev ends_more : (p : Pool) (st : Standing) (ws : List ℕ) (clients : List ClientState) (c : ℕ) (call : Call) (steps more : List Record) (r : Record) → more ≡ steps ++ r ∷ [] → (slot : Option ℕ) (ends : EndsAlone p st slot call c steps) → Leaves p st ws clients c call steps r slot ends → EndsAlone p st slot call c more
+ends_more p st ws clients c call steps more r e None ends l =
+    let one : more ≡ r ∷ [] = e ∙ ap (λ (s : List Record). s ++ r ∷ []) l.0 in
+    record { few = (let k : length more ≡ 1 = ap length one in omega arith); counts = subst (Each (IsCount st call)) (sym one) (l.1, tt) }
 ends_more p st ws clients c call steps more r e (Some slot) ends l = (ends.0, subst (IsAnsweredAt c (cost_of p st slot call ends.0)) (sym e) (answered_more c (cost_of p st slot call ends.0) steps r l.0 ends.1 l.1 l.2))
 
 -- what is found behind the same records
@@ -116,7 +118,7 @@ same_slot_of s t e = cc
 
 -- a call that has made no step yet
 abbrev ends_none : (o : Opening) (ws : List ℕ) (clients : List ClientState) (c : ℕ) (call : Call) (front back : List Record) → front ≡ back → (steps : List Record) → steps ≡ [] → (a b : Option ℕ) → a ≡ b → Begins o.setup.pool (standing o c front) ws clients c call a → EndsAlone o.setup.pool (standing o c back) b call c steps
-ends_none o ws clients c call front back e steps none None None q h = let z : length steps ≡ 0 = ap length none in omega arith
+ends_none o ws clients c call front back e steps none None None q h = record { few = (let z : length steps ≡ 0 = ap length none in omega arith); counts = subst (Each (IsCount (standing o c back) call)) (sym none) tt }
 ends_none o ws clients c call front back e steps none None (Some t) q h = absurd (none_some t q)
 ends_none o ws clients c call front back e steps none (Some s) None q h = absurd (some_none s q)
 ends_none o ws clients c call front back e steps none (Some s) (Some t) q h =
@@ -188,7 +190,7 @@ module _ (o : Opening) (rs : List Record) (r : Record) where
 
   module _ (all : AllAlone o rs) (ws : List ℕ) (clients : List ClientState)
       (begins : (c : ℕ) (call : Call) (written : ℕ) → Starts c r.event r.note → (standing o c all_of).does.task ≡ Some (ClientTask call written) → want_in (standing o c all_of) call ≡ Nothing → Begins o.setup.pool (standing o c all_of) ws clients c call (known_slot (standing o c all_of) call))
-      (leaves : (x : RunsAlone o rs) → x.after ≡ [] → IsOwnStep x.client r → Leaves o.setup.pool (standing o x.client x.before) ws clients x.client x.call x.steps r.note (known_slot (standing o x.client x.before) x.call) (all x)) where
+      (leaves : (x : RunsAlone o rs) → x.after ≡ [] → IsOwnStep x.client r → Leaves o.setup.pool (standing o x.client x.before) ws clients x.client x.call x.steps r (known_slot (standing o x.client x.before) x.call) (all x)) where
     begins_now : (x : RunsAlone o all_of) → Opens x → Begins o.setup.pool (standing o x.client all_of) ws clients x.client x.call (known_slot (standing o x.client all_of) x.call)
     begins_now x b = begins x.client x.call x.written b.starts (subst (λ (l : List Record). (standing o x.client l).does.task ≡ Some (ClientTask x.call x.written)) (sym b.whole) x.task) (subst (λ (l : List Record). want_in (standing o x.client l) x.call ≡ Nothing) (sym b.whole) x.free)
 
@@ -207,9 +209,9 @@ module _ (o : Opening) (rs : List Record) (r : Record) where
     more x = ends x (split x)
 
     module _ (x : RunsAlone o all_of) (i : ℕ) (y : ClientState) (seat : suc i ≡ x.client) (here : nth clients i ≡ Some y) where
-      goes_on : (g : Goes x) (slot : Option ℕ) (old : EndsAlone o.setup.pool (standing o x.client x.before) slot x.call x.client g.first) (l : Leaves o.setup.pool (standing o x.client x.before) ws clients x.client x.call g.first r.note slot old)
+      goes_on : (g : Goes x) (slot : Option ℕ) (old : EndsAlone o.setup.pool (standing o x.client x.before) slot x.call x.client g.first) (l : Leaves o.setup.pool (standing o x.client x.before) ws clients x.client x.call g.first r slot old)
           → Will o ws y all_of x slot (ends_more o.setup.pool (standing o x.client x.before) ws clients x.client x.call g.first x.steps r g.steps slot old l)
-      goes_on g None old l = inr (l.1 i y seat here)
+      goes_on g None old l = inr (l.2 i y seat here)
       goes_on g (Some slot) old l =
           let k = length-append g.first (r ∷ []) in
           let s : length x.steps ≡ length (g.first ++ r ∷ []) = ap length g.steps in

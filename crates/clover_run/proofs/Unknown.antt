@@ -26,10 +26,10 @@ use Rattle.clover_node.specs.declared.answer.NodeRefusal.TheVariants.{NeedsNames
 use Rattle.clover_node.specs.declared.answer.NodeTurn.{NodeTurn}
 use Rattle.clover_node.specs.declared.answer.NodeTurn.TheVariants.{Done, Refused as RefusedTurn}
 use Rattle.clover_node.specs.declared.counting.Counting.TheVariants.{No}
-use Rattle.clover_sched.specs.Client.{HasLinked, access}
-use Rattle.clover_sched.specs.Run.{Shortens, Wrote}
-use Rattle.clover_sched.specs.Stepping.{next_entry}
-use Rattle.clover_sched.proofs.Going.{number_same}
+use Rattle.clover_event.specs.Client.{HasLinked, access}
+use Rattle.clover_event.specs.Run.{Shortens, Wrote}
+use Rattle.clover_event.specs.Stepping.{next_entry}
+use Rattle.clover_event.proofs.Going.{number_same}
 use Rattle.clover_run.specs.Client.{Rests, Wants, Calls, Stands, IsKeptOrSet, Went, call_at, call_or, since_of}
 use Rattle.clover_run.specs.Ends.{end_tags}
 use Rattle.clover_run.specs.Folds.{Doing}

@@ -13,10 +13,10 @@ use Rattle.clover_server.specs.Server.{ServerState}
 use Rattle.clover_server.specs.declared.turn.ServerTurn.{ServerTurn}
 use Rattle.clover_server.specs.declared.turn.ServerTurn.TheVariants.{More, Ready, Unlinked, Recycled, Full as TurnFull, NoSlot as TurnNoSlot, Unreached as TurnUnreached}
 use Rattle.clover_server.specs.declared.work.Unfinished.{Unfinished}
-use Rattle.clover_sched.specs.Run.{lost}
-use Rattle.clover_sched.specs.declared.event.Event.{Event}
-use Rattle.clover_sched.specs.declared.event.Event.TheVariants.{Step}
-use Rattle.clover_sched.specs.declared.event.CallRefusal.TheVariants.{Unreached}
+use Rattle.clover_event.specs.Run.{lost}
+use Rattle.clover_event.specs.declared.event.Event.{Event}
+use Rattle.clover_event.specs.declared.event.Event.TheVariants.{Step}
+use Rattle.clover_event.specs.declared.event.CallRefusal.TheVariants.{Unreached}
 use Rattle.clover_rule.specs.declared.view.View.{View}
 use Rattle.clover_rule.proofs.Tools.{nth_past}
 use Rattle.clover_run.specs.Cleaning.{CleansOrEnds, IsCleaned, IsCleaning, cleaned, clean_note, slot_due, swept_note}

@@ -5,7 +5,10 @@ use Rattle.clover_map.specs.History.{key_of}
 use Rattle.clover_map.specs.declared.bytes.Value.{Value}
 use Rattle.clover_map.specs.declared.call.Call.{Call}
 use Rattle.clover_words.specs.declared.bytes.ValueBuf.{ValueBuf}
+use Rattle.clover_words.specs.Place.{copy_in}
 use Rattle.clover_words.specs.declared.pool.Pool.{Pool}
+use Rattle.clover_words.specs.declared.word.Side.TheVariants.{Current}
+use Rattle.clover_words.specs.declared.word.Word.TheVariants.{Count}
 use Rattle.clover_script.specs.declared.line.Task.TheVariants.{Client as ClientTask}
 use Rattle.clover_rule.specs.Lists.{Each, nth, Within}
 use Rattle.clover_rule.specs.Words.{mem_of}
@@ -13,15 +16,15 @@ use Rattle.clover_rule.specs.declared.access.Access.{Access}
 use Rattle.clover_rule.specs.declared.access.Actor.TheVariants.{Client}
 use Rattle.clover_walk.specs.Alone.{Way, way_from, LeadsOver, HasVersion}
 use Rattle.clover_call.specs.declared.under.Underway.{Underway}
-use Rattle.clover_sched.specs.declared.event.Event.{Event}
-use Rattle.clover_sched.specs.declared.event.Event.TheVariants.{Begin, Step}
+use Rattle.clover_event.specs.declared.event.Event.{Event}
+use Rattle.clover_event.specs.declared.event.Event.TheVariants.{Begin, Step}
 use Rattle.clover_run.specs.declared.event.Note.{Note}
 use Rattle.clover_run.specs.declared.event.Note.TheVariants.{Quiet, Answered, Granted}
-use Rattle.clover_sched.specs.Alone.{EndsIn, HasChain, cost}
-use Rattle.clover_sched.specs.Ends.{MayBegin}
+use Rattle.clover_event.specs.Alone.{EndsIn, HasChain, cost}
+use Rattle.clover_event.specs.Ends.{MayBegin}
 use Rattle.clover_run.specs.Folds.{words_after, served_after}
 use Rattle.clover_run.specs.Record.{Record}
-use Rattle.clover_run.specs.Run.{Opening, Standing, standing, known_slot, want_in}
+use Rattle.clover_run.specs.Run.{Opening, Standing, IsCounting, standing, known_slot, want_in}
 use Rattle.clover_run.specs.declared.want.Want.TheVariants.{Nothing}
 
 -- the record starts the call that the client has under way: its begin, or a grant behind which it starts anew
@@ -68,6 +71,11 @@ pub record Finds (p : Pool) (st : Standing) (slot : ℕ) (call : Call) : Type 0 
 abbrev pub AllFound : Opening → List Record → Type 0
 AllFound o rs = (before after : List Record) (slot : ℕ) (key : List ℕ) → rs ≡ before ++ after → Within (slot, key) (served_after o.served before).server.directory.list → HasChain o.setup.pool (words_after o.setup.pool o.words before) slot
 
+-- and the count there is the number of the bindings
+abbrev pub AllCounted : Opening → List Record → Type 0
+AllCounted o rs = (before after : List Record) → rs ≡ before ++ after → copy_in o.setup.pool (words_after o.setup.pool o.words before) Count Current ≡ length (served_after o.served before).server.directory.list
+
+-- what a call costs that finds this
 abbrev pub cost_of : (p : Pool) (st : Standing) (slot : ℕ) (call : Call) → Finds p st slot call → ℕ
 cost_of p st slot call f = cost call f.way.loads (length f.tags) f.tail f.version
 
@@ -94,9 +102,18 @@ pub record IsAnsweredAt (c n : ℕ) (steps : List Record) : Type 0 where
   pub quiet : (k : ℕ) (r : Record) → nth steps k ≡ Some r → suc k < n → r.note ≡ Quiet
   pub answered : (k : ℕ) (r : Record) → nth steps k ≡ Some r → suc k ≡ n → IsAnswered c r.note
 
--- a call on a slot that runs alone finds its way to a tail where it starts, makes at most as many accesses as it then costs, and is answered by the last of them; one whose key its client does not know loads the count alone
+-- the record's access is the load of the count that is due of a call whose key its client does not know, and its note is what that tells
+abbrev pub IsCount : Standing → Call → Record → Type 0
+IsCount st call r = (x : Access) × (r.access ≡ Some x) × IsCounting st call x.act r.note
+
+-- there is no more than one step, and that is such a load: by it the call is absent, or, where that is quiet, it wants bindings
+pub record CountsAlone (st : Standing) (call : Call) (steps : List Record) : Type 0 where
+  pub few : length steps ≤ 1
+  pub counts : Each (IsCount st call) steps
+
+-- a call on a slot that runs alone finds its way to a tail where it starts, makes at most as many accesses as it then costs, and is answered by the last of them; one whose key its client does not know loads the count, and nothing else
 abbrev pub EndsAlone : Pool → Standing → Option ℕ → Call → ℕ → List Record → Type 0
-EndsAlone p st None call c steps = length steps ≤ 1
+EndsAlone p st None call c steps = CountsAlone st call steps
 EndsAlone p st (Some slot) call c steps = (f : Finds p st slot call) × IsAnsweredAt c (cost_of p st slot call f) steps
 
 abbrev pub AllAlone : Opening → List Record → Type 0

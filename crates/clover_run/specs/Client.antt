@@ -28,13 +28,13 @@ use Rattle.clover_node.specs.Beginning.{NodeStarts, Refuses, room_of}
 use Rattle.clover_node.specs.Going.{IsOpen}
 use Rattle.clover_node.specs.Node.{NodeState, NodeHolds, IsIdle, IsPut, first_node, node_first}
 use Rattle.clover_node.specs.declared.answer.NodeRefusal.TheVariants.{NeedsStock}
-use Rattle.clover_sched.specs.Alone.{EndsIn}
-use Rattle.clover_sched.specs.Client.{HasLinked, IsLast}
-use Rattle.clover_sched.specs.Ends.{IsLatest}
-use Rattle.clover_sched.specs.Folds.{words_by, made_by}
-use Rattle.clover_sched.specs.Run.{room}
-use Rattle.clover_sched.specs.declared.event.CallRefusal.TheVariants.{TooLong}
-use Rattle.clover_sched.specs.declared.event.Event.TheVariants.{Step}
+use Rattle.clover_event.specs.Alone.{EndsIn}
+use Rattle.clover_event.specs.Client.{HasLinked, IsLast}
+use Rattle.clover_event.specs.Ends.{IsLatest}
+use Rattle.clover_event.specs.Folds.{words_by, made_by}
+use Rattle.clover_event.specs.Run.{room}
+use Rattle.clover_event.specs.declared.event.CallRefusal.TheVariants.{TooLong}
+use Rattle.clover_event.specs.declared.event.Event.TheVariants.{Step}
 use Rattle.clover_run.specs.Alone.{Advances}
 use Rattle.clover_run.specs.Ends.{end_tags}
 use Rattle.clover_run.specs.Folds.{Doing, stepped}

@@ -13,11 +13,11 @@ use Rattle.clover_rule.specs.declared.access.Access.{Access}
 use Rattle.clover_rule.specs.declared.access.Act.{Act}
 use Rattle.clover_rule.specs.declared.access.Actor.{Actor}
 use Rattle.clover_rule.specs.declared.access.Actor.TheVariants.{Client}
-use Rattle.clover_sched.specs.declared.event.Event.{Event}
-use Rattle.clover_sched.specs.declared.event.Event.TheVariants.{Begin, Step, Refuse}
+use Rattle.clover_event.specs.declared.event.Event.{Event}
+use Rattle.clover_event.specs.declared.event.Event.TheVariants.{Begin, Step, Refuse}
 use Rattle.clover_run.specs.declared.event.Note.{Note}
 use Rattle.clover_run.specs.declared.event.Note.TheVariants.{Quiet, Waits, Granted}
-use Rattle.clover_sched.specs.Folds.{words_by, made_by, actor_of}
+use Rattle.clover_event.specs.Folds.{words_by, made_by, actor_of}
 use Rattle.clover_run.specs.Record.{Record}
 use Rattle.clover_run.specs.declared.served.Served.{Served}
 

@@ -13,7 +13,7 @@ use Rattle.clover_node.specs.declared.counting.Counting.{Counting}
 use Rattle.clover_node.specs.declared.counting.Counting.TheVariants.{No}
 use Rattle.clover_server.specs.Left.{work_left}
 use Rattle.clover_server.specs.Server.{ServerState}
-use Rattle.clover_sched.specs.Machine.{most_made}
+use Rattle.clover_event.specs.Machine.{most_made}
 use Rattle.clover_run.specs.Client.{since_of}
 use Rattle.clover_run.specs.Machine.{Parts}
 use Rattle.clover_run.specs.Recycling.{cleaning_left}

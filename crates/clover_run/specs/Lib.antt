@@ -14,6 +14,8 @@ pub mod Lines
 pub mod Alone
 pub mod SoFar
 pub mod Freed
+pub mod Owed
+pub mod Rounds
 pub mod Machine
 pub mod Left
 pub mod Running

@@ -3,7 +3,7 @@ use Rattle.std.specs.Prelude.{◌≡◌, ◌≢◌, ◌⊎◌, ℕ, List, [], �
 use Rattle.clover_script.specs.declared.line.Line.{Line}
 use Rattle.clover_script.specs.declared.line.Line.TheVariants as line
 use Rattle.clover_script.specs.declared.line.Task.{Task}
-use Rattle.clover_sched.specs.declared.event.Event.TheVariants.{Begin, Step, Refuse}
+use Rattle.clover_event.specs.declared.event.Event.TheVariants.{Begin, Step, Refuse}
 use Rattle.clover_run.specs.declared.event.Note.{Note}
 use Rattle.clover_run.specs.declared.event.Note.TheVariants.{Waits, Busy, Missing}
 use Rattle.clover_run.specs.Folds.{doing}

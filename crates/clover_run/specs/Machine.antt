@@ -21,10 +21,10 @@ use Rattle.clover_rule.specs.declared.access.Actor.TheVariants.{Client}
 use Rattle.clover_rule.specs.declared.view.View.{View}
 use Rattle.clover_plain.specs.Plain.{Plain, Kept, history, view_at}
 use Rattle.clover_call.specs.declared.under.Underway.TheVariants.{Nothing as NoCall}
-use Rattle.clover_sched.specs.Client.{IsLast, IsCallTask}
-use Rattle.clover_sched.specs.declared.event.Event.{Event}
-use Rattle.clover_sched.specs.declared.event.Event.TheVariants.{Begin, Step}
-use Rattle.clover_run.specs.Alone.{AllFound}
+use Rattle.clover_event.specs.Client.{IsLast, IsCallTask}
+use Rattle.clover_event.specs.declared.event.Event.{Event}
+use Rattle.clover_event.specs.declared.event.Event.TheVariants.{Begin, Step}
+use Rattle.clover_run.specs.Alone.{AllFound, AllCounted}
 use Rattle.clover_run.specs.Client.{LacksNames, Phase, HasTask, Stands, Matches, GoesSoFar, Remembers, call_at}
 use Rattle.clover_run.specs.Folds.{entries_in, words_after, made_after, served_after, doing, traced_in}
 use Rattle.clover_run.specs.Freed.{AllFree}
@@ -89,7 +89,10 @@ pub record IsAt (o : Opening) (m : Parts) (rs : List Record) : Type 0 where
   -- a client that there is not has no task
   pub far : (a : ℕ) → o.setup.clients < a → (doing a rs).task ≡ None
   pub legal : Legal o.first o.used (entries_in rs)
+  -- the server had nothing unfinished where the run began
+  pub begins : o.served.server.task ≡ None
   pub found : AllFound o rs
+  pub counted : AllCounted o rs
   pub free : AllFree o rs
   pub alone : AloneSoFar o m.pool.words m.clients rs
 

@@ -3,7 +3,7 @@ use Rattle.std.specs.Prelude.{Option}
 use Rattle.clover_map.specs.declared.call.Entry.{Entry}
 use Rattle.clover_rule.specs.declared.access.Access.{Access}
 use Rattle.clover_run.specs.declared.served.Served.{Served}
-use Rattle.clover_sched.specs.declared.event.Event.{Event}
+use Rattle.clover_event.specs.declared.event.Event.{Event}
 use Rattle.clover_run.specs.declared.event.Note.{Note}
 
 pub record Record : Type 0 where

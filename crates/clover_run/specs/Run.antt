@@ -25,13 +25,13 @@ use Rattle.clover_rule.specs.declared.access.Act.TheVariants.{Load, Store}
 use Rattle.clover_rule.specs.declared.access.Actor.TheVariants.{Client}
 use Rattle.clover_walk.specs.Walking.{Ended, budget, most_accesses}
 use Rattle.clover_call.specs.Calling.{Calling, begun_call, due, LeadsTo}
-use Rattle.clover_sched.specs.declared.event.CallRefusal.TheVariants.{Behind, TooLong}
-use Rattle.clover_sched.specs.declared.event.Event.{Event}
-use Rattle.clover_sched.specs.declared.event.Event.TheVariants.{Begin, Step, Refuse}
+use Rattle.clover_event.specs.declared.event.CallRefusal.TheVariants.{Behind, TooLong}
+use Rattle.clover_event.specs.declared.event.Event.{Event}
+use Rattle.clover_event.specs.declared.event.Event.TheVariants.{Begin, Step, Refuse}
 use Rattle.clover_run.specs.declared.event.Note.{Note}
 use Rattle.clover_run.specs.declared.event.Note.TheVariants.{Quiet, Answered, Refused, Unbound, Busy, Missing}
-use Rattle.clover_sched.specs.Ends.{MayBegin}
-use Rattle.clover_sched.specs.Run.{room, IsBlank, Flushes, Shortens, Wrote, lost}
+use Rattle.clover_event.specs.Ends.{MayBegin}
+use Rattle.clover_event.specs.Run.{room, IsBlank, Flushes, Shortens, Wrote, lost}
 use Rattle.clover_run.specs.Ends.{ended}
 use Rattle.clover_run.specs.Folds.{Doing, entries_in, words_after, served_after, doing, names_of}
 use Rattle.clover_run.specs.Record.{Record}

@@ -16,7 +16,7 @@ use Rattle.clover_server.specs.Steps.{Due, Finishes, ended, stock_due, named_due
 use Rattle.clover_server.specs.declared.turn.ServerTurn.{ServerTurn}
 use Rattle.clover_server.specs.declared.turn.ServerTurn.TheVariants.{More, Ready, Full as TurnFull, NoSlot as TurnNoSlot, Unreached as TurnUnreached}
 use Rattle.clover_server.specs.declared.work.Unfinished.{Unfinished}
-use Rattle.clover_sched.specs.declared.event.CallRefusal.TheVariants.{Unreached}
+use Rattle.clover_event.specs.declared.event.CallRefusal.TheVariants.{Unreached}
 use Rattle.clover_run.specs.declared.event.Note.TheVariants.{Quiet, Waits, Refused, Full, NoSlot, Granted}
 use Rattle.clover_run.specs.Folds.{Doing}
 use Rattle.clover_run.specs.Record.{Record}

@@ -4,7 +4,7 @@ use Rattle.std.specs.Prelude.{◌≡◌, ◌⊎◌, ℕ, ◌+◌, List, [], leng
 use Rattle.clover_rule.specs.Lists.{nth}
 use Rattle.clover_call.specs.declared.under.Underway.TheVariants.{Nothing as NoCall}
 use Rattle.clover_node.specs.Node.{IsIdle}
-use Rattle.clover_sched.specs.Alone.{EndsIn}
+use Rattle.clover_event.specs.Alone.{EndsIn}
 use Rattle.clover_run.specs.Alone.{AllAlone, EndsAlone, RunsAlone, cost_of}
 use Rattle.clover_run.specs.Record.{Record}
 use Rattle.clover_run.specs.Run.{Opening, standing, known_slot}

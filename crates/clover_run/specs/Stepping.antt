@@ -20,8 +20,8 @@ use Rattle.clover_node.specs.declared.answer.NodeRefusal.{NodeRefusal}
 use Rattle.clover_node.specs.declared.answer.NodeRefusal.TheVariants as node
 use Rattle.clover_node.specs.declared.answer.NodeTurn.{NodeTurn}
 use Rattle.clover_node.specs.declared.answer.NodeTurn.TheVariants.{More, Decided, Done, Refused}
-use Rattle.clover_sched.specs.Stepping.{IsValueOf, next_entry}
-use Rattle.clover_sched.specs.declared.event.CallRefusal.TheVariants.{Unreached, Linked, Behind, TooLong}
+use Rattle.clover_event.specs.Stepping.{IsValueOf, next_entry}
+use Rattle.clover_event.specs.declared.event.CallRefusal.TheVariants.{Unreached, Linked, Behind, TooLong}
 use Rattle.clover_run.specs.Client.{call_at}
 use Rattle.clover_run.specs.declared.client.ClientState.{ClientState}
 use Rattle.clover_run.specs.declared.client.came.Came.{Came}

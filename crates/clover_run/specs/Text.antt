@@ -3,7 +3,7 @@ use Rattle.std.specs.Prelude.{ℕ, List, [], ◌++◌, Bool, true, decimal, code
 use Rattle.clover_words.specs.Tag.{TagParts, tag_number}
 use Rattle.clover_alloc.specs.Batch.{tags_of}
 use Rattle.clover_script.specs.Text.{tag_text, reply_text, told_line, unreached_text, busy_text, none_text}
-use Rattle.clover_sched.specs.Text.{ending, refusal_text, traced}
+use Rattle.clover_event.specs.Text.{ending, refusal_text, traced}
 use Rattle.clover_run.specs.Folds.{entries_in, made_after}
 use Rattle.clover_run.specs.Record.{Record}
 use Rattle.clover_run.specs.declared.event.Note.{Note}

@@ -18,7 +18,7 @@ use Rattle.clover_server.specs.Left.{OnMore, work_left}
 use Rattle.clover_server.specs.Looking.{free_in}
 use Rattle.clover_server.specs.Server.{ServerState}
 use Rattle.clover_server.specs.declared.turn.ServerTurn.{ServerTurn}
-use Rattle.clover_sched.specs.Run.{IsBlank}
+use Rattle.clover_event.specs.Run.{IsBlank}
 use Rattle.clover_run.specs.Client.{LacksNames, Moved, KeepsOthers, Phase, Wants, Stands, Matches, IsOf, Started, call_at, granted_to, step_record}
 use Rattle.clover_run.specs.Folds.{stepped}
 use Rattle.clover_run.specs.Run.{Opening, Standing, IsAccess}

@@ -7,7 +7,7 @@ ghost use Rattle.clover_dir.specs.Bindings.{pairs_of};
 ghost use Rattle.clover_rule.specs.Names.{KeysOnce};
 ghost use Rattle.clover_node.specs.Accepting.{MayTake};
 ghost use Rattle.clover_plain.specs.Plain.{Plain};
-ghost use Rattle.clover_sched.specs.Client.{IsCallTask};
+ghost use Rattle.clover_event.specs.Client.{IsCallTask};
 ghost use Rattle.clover_run.specs.Client.{HasTask, IsFirst, Rests, Stands, Begun, Started, StartsFrom, granted_to};
 ghost use Rattle.clover_run.specs.Run.{Opening};
 
@@ -18,11 +18,11 @@ use crate::event::Note;
 use crate::want::Want;
 use clover_alloc::Batch;
 use clover_dir::Binding;
+use clover_event::CallRefusal;
 use clover_list::OutOfMemory;
 use clover_map::Call;
 use clover_node::{Node, NodeRefusal};
 use clover_plain::PlainPool;
-use clover_sched::CallRefusal;
 use clover_words::{Setup, ValueBuf};
 use std::alloc::Global;
 

@@ -1,6 +1,6 @@
 // What an event of a run comes to, where a metadata server hands out the space. The type is data alone.
+use clover_event::CallRefusal;
 use clover_map::Reply;
-use clover_sched::CallRefusal;
 use clover_words::Tag;
 
 /// What an event came to.

@@ -8,9 +8,9 @@ ghost use Rattle.clover_run.specs.Machine.{IsAt, Continues, Happens, IsSame, May
 ghost use Rattle.clover_run.specs.Record.{Record};
 ghost use Rattle.clover_run.specs.Run.{Opening};
 ghost use Rattle.clover_run.specs.declared.client.ClientState.{ClientState as State};
-ghost use Rattle.clover_sched.specs.Client.{IsCallTask};
+ghost use Rattle.clover_event.specs.Client.{IsCallTask};
 ghost use Rattle.clover_script.specs.declared.line.Task.TheVariants.{Client as ClientTask};
-ghost use Rattle.clover_sched.specs.declared.event.Event.TheVariants.{Begin as BeginOf, Step as StepOf, Refuse as RefuseOf};
+ghost use Rattle.clover_event.specs.declared.event.Event.TheVariants.{Begin as BeginOf, Step as StepOf, Refuse as RefuseOf};
 ghost use Rattle.clover_run.specs.declared.event.Note.TheVariants.{Quiet as IsQuiet};
 
 use crate::client::ClientState;
@@ -20,11 +20,11 @@ use crate::served::Served;
 use crate::want::Want;
 use clover_alloc::{Batch, Books};
 use clover_dir::Directory;
+use clover_event::Event;
 use clover_list::OutOfMemory;
 use clover_map::{Call, Entry};
 use clover_plain::PlainPool;
 use clover_rule::Access;
-use clover_sched::Event;
 use clover_script::Task;
 use clover_server::{Server, first_law};
 use clover_words::{Setup, Tag};

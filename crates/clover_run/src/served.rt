@@ -26,12 +26,12 @@ use crate::event::Note;
 use crate::recycler::{Chore, Recycler};
 use crate::want::Want;
 use clover_alloc::Batch;
+use clover_event::CallRefusal;
 use clover_list::OutOfMemory;
 use clover_map::Call;
 use clover_plain::PlainPool;
 use clover_port::Port;
 use clover_rule::Actor;
-use clover_sched::CallRefusal;
 use clover_server::{Server, ServerTurn};
 
 /// The server, and the actor that holds it between two events; of the recycler's task, how many bindings it has read

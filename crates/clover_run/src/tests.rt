@@ -3,8 +3,8 @@
 
 use crate::{Note, push_note};
 use clover_alloc::Batch;
+use clover_event::CallRefusal;
 use clover_map::Reply;
-use clover_sched::CallRefusal;
 use clover_words::Tag;
 use std::test::Fail;
 

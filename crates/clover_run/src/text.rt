@@ -4,12 +4,12 @@ ghost use Rattle.std.specs.Prelude.{◌≡◌, ◌++◌, flat_map, OnOk};
 ghost use Rattle.clover_words.specs.Tag.{tag_number};
 ghost use Rattle.clover_alloc.specs.Batch.{tags_of};
 ghost use Rattle.clover_script.specs.Text.{told_line};
-ghost use Rattle.clover_sched.specs.Text.{refusal_text};
+ghost use Rattle.clover_event.specs.Text.{refusal_text};
 ghost use Rattle.clover_run.specs.Text.{full_text, recycled_text, swept_text, grant_line, noted, spaced_tag};
 
 use crate::event::Note;
 use clover_alloc::Batch;
-use clover_sched::CallRefusal;
+use clover_event::CallRefusal;
 use clover_script::{
     push_behind, push_busy, push_linked, push_none, push_number, push_reply, push_tag,
     push_too_long, push_unreached,

@@ -2,13 +2,13 @@
 ghost use Rattle.std.specs.Prelude.{◌≡◌};
 ghost use Rattle.clover_words.specs.declared.bytes.ValueBuf.{ValueBuf};
 ghost use Rattle.clover_call.specs.Turning.{reply_in};
-ghost use Rattle.clover_sched.specs.Stepping.{IsValueOf};
+ghost use Rattle.clover_event.specs.Stepping.{IsValueOf};
 ghost use Rattle.clover_run.specs.Stepping.{IsCame, IsValue, refused_as};
 
 use crate::want::Want;
+use clover_event::CallRefusal;
 use clover_map::{Reply, Value};
 use clover_node::{Answer, NodeRefusal, NodeTurn};
-use clover_sched::CallRefusal;
 
 /// What an access of a call came to.
 #[derive(Drop)]

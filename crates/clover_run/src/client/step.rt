@@ -4,7 +4,7 @@ ghost use Prim.Native.Nat.{suc};
 ghost use Rattle.std.specs.Prelude.{◌≡◌, ◌<◌, ◌≤◌, ◌-◌, ◌^◌, ◌++◌, ◌∷◌, [], ℕ, true, false, Some, IfOk, OnErr};
 ghost use Rattle.clover_map.specs.declared.call.Call.{Call as Asked};
 ghost use Rattle.clover_plain.specs.Plain.{HasRoom, Kept, history, view_at};
-ghost use Rattle.clover_sched.specs.Stepping.{next_entry};
+ghost use Rattle.clover_event.specs.Stepping.{next_entry};
 ghost use Rattle.clover_run.specs.Client.{IsOwnPhase, Phase, Stands, Went, call_at};
 ghost use Rattle.clover_run.specs.Run.{Opening};
 ghost use Rattle.clover_run.specs.Stepping.{Accesses, Enters, IsFound};
@@ -103,6 +103,14 @@ impl ClientState {
         }
     }
 
+    // Lets the call go that ended without an answer. A function of its own, so that only such an end pays for the room
+    // of a call.
+    fn drop_call(&mut self)
+        ensures { self.new ≡ record self.old { call = None } }
+    {
+        self.call = None;
+    }
+
     // Makes the next access of the call under way, with what it may find once for the entry and once for the note.
     #[inline(always)]
     fn go_on(
@@ -137,7 +145,7 @@ impl ClientState {
                 Note::Quiet
             }
             Came::Refused(refusal) => {
-                self.call = None;
+                self.drop_call();
                 Note::Refused { client, refusal }
             }
         }

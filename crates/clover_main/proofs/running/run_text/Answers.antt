@@ -5,10 +5,15 @@ use Rattle.clover_script.specs.Line.{IsLineOf, IsNoLine}
 use Rattle.clover_script.specs.declared.line.Line.{Line}
 use Rattle.clover_main.specs.Running.{IsSaidBy, IsPartOfSaid}
 use Rattle.clover_main.proofs.Following.{lawful_at}
-use Rattle.clover_main.proofs.Listening.{line_may}
+use Rattle.clover_main.proofs.Listening.{line_may, over_none}
 use Rattle.clover_main.proofs.Loops.{said_runs}
 use Rattle.clover_main.proofs.Pieces.{ran_nothing, fails_none}
 use Rattle.clover_main.proofs.running.run_text.Goals as goal
+
+pub returns-then-is_ignored-clause-ok : goal.returns-then-is_ignored-clause-ok
+returns-then-is_ignored-clause-ok g c =
+    let none : IsNoLine c.args.text.now = over_none c.args.text.now (c.is_ignored.ensures.0 c.if-is_ignored.true) in
+    record { goes_on = record { setup = refl; traced = refl }; ran = λ o rs at. ran_nothing o c.args.machine.now.pool.traced rs c.args.machine.now _ _ (IsSaidBy c.args.text.now rs) at (inl (none, refl)) }
 
 pub run_line-requires : goal.run_line-requires
 run_line-requires g c = record { may = line_may c.args.text.now c.in-Ok-Some.line (subst (λ (l : Option Line). IfSome l (IsLineOf c.args.text.now)) c.in-Ok-Some.field-0-is c.in-Ok-Some.ensures.found) }

@@ -1,7 +1,7 @@
 use Rattle.std.proofs.Common.{◌≡◌, ◌∙◌, true, false, refl, subst, sym}
 use Rattle.clover_script.specs.declared.line.Line.TheVariants as line
 use Rattle.clover_run.specs.Lines.{IsTurnedAway}
-use Rattle.clover_sched.specs.declared.event.Event.TheVariants.{Begin, Refuse}
+use Rattle.clover_event.specs.declared.event.Event.TheVariants.{Begin, Refuse}
 use Rattle.clover_run.specs.declared.event.Note.TheVariants.{Quiet}
 use Rattle.clover_run.proofs.Remainders.{advances_last, advances_on, leaves_call, turned_away}
 use Rattle.clover_run.proofs.runner.begin_line.Goals as goal

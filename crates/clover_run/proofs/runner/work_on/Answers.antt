@@ -1,7 +1,7 @@
 use Rattle.std.proofs.Common.{ap, refl, [], arith, inl, inr}
 use Rattle.clover_script.specs.declared.line.Line.TheVariants as line
 use Rattle.clover_run.specs.Running.{steps_line}
-use Rattle.clover_sched.specs.declared.event.Event.TheVariants.{Step}
+use Rattle.clover_event.specs.declared.event.Event.TheVariants.{Step}
 use Rattle.clover_run.proofs.OnlyWaiting.{busy_task}
 use Rattle.clover_run.proofs.Waiting.{acts_so, last_follows}
 use Rattle.clover_run.proofs.Remainders.{advances_idle, advances_nowhere, advances_on, idle_steps, idle_finish, waiting_steps, waiting_finish, leaves_steps, leaves_finish}

@@ -1,6 +1,6 @@
 use Rattle.std.proofs.Common.{◌≡◌, ◌++◌, ◌∙◌, ℕ, List, ap, subst}
 use Rattle.std.proofs.lemmas.Result.{err_from_is_err_and}
-use Rattle.clover_sched.specs.Text.{ending}
+use Rattle.clover_event.specs.Text.{ending}
 use Rattle.clover_run.specs.Folds.{entries_in, made_after}
 use Rattle.clover_main.specs.Causes.{AppendsFront}
 use Rattle.clover_main.proofs.Pieces.{puts_end}

@@ -1,6 +1,8 @@
-use Rattle.std.proofs.Common.{◌∙◌, ap, arith, subst}
+use Rattle.std.proofs.Common.{◌∙◌, sym, ap, arith, subst}
+use Rattle.clover_run.specs.Client.{Went}
 use Rattle.clover_run.specs.Stepping.{Accesses}
 use Rattle.clover_run.specs.declared.client.ClientState.{ClientState}
+use Rattle.clover_run.specs.declared.event.Note.TheVariants.{Refused}
 use Rattle.clover_run.proofs.Coming.{value_so, enters_commit, enters_answer}
 use Rattle.clover_run.proofs.Outcomes.{came_more, came_decided, came_done, came_wants, came_refused}
 use Rattle.clover_run.proofs.client.ClientState.go_on.Goals as goal
@@ -103,4 +105,5 @@ returns-in-Refused c = λ o i f seat own st.
     let a = c.access-turn in let x = c.args.self.now in let y = a.new.self in let p = c.args.pool.now in let q = a.new.pool in
     let told = a.ensures o i f seat own st in
     let came = c.in-Refused.ensures y.room (value_so i x y p q c.args.entered c.requires.values.0 a.result told) (value_so i x y p q c.args.noted c.requires.values.1 a.result told) in
-    came_refused x y c.args.client p q c.requires.counts.0 o i seat f own st came.0 c.in-Refused.refusal came.2 (subst (Accesses i x y p q) came.1 told)
+    let went = came_refused x y c.args.client p q c.requires.counts.0 o i seat f own st came.0 c.in-Refused.refusal came.2 (subst (Accesses i x y p q) came.1 told) in
+    subst (λ (z : ClientState). Went o i f x z p q (Refused c.args.client c.in-Refused.refusal)) (sym c.drop_call.ensures) went

@@ -1,6 +1,6 @@
 use Rattle.std.proofs.Common.{refl, sym, subst}
 use Rattle.clover_script.specs.declared.line.Task.{Task}
-use Rattle.clover_sched.specs.declared.event.Event.TheVariants.{Begin}
+use Rattle.clover_event.specs.declared.event.Event.TheVariants.{Begin}
 use Rattle.clover_run.specs.Kept.{meaning}
 use Rattle.clover_run.specs.Machine.{Parts, Happens}
 use Rattle.clover_run.specs.declared.recycler.Chore.TheVariants.{OfSlot, OfAll}

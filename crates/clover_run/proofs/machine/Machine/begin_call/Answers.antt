@@ -2,8 +2,8 @@ use Rattle.std.proofs.Common.{◌≡◌, ◌-◌, ◌≤◌, length, sym, subst,
 use Rattle.std.specs.Prelude.{Some}
 use Rattle.clover_rule.specs.Lists.{nth}
 use Rattle.clover_script.specs.declared.line.Task.TheVariants.{Client as ClientTask}
-use Rattle.clover_sched.specs.declared.event.Event.TheVariants.{Begin}
-use Rattle.clover_sched.proofs.Places.{nth_here}
+use Rattle.clover_event.specs.declared.event.Event.TheVariants.{Begin}
+use Rattle.clover_event.proofs.Places.{nth_here}
 use Rattle.clover_run.specs.Client.{HasTask}
 use Rattle.clover_run.specs.Kept.{meaning}
 use Rattle.clover_run.specs.Machine.{Parts, IsAt, Happens}

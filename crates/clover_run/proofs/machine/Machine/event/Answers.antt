@@ -1,7 +1,7 @@
 use Rattle.std.proofs.Common.{◌≡◌, ℕ, ◌<◌, sym, ◌∙◌, subst}
 use Rattle.std.proofs.lemmas.Result.{IfOk-weaker}
-use Rattle.clover_sched.specs.declared.event.Event.{Event}
-use Rattle.clover_sched.specs.declared.event.Event.TheVariants.{Step}
+use Rattle.clover_event.specs.declared.event.Event.{Event}
+use Rattle.clover_event.specs.declared.event.Event.TheVariants.{Step}
 use Rattle.clover_run.specs.Left.{left}
 use Rattle.clover_run.specs.Machine.{Happens, IsBusy, OnlyWaits}
 use Rattle.clover_run.specs.declared.event.Note.{Note}

@@ -2,7 +2,7 @@ use Rattle.std.proofs.Common.{◌≡◌, ◌-◌, List, ap, ◌∙◌, subst, ar
 use Rattle.std.specs.Prelude.{Some, None}
 use Rattle.clover_rule.specs.Lists.{nth}
 use Rattle.clover_rule.proofs.Tools.{nth_none}
-use Rattle.clover_sched.proofs.Places.{nth_here}
+use Rattle.clover_event.proofs.Places.{nth_here}
 use Rattle.clover_run.specs.declared.client.ClientState.{ClientState}
 use Rattle.clover_run.proofs.Busies.{busy_there, busy_nowhere}
 use Rattle.clover_run.proofs.machine.Machine.is_busy.Goals as goal

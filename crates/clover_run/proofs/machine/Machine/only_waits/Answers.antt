@@ -3,7 +3,7 @@ use Rattle.std.specs.Prelude.{Some, None, ◌↔◌, IsTrue}
 use denote.Enum.Bare.{differs_true, differs_false}
 use Rattle.clover_rule.specs.Lists.{nth}
 use Rattle.clover_rule.proofs.Tools.{nth_none}
-use Rattle.clover_sched.proofs.Places.{nth_here}
+use Rattle.clover_event.proofs.Places.{nth_here}
 use Rattle.clover_run.specs.Kept.{meaning}
 use Rattle.clover_run.specs.Machine.{Parts, OnlyWaits}
 use Rattle.clover_run.specs.contracts.want.Want.{the_type}

@@ -1,8 +1,8 @@
 use Rattle.std.proofs.Common.{◌≡◌, ◌-◌, ◌≤◌, length, refl, sym, subst, arith}
 use Rattle.std.specs.Prelude.{Some}
 use Rattle.clover_rule.specs.Lists.{nth}
-use Rattle.clover_sched.specs.declared.event.Event.TheVariants.{Refuse}
-use Rattle.clover_sched.proofs.Places.{nth_here}
+use Rattle.clover_event.specs.declared.event.Event.TheVariants.{Refuse}
+use Rattle.clover_event.proofs.Places.{nth_here}
 use Rattle.clover_run.specs.Kept.{meaning}
 use Rattle.clover_run.specs.Machine.{Parts, IsAt}
 use Rattle.clover_run.specs.declared.event.Note.TheVariants.{Quiet}

@@ -3,7 +3,7 @@ use Prim.Native.Nat.{suc}
 use Rattle.std.proofs.Common.{◌≡◌, ℕ, false, ⊎_elim, refl, sym, ap, ◌∙◌, subst}
 use Rattle.clover_plain.specs.Plain.{Plain}
 use Rattle.clover_server.specs.Told.{IsWantTurn}
-use Rattle.clover_sched.specs.declared.event.CallRefusal.TheVariants.{Unreached}
+use Rattle.clover_event.specs.declared.event.CallRefusal.TheVariants.{Unreached}
 use Rattle.clover_run.specs.Run.{Opening}
 use Rattle.clover_run.specs.Served.{held, is_elsewhere}
 use Rattle.clover_run.specs.Serving.{telling}
