@@ -46,7 +46,7 @@ views_take (x ∷ xs) (suc n) zero h = refl
 views_take (x ∷ xs) (suc n) (suc i) h = views_take xs n i (omega arith)
 
 -- the lines of a view say of each buffer what the books do
-line_found : (books : Ledger) (bs : List ℕ) (b : ℕ) → Within b bs → find_book (map (view_line books) bs) b ≡ seen_line (line_at books (buffer_at b))
+pub line_found : (books : Ledger) (bs : List ℕ) (b : ℕ) → Within b bs → find_book (map (view_line books) bs) b ≡ seen_line (line_at books (buffer_at b))
 line_found books [] b w = absurd w
 line_found books (x ∷ xs) b w = ⊎_elim
     (λ e. ap (λ (t : Bool). cond t (seen_line (line_at books (buffer_at x))) (find_book (map (view_line books) xs) b)) (eq-eqb x b e) ∙ ap (λ (n : ℕ). seen_line (line_at books (buffer_at n))) e)
@@ -59,7 +59,7 @@ root_before k s [] h = refl
 root_before k s (None ∷ xs) h = root_before (suc k) s xs (omega arith)
 root_before k s (Some t ∷ xs) h = ap (λ (b : Bool). cond b (Some (tag_number t)) (find_root (roots_from (suc k) xs) s)) (ne_eqb k s (λ e. omega arith)) ∙ root_before (suc k) s xs (omega arith)
 
-root_found : (k j s : ℕ) (xs : List (Option TagParts)) → s ≡ k + j → find_root (roots_from k xs) s ≡ option_map tag_number (get_or xs j None)
+pub root_found : (k j s : ℕ) (xs : List (Option TagParts)) → s ≡ k + j → find_root (roots_from k xs) s ≡ option_map tag_number (get_or xs j None)
 root_found k j s [] e = refl
 root_found k zero s (None ∷ xs) e = root_before (suc k) s xs (omega arith)
 root_found k (suc j) s (None ∷ xs) e = root_found (suc k) j s xs (omega arith)

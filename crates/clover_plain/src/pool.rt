@@ -1,5 +1,5 @@
 // The pool: its words, the seats of its actors, the entries and the accesses that were made.
-ghost use Rattle.std.specs.Prelude.{◌≡◌, ◌≤◌, ◌<◌, ◌+◌, ◌++◌, ℕ, List, [], ◌∷◌, length, Some, true, false, IfNone, IfOk, IfSome, OnOk, replicate, vec_capacity};
+ghost use Rattle.std.specs.Prelude.{◌≡◌, ◌≤◌, ◌<◌, ◌+◌, ◌++◌, ℕ, List, [], ◌∷◌, length, Some, true, false, IfNone, IfOk, IfSome, OnOk, replicate, slice_index, vec_capacity};
 ghost use Rattle.clover_words.specs.Place.{HasSide, IsWithin, copy_in, pool_words};
 ghost use Rattle.clover_words.specs.declared.word.Side.TheVariants.{Flushed};
 ghost use Rattle.clover_plain.specs.Plain.{HasRoom, HasTurn, IsDown, IsFresh, Kept, KeptButEntries, Leads, Running, first_view, history, IsActor, HasSeat, HasRole, view_at};
@@ -27,6 +27,7 @@ use clover_rule::{Access, Actor, View};
 use clover_words::{Setup, Side, Word};
 use std::alloc::Global;
 use std::marker::{Brand, Model};
+use std::mem::replace;
 
 /// The words of a pool with what each actor knows, the entries of its history and, with a trace, its accesses.
 #[derive(Drop)]
@@ -192,6 +193,16 @@ impl PlainPool {
         }
     }
 
+    /// Hands out the entries that were entered: none is then. It takes no memory.
+    pub fn take_entries(&mut self) -> Vec<Entry>
+        requires opened { self.old.opened ≡ true }
+        ensures entries { (result.items ≡ self.old.entries) × (self.new.entries ≡ []) }
+        ensures same { KeptButEntries self.old self.new }
+    {
+        let none = Vec::new(*self.entries.allocator());
+        replace(&mut self.entries, none)
+    }
+
     /// The entries of the pool's history, as far as they were entered.
     pub fn entries(&self) -> &[Entry]
         ensures value { result.now ≡ self.now.entries }
@@ -215,6 +226,15 @@ impl PlainPool {
         ensures untraced { self.now.traced ≡ false → self.now.accesses ≡ [] }
     {
         self.trace.as_slice()
+    }
+
+    /// The number at an address: the current copies of the durable words come first, behind them their flushed copies,
+    /// and then the shortcuts and the count.
+    pub fn number(&self, address: u64) -> u64
+        requires { address < length self.now.words }
+        ensures { result ≡ slice_index self.now.words address }
+    {
+        self.words.get(address as usize)
     }
 
     /// What a copy of a durable word says. `None` exactly where the word is no durable word of the pool: shortcuts and
