@@ -5,14 +5,14 @@ use Rattle.std.proofs.lemmas.Bool.Decides.{leb_tells}
 use Rattle.std.specs.Prelude.{All}
 use Rattle.clover_words.specs.declared.setup.Setup.{Setup}
 use Rattle.clover_script.specs.Line.{pool_line, numbers_of, IsPoolLine, HasBadNumbers, IsIgnored, Spoken, IsSpoken, line_text}
-use Rattle.clover_script.specs.Lines.{Say, Opens, Before, unopened, begun, IsBefore, IsLinesOf, IsActorLine, IsUnbuiltLine, without_shape, too_early, bad_opening, second_opening, IsFirstUnbuiltLine, IsRefusedLine}
+use Rattle.clover_script.specs.Lines.{Say, Opens, Before, unopened, begun, IsBefore, IsLinesOf, IsSaidLine, IsUnbuiltLine, without_shape, too_early, bad_opening, second_opening, IsFirstUnbuiltLine, IsRefusedLine}
 use Rattle.clover_script.proofs.SpokenLemmas.{one_spoken, no_pool, not_ignored, pool_stays}
 use Rattle.clover_script.proofs.PoolLineLemmas.{one_pool, are_numbers, none_bad}
 
-not_over : (line : List ℕ) → IsActorLine line → IsIgnored line → ⊥
+not_over : (line : List ℕ) → IsSaidLine line → IsIgnored line → ⊥
 not_over line (s, is, e) over = not_ignored s (subst IsIgnored e over)
 
-not_pool : (line : List ℕ) → IsActorLine line → IsPoolLine line → ⊥
+not_pool : (line : List ℕ) → IsSaidLine line → IsPoolLine line → ⊥
 not_pool line (s, is, e) (n, fits, f) = no_pool s n (sym e ∙ f)
 
 pool_not_over : (line : List ℕ) → IsPoolLine line → IsIgnored line → ⊥

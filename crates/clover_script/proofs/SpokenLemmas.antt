@@ -1,12 +1,15 @@
--- the lines of actors, as they are written and as they are kept
-use Rattle.std.proofs.Common.{◌≡◌, ◌<◌, ◌^◌, ℕ, List, ◌∷◌, ◌++◌, length, refl, sym, ap, subst, ◌∙◌, inl, inr, arith}
+-- the lines behind the pool line, as they are written and as they are kept
+use Rattle.std.proofs.Common.{◌≡◌, ◌<◌, ◌^◌, ℕ, List, ◌∷◌, ◌++◌, get_or, length, refl, sym, ap, subst, ◌∙◌, inl, inr, arith}
 use Rattle.std.specs.Prelude.{decimal, codes}
 use Rattle.std.proofs.lemmas.Fmt.{decimal_injective}
+use Rattle.clover_script.specs.declared.choice.Choice.{Choice}
 use Rattle.clover_script.specs.declared.line.PoolLine.{PoolLine}
 use Rattle.clover_script.specs.declared.line.Line.{Line}
-use Rattle.clover_script.specs.Line.{IsActor, pool_line, IsPoolLine, Asked, client, recycle, sweep, IsAsked, asked_text, Spoken, says_begin, says_step, says_finish, says_call, says_refuse, IsSpoken, line_text, kept_line, IsLineOf, IsIgnored}
+use Rattle.clover_script.specs.Choice.{choice_text, cut_text}
+use Rattle.clover_script.specs.Line.{IsActor, pool_line, IsPoolLine, Asked, client, recycle, sweep, IsAsked, asked_text, Spoken, says_begin, says_step, says_finish, says_call, says_refuse, says_cut, says_image, IsSpoken, line_text, kept_line, IsLineOf, IsIgnored}
 use Rattle.clover_script.specs.Spelling.{SpellsNoTask, SpellsNothingAsked}
 use Rattle.clover_script.proofs.PartLemmas.{number_split}
+use Rattle.clover_script.proofs.ChoiceLemmas.{one_choice, one_cut_line}
 use Rattle.clover_script.proofs.SpellingLemmas.{after_same, apart, one_client_call}
 use Rattle.clover_script.proofs.PoolLineLemmas.{pool_parts, nodes_on}
 
@@ -33,6 +36,10 @@ asked_split a b s t p q e =
     let r = number_split a b (asked_text s) (asked_text t) (small_actor a s p) (small_actor b t q) e in
     (r.0, one_asked s t a p (subst (λ (n : ℕ). IsAsked n t) (sym r.0) q) r.1)
 
+-- two texts with other second bytes
+apart_second : (x y : List ℕ) → x ≡ y → get_or x 1 0 ≡ get_or y 1 0
+apart_second x y e = ap (λ (l : List ℕ). get_or l 1 0) e
+
 -- a text is one line
 pub one_spoken : (s t : Spoken) → IsSpoken s → IsSpoken t → line_text s ≡ line_text t → s ≡ t
 one_spoken (says_begin a x) (says_begin b y) p q e =
@@ -49,51 +56,42 @@ one_spoken (says_call a x) (says_call b y) p q e =
     ap (λ (n : ℕ). says_call n x) r.0 ∙ ap (says_call b) r.1
 one_spoken (says_refuse a) (says_refuse b) p q e =
     ap says_refuse (decimal_injective a b (omega (arith, p)) (omega (arith, q)) (after_same (codes "refuse ") (decimal a) (decimal b) e))
-one_spoken (says_begin a x) (says_step b m) p q e = absurd (omega (arith, apart (line_text (says_begin a x)) (line_text (says_step b m)) e))
-one_spoken (says_begin a x) (says_finish b) p q e = absurd (omega (arith, apart (line_text (says_begin a x)) (line_text (says_finish b)) e))
-one_spoken (says_begin a x) (says_call b y) p q e = absurd (omega (arith, apart (line_text (says_begin a x)) (line_text (says_call b y)) e))
-one_spoken (says_begin a x) (says_refuse b) p q e = absurd (omega (arith, apart (line_text (says_begin a x)) (line_text (says_refuse b)) e))
-one_spoken (says_step a n) (says_begin b y) p q e = absurd (omega (arith, apart (line_text (says_step a n)) (line_text (says_begin b y)) e))
-one_spoken (says_step a n) (says_finish b) p q e = absurd (omega (arith, apart (line_text (says_step a n)) (line_text (says_finish b)) e))
-one_spoken (says_step a n) (says_call b y) p q e = absurd (omega (arith, apart (line_text (says_step a n)) (line_text (says_call b y)) e))
-one_spoken (says_step a n) (says_refuse b) p q e = absurd (omega (arith, apart (line_text (says_step a n)) (line_text (says_refuse b)) e))
-one_spoken (says_finish a) (says_begin b y) p q e = absurd (omega (arith, apart (line_text (says_finish a)) (line_text (says_begin b y)) e))
-one_spoken (says_finish a) (says_step b m) p q e = absurd (omega (arith, apart (line_text (says_finish a)) (line_text (says_step b m)) e))
-one_spoken (says_finish a) (says_call b y) p q e = absurd (omega (arith, apart (line_text (says_finish a)) (line_text (says_call b y)) e))
-one_spoken (says_finish a) (says_refuse b) p q e = absurd (omega (arith, apart (line_text (says_finish a)) (line_text (says_refuse b)) e))
-one_spoken (says_call a x) (says_begin b y) p q e = absurd (omega (arith, apart (line_text (says_call a x)) (line_text (says_begin b y)) e))
-one_spoken (says_call a x) (says_step b m) p q e = absurd (omega (arith, apart (line_text (says_call a x)) (line_text (says_step b m)) e))
-one_spoken (says_call a x) (says_finish b) p q e = absurd (omega (arith, apart (line_text (says_call a x)) (line_text (says_finish b)) e))
-one_spoken (says_call a x) (says_refuse b) p q e = absurd (omega (arith, apart (line_text (says_call a x)) (line_text (says_refuse b)) e))
-one_spoken (says_refuse a) (says_begin b y) p q e = absurd (omega (arith, apart (line_text (says_refuse a)) (line_text (says_begin b y)) e))
-one_spoken (says_refuse a) (says_step b m) p q e = absurd (omega (arith, apart (line_text (says_refuse a)) (line_text (says_step b m)) e))
-one_spoken (says_refuse a) (says_finish b) p q e = absurd (omega (arith, apart (line_text (says_refuse a)) (line_text (says_finish b)) e))
-one_spoken (says_refuse a) (says_call b y) p q e = absurd (omega (arith, apart (line_text (says_refuse a)) (line_text (says_call b y)) e))
+one_spoken (says_cut c x) (says_cut d y) p q e =
+    let r = one_cut_line c d x y p.0 q.0 p.1 q.1 (after_same (codes "cut ") (cut_text c x) (cut_text d y) e) in
+    ap (λ (k : Choice). says_cut k x) r.0 ∙ ap (says_cut d) r.1
+one_spoken (says_image c) (says_image d) p q e = ap says_image (one_choice c d p q (after_same (codes "image ") (choice_text c) (choice_text d) e))
+one_spoken (says_call a x) (says_cut d y) p q e = absurd (omega (arith, apart_second (line_text (says_call a x)) (line_text (says_cut d y)) e))
+one_spoken (says_cut c x) (says_call b y) p q e = absurd (omega (arith, apart_second (line_text (says_cut c x)) (line_text (says_call b y)) e))
+one_spoken s t p q e = absurd (omega (arith, apart (line_text s) (line_text t) e))
 
 -- and is kept in one way
 pub one_line : (text : List ℕ) (l m : Line) → IsLineOf text l → IsLineOf text m → l ≡ m
 one_line text l m (s, p, e, l_is) (t, q, f, m_is) = l_is ∙ ap kept_line (one_spoken s t p q (sym e ∙ f)) ∙ sym m_is
 
--- a line of an actor is no pool line
+-- a line that says something is no pool line
 pub no_pool : (s : Spoken) (n : PoolLine) → line_text s ≡ pool_line n → ⊥
 no_pool (says_begin a x) n e = omega (arith, apart (line_text (says_begin a x)) (pool_line n) e)
 no_pool (says_step a x) n e = omega (arith, apart (line_text (says_step a x)) (pool_line n) e)
 no_pool (says_finish a) n e = omega (arith, apart (line_text (says_finish a)) (pool_line n) e)
 no_pool (says_call a x) n e = omega (arith, apart (line_text (says_call a x)) (pool_line n) e)
 no_pool (says_refuse a) n e = omega (arith, apart (line_text (says_refuse a)) (pool_line n) e)
+no_pool (says_cut c x) n e = omega (arith, apart (line_text (says_cut c x)) (pool_line n) e)
+no_pool (says_image c) n e = omega (arith, apart (line_text (says_image c)) (pool_line n) e)
+
+-- its first byte is no hash
+says_first : (s : Spoken) → get_or (line_text s) 0 35 ≡ 35 → ⊥
+says_first (says_begin a x) e = omega (arith, e)
+says_first (says_step a x) e = omega (arith, e)
+says_first (says_finish a) e = omega (arith, e)
+says_first (says_call a x) e = omega (arith, e)
+says_first (says_refuse a) e = omega (arith, e)
+says_first (says_cut c x) e = omega (arith, e)
+says_first (says_image c) e = omega (arith, e)
 
 -- and it is not passed over
 pub not_ignored : (s : Spoken) → IsIgnored (line_text s) → ⊥
-not_ignored (says_begin a x) (inl e) = omega (arith, ap length e)
-not_ignored (says_begin a x) (inr (rest, e)) = omega (arith, apart (line_text (says_begin a x)) (35 ∷ rest) e)
-not_ignored (says_step a x) (inl e) = omega (arith, ap length e)
-not_ignored (says_step a x) (inr (rest, e)) = omega (arith, apart (line_text (says_step a x)) (35 ∷ rest) e)
-not_ignored (says_finish a) (inl e) = omega (arith, ap length e)
-not_ignored (says_finish a) (inr (rest, e)) = omega (arith, apart (line_text (says_finish a)) (35 ∷ rest) e)
-not_ignored (says_call a x) (inl e) = omega (arith, ap length e)
-not_ignored (says_call a x) (inr (rest, e)) = omega (arith, apart (line_text (says_call a x)) (35 ∷ rest) e)
-not_ignored (says_refuse a) (inl e) = omega (arith, ap length e)
-not_ignored (says_refuse a) (inr (rest, e)) = omega (arith, apart (line_text (says_refuse a)) (35 ∷ rest) e)
+not_ignored s (inl e) = says_first s (ap (λ (l : List ℕ). get_or l 0 35) e)
+not_ignored s (inr (rest, e)) = says_first s (ap (λ (l : List ℕ). get_or l 0 35) e)
 
 pub pool_stays : (n : PoolLine) → IsIgnored (pool_line n) → ⊥
 pool_stays n (inl e) = omega (arith, ap length (sym (pool_parts n) ∙ e))

@@ -10,15 +10,15 @@ use Rattle.clover_script.specs.Choice.{IsChoice, IsFurtherCut, cut_text}
 use Rattle.clover_script.specs.Line.{numbers_of, IsPoolLine, Spoken, IsSpoken, line_text, IsLineOf, IsIgnored}
 use Rattle.clover_script.specs.Lines.{IsLinesOf, IsRefusedLine}
 
--- Two lines of actors with one text are one line.
+-- Two lines with one text are one line.
 abbrev pub OneLine : Type 0
 OneLine = (a b : Spoken) → IsSpoken a → IsSpoken b → line_text a ≡ line_text b → a ≡ b
 
--- A text is kept as one line of an actor.
+-- A text is kept as one line.
 abbrev pub OneKept : Type 0
 OneKept = (text : List ℕ) (line other : Line) → IsLineOf text line → IsLineOf text other → line ≡ other
 
--- A line of an actor is no pool line and is not passed over, and neither is a pool line.
+-- A line behind the pool line is no pool line and is not passed over, and neither is a pool line.
 abbrev pub LinesAreApart : Type 0
 LinesAreApart = (text : List ℕ) → ((line : Line) → IsLineOf text line → (IsPoolLine text → ⊥) × (IsIgnored text → ⊥)) × (IsPoolLine text → IsIgnored text → ⊥)
 

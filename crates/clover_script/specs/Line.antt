@@ -1,5 +1,5 @@
--- the lines of a script: the pool line, and the lines of actors
-use Rattle.std.specs.Prelude.{◌≡◌, ℕ, ◌^◌, ◌<◌, ◌≤◌, ◌==◌, ◌⊎◌, if◌then◌else◌, List, [], ◌∷◌, ◌++◌, length, take, decimal, codes, IsSome}
+-- the lines of a script: the pool line, and those behind it
+use Rattle.std.specs.Prelude.{◌≡◌, ℕ, ◌^◌, ◌<◌, ◌≤◌, ◌==◌, ◌⊎◌, if◌then◌else◌, List, [], ◌∷◌, ◌++◌, length, take, decimal, codes, All, IsSome}
 use Rattle.clover_words.specs.declared.setup.Setup.{Setup}
 use Rattle.clover_words.specs.Pack.{AreBytes}
 use Rattle.clover_words.specs.Range.{first_fault, first_setup_fault}
@@ -12,6 +12,8 @@ use Rattle.clover_script.specs.declared.line.Task.{Task}
 use Rattle.clover_script.specs.declared.line.Task.TheVariants.{Client, Recycle, Sweep}
 use Rattle.clover_script.specs.declared.line.Line.{Line}
 use Rattle.clover_script.specs.declared.line.Line.TheVariants as kept
+use Rattle.clover_script.specs.declared.choice.Choice.{Choice}
+use Rattle.clover_script.specs.Choice.{IsChoice, choice_text, IsFurtherCut, cut_text}
 use Rattle.clover_script.specs.Text.{call_text}
 
 -- the first element put in front of the first list
@@ -134,13 +136,15 @@ kept_task (client call) = task_of call
 kept_task (recycle slot) = Recycle slot
 kept_task sweep = Sweep
 
--- a line behind the pool line as it is written: its actor, and what it asks of it
+-- a line behind the pool line as it is written: an actor and what is asked of it, a power cut, or an image that is shown
 pub data Spoken : Type 0 where
   says_begin : ℕ → Asked → Spoken
   says_step : ℕ → ℕ → Spoken
   says_finish : ℕ → Spoken
   says_call : ℕ → Asked → Spoken
   says_refuse : ℕ → Spoken
+  says_cut : Choice → List (ℕ × Choice) → Spoken
+  says_image : Choice → Spoken
 
 -- each part is in its range
 abbrev pub IsSpoken : Spoken → Type 0
@@ -149,6 +153,8 @@ IsSpoken (says_step a n) = IsActor a × AreTimes n
 IsSpoken (says_finish a) = IsActor a
 IsSpoken (says_call a asked) = IsAsked a asked
 IsSpoken (says_refuse a) = IsActor a
+IsSpoken (says_cut choice more) = IsChoice choice × All IsFurtherCut more
+IsSpoken (says_image choice) = IsChoice choice
 
 -- the text of a line, without the LF that ends it
 abbrev pub line_text : Spoken → List ℕ
@@ -157,6 +163,18 @@ line_text (says_step a n) = codes "step " ++ (decimal a ++ (codes " " ++ decimal
 line_text (says_finish a) = codes "finish " ++ decimal a
 line_text (says_call a asked) = codes "call " ++ (decimal a ++ (codes " " ++ asked_text asked))
 line_text (says_refuse a) = codes "refuse " ++ decimal a
+line_text (says_cut choice more) = codes "cut " ++ cut_text choice more
+line_text (says_image choice) = codes "image " ++ choice_text choice
+
+-- a line that asks for a power cut, or for the image that one would leave
+abbrev pub IsOfCuts : Spoken → Type 0
+IsOfCuts (says_cut choice more) = Unit {0}
+IsOfCuts (says_image choice) = Unit {0}
+IsOfCuts spoken = ⊥
+
+-- the text is such a line
+abbrev pub IsLineOfCuts : List ℕ → Type 0
+IsLineOfCuts text = (spoken : Spoken) × IsOfCuts spoken × IsSpoken spoken × (text ≡ line_text spoken)
 
 -- a line as the reader keeps it
 abbrev pub kept_line : Spoken → Line
@@ -165,12 +183,14 @@ kept_line (says_step a n) = kept.Step a n
 kept_line (says_finish a) = kept.Finish a
 kept_line (says_call a asked) = kept.Call a (kept_task asked)
 kept_line (says_refuse a) = kept.Refuse a
+kept_line (says_cut choice more) = kept.Cut choice more
+kept_line (says_image choice) = kept.Image choice
 
--- the text is a line of an actor, which is kept so
+-- the text is a line behind the pool line, which is kept so
 abbrev pub IsLineOf : List ℕ → Line → Type 0
 IsLineOf text line = (spoken : Spoken) × IsSpoken spoken × (text ≡ line_text spoken) × (line ≡ kept_line spoken)
 
--- the text is no line of an actor
+-- the text is no line behind the pool line
 abbrev pub IsNoLine : List ℕ → Type 0
 IsNoLine text = (spoken : Spoken) → IsSpoken spoken → text ≡ line_text spoken → ⊥
 

@@ -32,25 +32,25 @@ abbrev pub IsBefore : List (List ℕ) → Before → Type 0
 IsBefore lines unopened = All IsIgnored lines
 IsBefore lines (begun s said) = Opens lines s said
 
--- The text is a script of this setup and of these lines of actors.
+-- The text is a script of this setup, and its lines say this.
 abbrev pub IsLinesOf : List ℕ → Setup → List Spoken → Type 0
 IsLinesOf text s said = IsBefore (lines_of text) (begun s said)
 
 -- The four things that make a line one that is not built.
 
--- it is an actor's
-abbrev pub IsActorLine : List ℕ → Type 0
-IsActorLine line = (s : Spoken) × IsSpoken s × (line ≡ line_text s)
+-- it says something
+abbrev pub IsSaidLine : List ℕ → Type 0
+IsSaidLine line = (s : Spoken) × IsSpoken s × (line ≡ line_text s)
 
 -- it has none of the forms
 pub record HasNoShape (line : List ℕ) : Type 0 where
   pub over : IsIgnored line → ⊥
   pub pool : IsPoolLine line → ⊥
-  pub said : IsActorLine line → ⊥
+  pub said : IsSaidLine line → ⊥
 
--- it is an actor's, with no pool line before it
+-- it says something, with no pool line before it
 abbrev pub IsTooEarly : Before → List ℕ → Type 0
-IsTooEarly unopened line = IsActorLine line
+IsTooEarly unopened line = IsSaidLine line
 IsTooEarly (begun s said) line = ⊥
 
 -- it is the first pool line, and a number is out of range

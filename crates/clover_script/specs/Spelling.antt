@@ -1,4 +1,4 @@
--- what a text spells, with a key and a value that are not decoded: what its parts say where these have certain bytes, and which parts a text has
+-- what a text spells, with a key, a value and names that are not decoded: what its parts say where these stand for certain bytes and words, and which parts a text has
 use Rattle.std.specs.Prelude.{◌≡◌, ℕ, List, ◌∷◌, ◌++◌, length, decimal}
 use Rattle.clover_map.specs.Key.{IsKey}
 use Rattle.clover_map.specs.declared.bytes.Value.{Value}
@@ -11,10 +11,12 @@ use Rattle.clover_script.specs.declared.spelled.CallText.TheVariants as spelled
 use Rattle.clover_script.specs.declared.spelled.TaskText.{TaskText}
 use Rattle.clover_script.specs.declared.spelled.TaskText.TheVariants.{Client, Recycle, Sweep}
 use Rattle.clover_script.specs.declared.spelled.LineText.{LineText}
-use Rattle.clover_script.specs.declared.spelled.LineText.TheVariants.{Begin, Step, Finish, Call as Calls, Refuse}
+use Rattle.clover_script.specs.declared.choice.Choice.{Choice}
+use Rattle.clover_script.specs.declared.spelled.LineText.TheVariants.{Begin, Step, Finish, Call as Calls, Refuse, Cut, Image}
+use Rattle.clover_script.specs.Choice.{HasChoice, HasCuts}
 use Rattle.clover_script.specs.Coded.{coded}
 use Rattle.clover_script.specs.Text.{call_text}
-use Rattle.clover_script.specs.Line.{IsWritten, IsClientCall, Asked, client, recycle, sweep, IsAsked, asked_text, Spoken, says_begin, says_step, says_finish, says_call, says_refuse, IsSpoken, line_text}
+use Rattle.clover_script.specs.Line.{IsWritten, IsClientCall, Asked, client, recycle, sweep, IsAsked, asked_text, Spoken, says_begin, says_step, says_finish, says_call, says_refuse, says_cut, says_image, IsSpoken, IsOfCuts, line_text}
 
 -- the text spells a key of these bytes, and their number stands beside it
 abbrev pub IsKeyText : KeyText → List ℕ → Type 0
@@ -54,21 +56,19 @@ HasTaskBytes (Client call) key value = HasBytes call key value
 HasTaskBytes (Recycle slot) key value = Unit {0}
 HasTaskBytes Sweep key value = Unit {0}
 
--- the line of these parts, where the key and the value in it have these bytes
-abbrev pub said_by : LineText → List ℕ → List ℕ → Spoken
-said_by (Begin a task) key value = says_begin a (asked_said task key value)
-said_by (Step a n) key value = says_step a n
-said_by (Finish a) key value = says_finish a
-said_by (Calls a task) key value = says_call a (asked_said task key value)
-said_by (Refuse a) key value = says_refuse a
+-- the task of these parts, with some key and some value that are spelled so
+abbrev pub SaysTask : TaskText → Asked → Type 0
+SaysTask task asked = (key : List ℕ) × (value : List ℕ) × HasTaskBytes task key value × (asked ≡ asked_said task key value)
 
--- the key and the value in the line, if there are any, are spelled so
-abbrev pub HasLineBytes : LineText → List ℕ → List ℕ → Type 0
-HasLineBytes (Begin a task) key value = HasTaskBytes task key value
-HasLineBytes (Step a n) key value = Unit {0}
-HasLineBytes (Finish a) key value = Unit {0}
-HasLineBytes (Calls a task) key value = HasTaskBytes task key value
-HasLineBytes (Refuse a) key value = Unit {0}
+-- the line has these parts
+abbrev pub Says : LineText → Spoken → Type 0
+Says (Begin a task) spoken = (asked : Asked) × SaysTask task asked × (spoken ≡ says_begin a asked)
+Says (Step a n) spoken = spoken ≡ says_step a n
+Says (Finish a) spoken = spoken ≡ says_finish a
+Says (Calls a task) spoken = (asked : Asked) × SaysTask task asked × (spoken ≡ says_call a asked)
+Says (Refuse a) spoken = spoken ≡ says_refuse a
+Says (Cut parts) spoken = (choice : Choice) × (more : List (ℕ × Choice)) × HasCuts parts choice more × (spoken ≡ says_cut choice more)
+Says (Image parts) spoken = (choice : Choice) × HasChoice parts choice × (spoken ≡ says_image choice)
 
 -- the text spells a call, and has these parts
 abbrev pub SpellsCall : List ℕ → CallText → Type 0
@@ -95,18 +95,24 @@ SpellsAsked text a parts =
 abbrev pub SpellsNothingAsked : List ℕ → Type 0
 SpellsNothingAsked text = (a : ℕ) (asked : Asked) → IsAsked a asked → text ≡ decimal a ++ 32 ∷ asked_text asked → ⊥
 
--- the text is a line of an actor, and has these parts
+-- the text is a line behind the pool line, and has these parts
 abbrev pub SpellsLine : List ℕ → LineText → Type 0
-SpellsLine text parts = (key : List ℕ) × (value : List ℕ) × HasLineBytes parts key value × IsSpoken (said_by parts key value) × (text ≡ line_text (said_by parts key value))
+SpellsLine text parts = (spoken : Spoken) × IsSpoken spoken × Says parts spoken × (text ≡ line_text spoken)
 
 -- a line that asks for no task
 abbrev pub IsTaskless : Spoken → Type 0
 IsTaskless (says_begin a asked) = ⊥
-IsTaskless (says_step a n) = Unit {0}
-IsTaskless (says_finish a) = Unit {0}
 IsTaskless (says_call a asked) = ⊥
-IsTaskless (says_refuse a) = Unit {0}
+IsTaskless spoken = Unit {0}
 
 -- the text is no line without a task
 abbrev pub IsNoTasklessLine : List ℕ → Type 0
 IsNoTasklessLine text = (spoken : Spoken) → IsTaskless spoken → IsSpoken spoken → text ≡ line_text spoken → ⊥
+
+-- the text is a line of power cuts, and has these parts
+abbrev pub SpellsLineOfCuts : List ℕ → LineText → Type 0
+SpellsLineOfCuts text parts = (spoken : Spoken) × IsOfCuts spoken × IsSpoken spoken × Says parts spoken × (text ≡ line_text spoken)
+
+-- the text is no line of power cuts
+abbrev pub IsNoLineOfCuts : List ℕ → Type 0
+IsNoLineOfCuts text = (spoken : Spoken) → IsOfCuts spoken → IsSpoken spoken → text ≡ line_text spoken → ⊥

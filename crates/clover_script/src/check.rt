@@ -47,7 +47,7 @@ pub fn check_lines(text: &[u8]) -> Result<Setup, BadLine>
     Ok(setup)
 }
 
-/// Whether a line behind the pool line is built: it is passed over, or asks something of an actor.
+/// Whether a line behind the pool line is built: it is passed over, or says something.
 fn is_built(line: &[u8]) -> bool
     ensures yes { IsTrue result → IsBuilt line.now }
     ensures no { result ≡ false → (s : Numbers) (said : List Spoken) → IsUnbuiltLine (begun s said) line.now }
@@ -95,7 +95,7 @@ fn opening_of(line: &[u8]) -> Option<Setup>
         return setup_from(numbers);
     }
     match spelled_line(line) {
-        // An actor's line with no pool line before it.
+        // A line that says something with no pool line before it.
         Some(_) => None,
         None => None,
     }

@@ -8,7 +8,7 @@ pub fn a_text_has_one_line()
     ensures kept { OneKept }
 {}
 
-/// A text is of one sort at most: an actor's line, a pool line, or one that is passed over.
+/// A text is of one sort at most: a line that says something, a pool line, or one that is passed over.
 pub fn lines_are_apart()
     ensures { LinesAreApart }
 {}

@@ -30,7 +30,7 @@ pub use laws::{
     lines_are_refused_at_one, lines_have_one_reading, no_lines_are_refused,
 };
 pub use line::{Line, LineFault, PoolLine, Task};
-pub use reader::{is_ignored, line_of};
+pub use reader::{is_ignored, is_of_cuts, line_of};
 pub use run_entry::{RunEntry, push_entry, push_run_entry};
 pub use spelled_choice::{ChoiceText, CutText, choice_of, cut_of};
 pub use split::first_line;

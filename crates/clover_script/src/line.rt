@@ -1,5 +1,6 @@
 // What a line of a script says. These types are data alone: reading and printing stand beside them.
 
+use crate::choice::{Choice, CutList};
 use clover_map::Call;
 
 /// The numbers of a pool line, in its order, none of them checked.
@@ -40,6 +41,10 @@ pub enum Line {
     Call { actor: u32, task: Task },
     /// The actor's next access is refused.
     Refuse { actor: u32 },
+    /// The power fails, and again in each restart but the last: after how many stores of it, and with which choice.
+    Cut { choice: Choice, more: CutList },
+    /// The image that a cut of this choice would leave is shown.
+    Image { choice: Choice },
 }
 
 /// What is wrong with a line: it is none of those that are built so far.

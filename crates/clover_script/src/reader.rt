@@ -1,18 +1,20 @@
-// What a line behind the pool line says. Takes memory for the bytes of a value alone.
-ghost use Rattle.std.specs.Prelude.{◌≡◌, ◌↔◌, ℕ, ◌∷◌, ◌++◌, decimal, IsTrue, IfOk, IfSome, IfNone};
-ghost use Rattle.clover_script.specs.Line.{IsActor, AreTimes, IsLineOf, IsNoLine, IsIgnored};
-ghost use Rattle.clover_script.specs.Spelling.{SpellsLine, IsNoTasklessLine};
+// What a line behind the pool line says. Takes memory for the bytes of a value, and for the words of a choice and the
+// further cuts, alone.
+ghost use Rattle.std.specs.Prelude.{◌≡◌, ◌↔◌, ℕ, ◌∷◌, ◌++◌, decimal, false, IsTrue, IfOk, IfSome, IfNone};
+ghost use Rattle.clover_script.specs.Line.{IsActor, AreTimes, IsLineOf, IsNoLine, IsLineOfCuts, IsIgnored};
+ghost use Rattle.clover_script.specs.Spelling.{SpellsLine, IsNoTasklessLine, SpellsLineOfCuts, IsNoLineOfCuts};
 
 use crate::line::Line;
 use crate::part::{actor_front, actor_of, times_of};
 use crate::spelled::LineText;
+use crate::spelled_choice::{choice_of, cut_of};
 use crate::split::after_word;
 use crate::task::asked_of;
 use clover_list::OutOfMemory;
 use std::alloc::Global;
 
-/// What a line says that asks something of an actor. None exactly where the text is no such line: a
-/// pool line, an empty line and one that begins with `#` are none.
+/// What a line behind the pool line says: what it asks of an actor, a power cut, or an image that is shown. None exactly
+/// where the text is no such line: a pool line, an empty line and one that begins with `#` are none.
 ///
 /// Of a value above 1,024 bytes the first 1,024 are kept, and its whole length beside them.
 /// `OutOfMemory` for want of memory alone.
@@ -26,7 +28,7 @@ pub fn line_of(alloc: Global, line: &[u8]) -> Result<Option<Line>, OutOfMemory>
     }
 }
 
-/// The same with the key and the value as the line spells them. It takes no memory.
+/// The same with the key, the value and the names as the line spells them. It takes no memory.
 pub fn spelled_line(line: &[u8]) -> Option<LineText>
     ensures found { IfSome result (SpellsLine line.now) }
     ensures none { IfNone result (IsNoLine line.now) }
@@ -54,8 +56,32 @@ fn taskless_line(line: &[u8]) -> Option<LineText>
         let actor = actor_of(rest)?;
         return Some(LineText::Finish { actor });
     }
-    let actor = actor_of(after_word(line, b"refuse ")?)?;
-    Some(LineText::Refuse { actor })
+    if let Some(rest) = after_word(line, b"refuse ") {
+        let actor = actor_of(rest)?;
+        return Some(LineText::Refuse { actor });
+    }
+    line_of_cuts(line)
+}
+
+/// Whether a line asks for a power cut, or for the image that one would leave. It takes no memory.
+pub fn is_of_cuts(line: &[u8]) -> bool
+    ensures yes { IsTrue result → IsLineOfCuts line.now }
+    ensures no { result ≡ false → IsLineOfCuts line.now → ⊥ }
+{
+    line_of_cuts(line).is_some()
+}
+
+/// What a line of power cuts says.
+fn line_of_cuts(line: &[u8]) -> Option<LineText>
+    ensures found { IfSome result (SpellsLineOfCuts line.now) }
+    ensures none { IfNone result (IsNoLineOfCuts line.now) }
+{
+    if let Some(rest) = after_word(line, b"cut ") {
+        let cut = cut_of(rest)?;
+        return Some(LineText::Cut(cut));
+    }
+    let choice = choice_of(after_word(line, b"image ")?)?;
+    Some(LineText::Image(choice))
 }
 
 /// The steps of the texts of an actor and of times, with one space between them.

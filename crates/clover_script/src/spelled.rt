@@ -1,11 +1,12 @@
-// What a line says, with its key and its value still as the line spells them. The first reading of a script makes no
-// more of a line, and takes no memory for it; the second reading decodes both. So a line is small until it is run.
+// What a line says, with its key, its value and its names still as the line spells them. The first reading of a script
+// makes no more of a line, and takes no memory for it; the second reading decodes them. So a line is small until it is run.
 ghost use Rattle.std.specs.Prelude.{◌≡◌, ℕ, List, IfOk};
-ghost use Rattle.clover_script.specs.Line.{cut_value, task_of, kept_task, kept_line};
-ghost use Rattle.clover_script.specs.Spelling.{IsKeyText, value_with, IsValueText, call_said, HasBytes, asked_said, HasTaskBytes, said_by, HasLineBytes};
+ghost use Rattle.clover_script.specs.Line.{cut_value, task_of, kept_task, Spoken, IsSpoken, kept_line};
+ghost use Rattle.clover_script.specs.Spelling.{IsKeyText, value_with, IsValueText, call_said, HasBytes, asked_said, HasTaskBytes, Says};
 
 use crate::coded::decode_into;
 use crate::line::{Line, Task};
+use crate::spelled_choice::{ChoiceText, CutText};
 use clover_list::OutOfMemory;
 use clover_map::{Bytes, Call, Key, Value};
 use std::alloc::Global;
@@ -67,6 +68,8 @@ pub enum LineText<'a> {
     Finish { actor: u32 },
     Call { actor: u32, task: TaskText<'a> },
     Refuse { actor: u32 },
+    Cut(CutText<'a>),
+    Image(ChoiceText<'a>),
 }
 
 impl KeyText<'_> {
@@ -146,10 +149,10 @@ impl TaskText<'_> {
 }
 
 impl LineText<'_> {
-    /// The line, its key and its value decoded.
+    /// The line, its key, its value and its names decoded. `OutOfMemory` for want of memory alone.
     pub fn decode(self, alloc: Global) -> Result<Line, OutOfMemory>
-        requires { (key : List ℕ) × (value : List ℕ) × HasLineBytes self key value }
-        ensures { IfOk result (λ line. (key : List ℕ) (value : List ℕ) → HasLineBytes self.entry key value → line ≡ kept_line (said_by self.entry key value)) }
+        requires { (spoken : Spoken) × IsSpoken spoken × Says self spoken }
+        ensures { IfOk result (λ line. (spoken : Spoken) → IsSpoken spoken → Says self.entry spoken → line ≡ kept_line spoken) }
     {
         Ok(match self {
             LineText::Begin { actor, task } => {
@@ -163,6 +166,14 @@ impl LineText<'_> {
                 Line::Call { actor, task }
             }
             LineText::Refuse { actor } => Line::Refuse { actor },
+            LineText::Cut(cut) => {
+                let (choice, more) = cut.decode(alloc)?;
+                Line::Cut { choice, more }
+            }
+            LineText::Image(choice) => {
+                let choice = choice.decode(alloc)?;
+                Line::Image { choice }
+            }
         })
     }
 }

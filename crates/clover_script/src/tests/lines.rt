@@ -1,7 +1,10 @@
-// Lines of actors, and the numbers in them.
+// Lines behind the pool line, and the numbers in them.
 
 use crate::number::number_of;
-use crate::{Line, Task, first_line, line_of, push_call, push_number};
+use crate::{
+    Choice, Line, Task, first_line, is_of_cuts, line_of, push_call, push_choice, push_cut,
+    push_number,
+};
 use clover_map::Call;
 use std::alloc::Global;
 use std::process::Abort;
@@ -61,6 +64,16 @@ fn show(out: &mut Vec<u8>, line: &Line) -> Result<(), Fail> {
         Line::Finish { actor } => show_number(out, b"finish ", u64::from(*actor))?,
         Line::Call { actor, task } => show_task(out, b"call", *actor, task)?,
         Line::Refuse { actor } => show_number(out, b"refuse ", u64::from(*actor))?,
+        Line::Cut { choice, more } => {
+            out.extend_from_slice(b"cut ")?;
+            show_number(out, b"and ", more.items().len() as u64)?;
+            out.extend_from_slice(b" more: ")?;
+            push_cut(out, choice, more.items())?;
+        }
+        Line::Image { choice } => {
+            out.extend_from_slice(b"image of ")?;
+            push_choice(out, choice)?;
+        }
     }
     Ok(())
 }
@@ -186,6 +199,149 @@ fn reads_no_line_where_the_recycler_has_none(rt: HostRuntime) -> Result<(), Fail
         assert!(rt; line_of(alloc, text)?.is_none());
     }
     Ok(())
+}
+
+#[test]
+fn reads_each_line_of_power_cuts(rt: HostRuntime) -> Result<(), Fail> {
+    let alloc = rt.alloc();
+    let cases: [(&[u8], &[u8]); 14] = [
+        (b"cut old", b"cut and 0 more: old"),
+        (b"cut new", b"cut and 0 more: new"),
+        (b"cut mix:0", b"cut and 0 more: mix:0"),
+        (b"cut pick:R0,N0.2,R0", b"cut and 0 more: pick:R0,N0.2,R0"),
+        (b"cut old at 0 new", b"cut and 1 more: old at 0 new"),
+        (
+            b"cut old at 1 old at 1 old",
+            b"cut and 2 more: old at 1 old at 1 old",
+        ),
+        (
+            b"cut new at 7 pick:K0.31 at 0 mix:3 at 2 old",
+            b"cut and 3 more: new at 7 pick:K0.31 at 0 mix:3 at 2 old",
+        ),
+        (
+            b"cut mix:18446744073709551615 at 18446744073709551615 mix:18446744073709551615",
+            b"cut and 1 more: mix:18446744073709551615 at 18446744073709551615 mix:18446744073709551615",
+        ),
+        (
+            b"cut pick:V4294967295.4294967295.4294967295 at 1 pick:R4294967295",
+            b"cut and 1 more: pick:V4294967295.4294967295.4294967295 at 1 pick:R4294967295",
+        ),
+        (b"image old", b"image of old"),
+        (b"image new", b"image of new"),
+        (b"image mix:10", b"image of mix:10"),
+        (b"image pick:R0", b"image of pick:R0"),
+        (
+            b"image pick:M0.2,V0.2.1,K3.0",
+            b"image of pick:M0.2,V0.2.1,K3.0",
+        ),
+    ];
+    for (text, want) in cases {
+        assert_reads(&rt, alloc, text, want)?;
+        assert!(rt; is_of_cuts(text));
+    }
+    Ok(())
+}
+
+#[test]
+fn keeps_the_parts_of_a_cut(rt: HostRuntime) -> Result<(), Fail> {
+    let alloc = rt.alloc();
+    let Some(Line::Cut { choice, more }) = line_of(alloc, b"cut mix:3 at 17 mix:4 at 0 new")? else {
+        return Err("a cut".into());
+    };
+    let Choice::Mix(seed) = choice else {
+        return Err("a seed".into());
+    };
+    assert_eq!(rt; seed, 3);
+    let stores: [u64; 2] = [17, 0];
+    assert_eq!(rt; more.items().len(), stores.len());
+    for (cut, want) in more.items().iter().zip(&stores) {
+        assert_eq!(rt; cut.0, *want);
+    }
+    Ok(())
+}
+
+/// Asserts that each text is no line.
+fn assert_none(rt: &impl Abort, alloc: Global, cases: &[&[u8]]) -> Result<(), Fail> {
+    for text in cases {
+        assert!(rt; line_of(alloc, text)?.is_none());
+        assert!(rt; !is_of_cuts(text));
+    }
+    Ok(())
+}
+
+#[test]
+fn reads_no_line_of_a_bad_choice(rt: HostRuntime) -> Result<(), Fail> {
+    let cases: [&[u8]; 36] = [
+        // Nothing behind the first word, and other first words.
+        b"cut",
+        b"cut ",
+        b"image",
+        b"image ",
+        b"Cut old",
+        b" cut old",
+        b"cutold",
+        b"cuts old",
+        b"imageold",
+        b"images old",
+        b"old",
+        // Bad choices.
+        b"cut olds",
+        b"cut Old",
+        b"cut  old",
+        b"cut 1",
+        b"cut mix",
+        b"cut mix:",
+        b"cut mix:01",
+        b"cut mix:-1",
+        b"cut mix:18446744073709551616",
+        b"cut pick:",
+        b"cut pick:R0,",
+        b"cut pick:R0, R1",
+        b"cut pick:S0",
+        b"cut pick:C",
+        b"cut pick:fR0",
+        b"cut pick:R4294967296",
+        b"image  old",
+        b"image olds",
+        b"image mix:18446744073709551616",
+        b"image pick:fN0.0",
+        // Something behind an image.
+        b"image old ",
+        b"image old new",
+        b"image old at 1 old",
+        b"image old\r",
+        b"image 1",
+    ];
+    assert_none(&rt, rt.alloc(), &cases)
+}
+
+#[test]
+fn reads_no_line_of_bad_further_cuts(rt: HostRuntime) -> Result<(), Fail> {
+    let cases: [&[u8]; 19] = [
+        // Something behind what is whole.
+        b"cut old ",
+        b"cut old new",
+        b"cut old\r",
+        b"cut old at 1 old ",
+        b"cut old at 1 old new",
+        // A word is left out, or another stands in its place.
+        b"at 1 old",
+        b"cut at 1 old",
+        b"cut old at",
+        b"cut old at 1",
+        b"cut old at 1 ",
+        b"cut old at old",
+        b"cut old in 1 old",
+        b"cut old at 1 old 2 old",
+        b"cut old at 1 old at 2",
+        b"cut old at 1 olds",
+        // No number, or one out of range.
+        b"cut old at 01 old",
+        b"cut old at -1 old",
+        b"cut old at 1x old",
+        b"cut old at 18446744073709551616 old",
+    ];
+    assert_none(&rt, rt.alloc(), &cases)
 }
 
 #[test]

@@ -1,6 +1,6 @@
 // Whole scripts: what they set up, and which of their lines is refused.
 
-use crate::{BadLine, LineFault, check_lines};
+use crate::{BadLine, Choice, Line, LineFault, check_lines, line_of};
 use clover_words::Setup;
 use std::alloc::Global;
 use std::process::Abort;
@@ -34,7 +34,7 @@ fn assert_refused(rt: &impl Abort, alloc: Global, others: &[u8], want: u64) -> R
 #[test]
 fn names_the_first_bad_line(rt: HostRuntime) -> Result<(), Fail> {
     let alloc = rt.alloc();
-    let cases: [(&[u8], u64); 19] = [
+    let cases: [(&[u8], u64); 25] = [
         (b"", 0),
         (
             b"\n# a\ncall 1 put a =1\nbegin 2 get b\nstep 2 3\nrefuse 2\nfinish 2\n#",
@@ -49,8 +49,17 @@ fn names_the_first_bad_line(rt: HostRuntime) -> Result<(), Fail> {
             b"begin 0 recycle 3\nstep 0 5\nfinish 0\nrefuse 0\ncall 0 sweep",
             0,
         ),
+        (
+            b"cut old\ncall 1 get a\n# a\nimage pick:R0,N0.2\ncut mix:3 at 2 new at 0 old\nimage new",
+            0,
+        ),
         // None of the forms.
         (b"jump 1\n", 2),
+        (b"cut\n", 2),
+        (b"cut old\ncut olds\n", 3),
+        (b"image new\n\nimage new at 1 old\n", 4),
+        (b"cut old at 18446744073709551616 old\n", 2),
+        (b"cut new\r\n", 2),
         (b" \n", 2),
         (b"call 1 get a\r\n", 2),
         (b"call 01 get a\n", 2),
@@ -82,13 +91,15 @@ fn names_the_first_bad_line(rt: HostRuntime) -> Result<(), Fail> {
 #[test]
 fn refuses_what_opens_no_script(rt: HostRuntime) -> Result<(), Fail> {
     let alloc = rt.alloc();
-    let cases: [(&[u8], u64); 11] = [
+    let cases: [(&[u8], u64); 13] = [
         // No pool line at all.
         (b"", 1),
         (b"\n", 2),
         (b"# a\n\n# b", 4),
-        // An actor's line before it.
+        // A line that says something before it.
         (b"call 1 get a\n", 1),
+        (b"#\ncut old\n", 2),
+        (b"image new\n", 1),
         (b"# a\ncall 0 sweep\n", 2),
         (b"\n#\nfinish 1\n", 3),
         // A line of no form before it.
@@ -234,5 +245,53 @@ fn sets_up_the_pool(rt: HostRuntime) -> Result<(), Fail> {
     );
     assert_eq!(rt; (setup.pool.words, setup.pool.wear), (3, 5));
     assert_eq!(rt; (setup.clients, setup.batch), (6, 7));
+    Ok(())
+}
+
+/// A line of `copies` copies of a text behind a front.
+fn with_copies(alloc: Global, front: &[u8], copy: &[u8], copies: u32) -> Result<Vec<u8>, Fail> {
+    let mut line = front.to_vec(alloc)?;
+    for _ in 0..copies {
+        line.extend_from_slice(copy)?;
+    }
+    Ok(line)
+}
+
+#[test]
+fn keeps_long_lines_of_power_cuts(rt: HostRuntime) -> Result<(), Fail> {
+    let alloc = rt.alloc();
+    let text = with_copies(alloc, b"cut pick:R0", b",N0.2", 100_000)?;
+    let Some(Line::Cut { choice, more }) = line_of(alloc, &text)? else {
+        return Err("a cut".into());
+    };
+    let Choice::Pick(words) = choice else {
+        return Err("words".into());
+    };
+    assert_eq!(rt; (words.items().len(), more.items().len()), (100_001, 0));
+    let text = with_copies(alloc, b"cut old", b" at 2 pick:R0,R1", 100_000)?;
+    let Some(Line::Cut { choice: _, more }) = line_of(alloc, &text)? else {
+        return Err("a cut".into());
+    };
+    assert_eq!(rt; more.items().len(), 100_000);
+    Ok(())
+}
+
+#[test]
+fn reads_long_lines_of_power_cuts(rt: HostRuntime) -> Result<(), Fail> {
+    let alloc = rt.alloc();
+    let cases: [(&[u8], &[u8], &[u8], u64); 5] = [
+        (b"cut pick:R10", b",R1", b"", 0),
+        // The last name is none.
+        (b"cut pick:R10", b",R1", b",S1", 2),
+        (b"cut mix:1", b" at 1 old", b"", 0),
+        // The last further cut has no choice.
+        (b"cut mix:1", b" at 1 old", b" at 12345", 2),
+        (b"image pick:R100", b",R1", b"", 0),
+    ];
+    for (front, copy, end, want) in cases {
+        let mut line = with_copies(alloc, front, copy, 50_000)?;
+        line.extend_from_slice(end)?;
+        assert_refused(&rt, alloc, &line, want)?;
+    }
     Ok(())
 }

@@ -1,5 +1,4 @@
 use Rattle.clover_script.specs.Lines.{too_early}
-use Rattle.clover_script.specs.Spelling.{said_by}
 use Rattle.clover_script.proofs.Reading.{bad_pool}
 use Rattle.clover_script.proofs.check.opening_of.Goals as goal
 
@@ -9,4 +8,4 @@ returns-in-Some-clause-none c = bad_pool c.args.line.now c.in-Some.numbers c.set
 pub returns-in-Some-spelled_line-clause-none : goal.returns-in-Some-spelled_line-clause-none
 returns-in-Some-spelled_line-clause-none c =
     let said = c.in-Some-spelled_line.ensures.found in
-    too_early (said_by c.in-Some-spelled_line.field-0 said.0 said.1, said.3, said.4)
+    too_early (said.0, said.1, said.3)
