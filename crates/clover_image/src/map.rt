@@ -1,24 +1,45 @@
 // The map that a sound image stands for.
-use crate::content::{key_of, meta_of, next_of, root_of, value_of};
+ghost use Rattle.std.specs.Prelude.{◌≡◌, List, ℕ, Some, None};
+ghost use Rattle.std.specs.Option.{option_map};
+ghost use Rattle.clover_words.specs.Tag.{tag_number};
+ghost use Rattle.clover_rule.specs.Cut.{IsSound};
+ghost use Rattle.clover_rule.specs.Content.{InRange};
+ghost use Rattle.clover_rule.specs.Image.{Chain};
+ghost use Rattle.clover_rule.specs.Lists.{Each};
+ghost use Rattle.clover_rule.specs.Sound.{versions_of};
+ghost use Rattle.clover_image.specs.Reading.{decoded, last_of, tail_as, told_tail};
+
+use crate::content::{is_value, key_of, meta_of, next_of, root_of, value_of};
 use crate::image::Image;
 use clover_list::OutOfMemory;
 use clover_map::{Call, Reply, TaggedMap};
-use clover_words::{Kind, Tag};
+use clover_words::Tag;
 use std::alloc::Global;
 
 impl Image {
     /// The last tag of the chain of a slot of a sound image, and whether its version is a value. None where the slot
     /// has no root. It takes no memory.
-    pub fn tail(&self, slot: u32) -> Option<(Tag, bool)> {
-        let mut last = root_of(self, slot)??;
-        for _ in 0..self.pool().total() {
-            match next_of(self, last.buffer())?.link {
-                Some(tag) => last = tag,
-                None => break,
-            }
-        }
-        Some((last, meta_of(self, last)?.kind == Kind::Value))
+    pub fn tail(&self, slot: u32) -> Option<(Tag, bool)>
+        ensures { (sound : IsSound self.now.pool self.now.words) → option_map told_tail result ≡ option_map tail_as (last_of None (versions_of (sound.reads.chain slot) (sound.reads.value slot))) }
+    {
+        let root = root_of(self, slot)??;
+        let last = last_from(self, root)?;
+        Some((last, is_value(meta_of(self, last)?)))
     }
+}
+
+// The last tag of the chain that begins with this one. A chain has at most as many tags as the pool has buffers.
+fn last_from(image: &Image, root: Tag) -> Option<Tag>
+    ensures { IsSound image.now.pool image.now.words → (tags : List ℕ) → Chain (decoded image.now) (Some (tag_number root)) tags → Each (InRange image.now.pool) tags → option_map tag_number result ≡ last_of None tags }
+{
+    let mut last = root;
+    for _steps in 0..image.pool().total() {
+        match next_of(image, last.buffer())?.link {
+            Some(tag) => last = tag,
+            None => return Some(last),
+        }
+    }
+    None
 }
 
 /// The map that a sound image stands for: the keys whose slot's chain ends in a value, each with the chain's last tag and

@@ -1,10 +1,14 @@
 // The test of an image against the rules. Each rule has a loop of its own, in the rules' order, so that the first rule
 // that is broken is named.
+ghost use Rattle.std.specs.Prelude.{◌≡◌, ℕ, ◌*◌, ◌<◌, ◌↔◌, IfErr, IfOk, IsTrue};
+ghost use Rattle.clover_words.specs.Place.{IsBuffer, buffer_of};
+ghost use Rattle.clover_image.specs.Damage.{IsFirstAt, LinkHolds, NextHolds, RootHolds};
+
 use crate::content::{is_in_range, is_padded, key_of, meta_of, next_of, root_of};
 use crate::damage::{Damage, DamageRule, SoundFault};
 use crate::image::Image;
 use clover_map::Key;
-use clover_words::{Kind, Meta, NextWord, Pool, Tag, Word};
+use clover_words::{Buffer, Kind, Meta, Pool, Tag, Word};
 use std::alloc::Global;
 use std::collections::BTreeMap;
 
@@ -19,48 +23,70 @@ pub fn sound(alloc: Global, image: &Image) -> Result<(), SoundFault> {
 }
 
 // Every next word decodes and is in range.
-fn next_words(image: &Image) -> Result<(), Damage> {
+fn next_words(image: &Image) -> Result<(), Damage>
+    ensures ok { IfOk result (λ _. (i : ℕ) → i < image.now.pool.nodes * image.now.pool.buffers → NextHolds image.now (buffer_of image.now.pool i)) }
+    ensures err { IfErr result (λ damage. (n : ℕ) × (n < image.now.pool.nodes * image.now.pool.buffers) × IsFirstAt (λ i. NextHolds image.now (buffer_of image.now.pool i)) n × (damage ≡ record { rule = DamageRule.Next; word = Word.Next (buffer_of image.now.pool n) })) }
+{
     let pool = image.pool();
     for number in 0..pool.total() {
         let buffer = pool.buffer(number);
-        match next_of(image, buffer) {
-            Some(next) if is_fine(&pool, next) => {}
-            _ => {
-                return Err(Damage {
-                    rule: DamageRule::Next,
-                    word: Word::Next(buffer),
-                });
-            }
+        if !is_next_fine(image, buffer) {
+            return Err(Damage {
+                rule: DamageRule::Next,
+                word: Word::Next(buffer),
+            });
         }
     }
     Ok(())
 }
 
-// Whether a next word's own generation is at most the wear, and its target in range.
-fn is_fine(pool: &Pool, next: NextWord) -> bool {
-    next.own <= pool.wear
-        && match next.link {
-            Some(tag) => is_in_range(pool, tag),
-            None => true,
-        }
+// Whether a next word decodes, its own generation is at most the wear, and its target in range.
+fn is_next_fine(image: &Image, buffer: Buffer) -> bool
+    requires { IsBuffer image.now.pool buffer }
+    ensures { IsTrue result ↔ NextHolds image.now buffer }
+{
+    let pool = image.pool();
+    match next_of(image, buffer) {
+        Some(next) => next.own <= pool.wear && is_link_fine(&pool, next.link),
+        None => false,
+    }
+}
+
+// Whether a target, where there is one, is in range.
+fn is_link_fine(pool: &Pool, link: Option<Tag>) -> bool
+    ensures { IsTrue result ↔ LinkHolds pool.now link }
+{
+    match link {
+        Some(tag) => is_in_range(pool, tag),
+        None => true,
+    }
 }
 
 // Every root decodes and is in range.
-fn roots(image: &Image) -> Result<(), Damage> {
-    let pool = image.pool();
-    for slot in 0..pool.slots {
-        match root_of(image, slot) {
-            Some(None) => {}
-            Some(Some(tag)) if is_in_range(&pool, tag) => {}
-            _ => {
-                return Err(Damage {
-                    rule: DamageRule::Root,
-                    word: Word::Root(slot),
-                });
-            }
+fn roots(image: &Image) -> Result<(), Damage>
+    ensures ok { IfOk result (λ _. (i : ℕ) → i < image.now.pool.slots → RootHolds image.now i) }
+    ensures err { IfErr result (λ damage. (n : ℕ) × (n < image.now.pool.slots) × IsFirstAt (RootHolds image.now) n × (damage ≡ record { rule = DamageRule.Root; word = Word.Root n })) }
+{
+    for slot in 0..image.pool().slots {
+        if !is_root_fine(image, slot) {
+            return Err(Damage {
+                rule: DamageRule::Root,
+                word: Word::Root(slot),
+            });
         }
     }
     Ok(())
+}
+
+// Whether a root decodes, and its target is in range.
+fn is_root_fine(image: &Image, slot: u32) -> bool
+    requires { slot < image.now.pool.slots }
+    ensures { IsTrue result ↔ RootHolds image.now slot }
+{
+    match root_of(image, slot) {
+        Some(root) => is_link_fine(&image.pool(), root),
+        None => false,
+    }
 }
 
 // Whether the slot has a root.
