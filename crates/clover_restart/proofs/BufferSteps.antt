@@ -12,7 +12,7 @@ use Rattle.clover_rule.specs.Restart.{buffers_from, lifts, moves}
 use Rattle.clover_rule.specs.Sound.{Sound}
 use Rattle.clover_rule.specs.declared.view.RestartStore.{RestartStore}
 use Rattle.clover_rule.specs.declared.view.RestartStore.TheVariants.{Lift, LiftFlushed}
-use Rattle.clover_alloc.specs.Ledger.{Ledger, Moves, book}
+use Rattle.clover_alloc.specs.Ledger.{Ledger, IsLedger, Moves, book}
 use Rattle.clover_alloc.specs.declared.line.Place.{Place}
 use Rattle.clover_restart.specs.Lifting.{AreLifted, lift_of, next_line}
 use Rattle.clover_restart.specs.Reading.{number_at, number_of, place_at}
@@ -22,10 +22,11 @@ use Rattle.clover_restart.specs.declared.store.Store.{Store}
 use Rattle.clover_restart.proofs.ChainMarks.{moves_is}
 use Rattle.clover_restart.proofs.Marking.{place_number}
 
--- the first n buffers were read, and the books are those of the pool, from which nothing was taken
+-- the first n buffers were read, and the books are whole ones of the pool, from which nothing was taken
 pub record AreLiftedTo (p : Pool) (im : Image) (n : ℕ) (before after : List Store) (books : Ledger) : Type 0 where
   pub pool : books.pool ≡ p
   pub fresh : books.fresh ≡ true
+  pub whole : IsLedger books
   pub read : (sound : Sound p im) → AreLifted p im sound n before after books
 
 -- one buffer more
@@ -50,10 +51,11 @@ lifts_more f g (c ∷ bs) b = go (f c) (lifts_more f g bs b)
     go false e = e
 
 module _ (p : Pool) (im : Image) where
-  pub lifted_none : (n : ℕ) (before : List Store) (books : Ledger) → n ≡ 0 → books.pool ≡ p → books.fresh ≡ true → AreLiftedTo p im n before before books
-  lifted_none n before books e a b = record {
+  pub lifted_none : (n : ℕ) (before : List Store) (books : Ledger) → n ≡ 0 → books.pool ≡ p → books.fresh ≡ true → IsLedger books → AreLiftedTo p im n before before books
+  lifted_none n before books e a b w = record {
     pool = a;
     fresh = b;
+    whole = w;
     read = λ s. record {
       stores = sym (append-nil (map store_of before)) ∙ ap (λ (k : ℕ). map store_of before ++ lifts (moves p im s) (λ (c : ℕ). gen (im.next c)) (buffers_from p 0 k)) (sym e);
       lines = λ q h. absurd (omega arith);
@@ -85,9 +87,10 @@ module _ (p : Pool) (im : Image) where
     }
 
   pub lifted_next : (n : ℕ) (before now after : List Store) (b c : Ledger) (buffer : Buffer) (mark : Place) → AreLiftedTo p im n before now b → buffer ≡ buffer_of p n → ((sound : Sound p im) → mark ≡ mark_at p im sound p.slots (number_at p n))
-      → map store_of after ≡ map store_of now ++ lift_of p.wear mark (number_of buffer) (gen (im.next (number_of buffer))) → Moves b buffer (next_line p.wear mark (gen (im.next (number_of buffer)))) c → AreLiftedTo p im (n + 1) before after c
-  lifted_next n before now after b c buffer mark a eb em es m = record {
+      → map store_of after ≡ map store_of now ++ lift_of p.wear mark (number_of buffer) (gen (im.next (number_of buffer))) → Moves b buffer (next_line p.wear mark (gen (im.next (number_of buffer)))) c → IsLedger c → AreLiftedTo p im (n + 1) before after c
+  lifted_next n before now after b c buffer mark a eb em es m w = record {
     pool = ap (λ (x : Ledger). x.pool) m.value ∙ a.pool;
     fresh = ap (λ (x : Ledger). x.fresh) m.value ∙ a.fresh;
+    whole = w;
     read = λ s. lift_next s n before now after b c buffer mark (a.read s) eb (em s) es m;
   }

@@ -1,5 +1,5 @@
 -- What the marks of the chains that are kept say of a buffer of a sound image.
-use Rattle.std.proofs.Common.{◌≡◌, ◌≢◌, ℕ, zero, suc, ◌<◌, List, [], ◌∷◌, Bool, true, false, cond, eqb, eqb-true, ◌&&◌, ◌||◌, not, nat_lt, refl, sym, ap, ◌∙◌, subst, arith}
+use Rattle.std.proofs.Common.{◌≡◌, ◌≢◌, ℕ, zero, suc, ◌<◌, List, [], ◌∷◌, Bool, true, false, cond, eqb, eqb-true, ◌&&◌, ◌||◌, not, nat_lt, refl, sym, ap, ◌∙◌, arith}
 use Rattle.std.specs.Prelude.{Option, Some, None}
 use Rattle.std.proofs.lemmas.Bool.{or_left, or_right}
 use Rattle.clover_words.specs.declared.pool.Pool.{Pool}
@@ -12,6 +12,7 @@ use Rattle.clover_rule.specs.Restart.{is_dead, is_of, moves, some_below, stands_
 use Rattle.clover_rule.specs.Sound.{Sound}
 use Rattle.clover_alloc.specs.Lines.{same_place}
 use Rattle.clover_alloc.specs.declared.line.Place.TheVariants.{Free, Worn, Bound, Out}
+use Rattle.clover_image.proofs.Chains.{slot_range}
 use Rattle.clover_restart.specs.Chaining.{HasChain}
 use Rattle.clover_restart.specs.Lifting.{IsMark, goes_on}
 use Rattle.clover_restart.specs.Slots.{is_root, is_chained, mark_at}
@@ -67,16 +68,8 @@ and_along false y z h e = e
 
 module _ (p : Pool) (im : Image) (sound : Sound p im) where
   -- each chain of the image is one of tags of the pool
-  chain_range : (x : Option ℕ) (us : List ℕ) → ((t : ℕ) → x ≡ Some t → InRange p t) → Chain im x us → Each (InRange p) us
-  chain_range x [] h c = tt
-  chain_range None (u ∷ us) h c = absurd c
-  chain_range (Some t) (u ∷ us) h c = (subst (InRange p) c.0 (h t refl), chain_range (link (im.next (home t))) us (sound.target (home t)) c.2)
-
-  pub slot_range : (s : ℕ) → Each (InRange p) (sound.chain s)
-  slot_range s = chain_range (im.root s) (sound.chain s) (sound.root s) (sound.walk s)
-
   pub slot_chain : (s : ℕ) → HasChain p im (im.root s)
-  slot_chain s = record { tags = sound.chain s; chain = sound.walk s; range = slot_range s }
+  slot_chain s = record { tags = sound.chain s; chain = sound.walk s; range = slot_range p im sound s }
 
   pub root_chained : (n b : ℕ) → is_root p im sound n b ≡ true → is_chained p im sound n b ≡ true
   root_chained n b e = some_along (λ (s : ℕ). not (is_dead p im sound s) && is_of (im.root s) b) (λ (s : ℕ). not (is_dead p im sound s) && stands_on (sound.chain s) b) n
@@ -84,7 +77,7 @@ module _ (p : Pool) (im : Image) (sound : Sound p im) where
 
   chained_young : (n b : ℕ) → is_chained p im sound n b ≡ true → gen (im.next b) < p.wear
   chained_young n b e = some_is (gen (im.next b) < p.wear) (λ (s : ℕ). not (is_dead p im sound s) && stands_on (sound.chain s) b) n
-      (λ s l q. stands_young p im b (im.root s) (sound.chain s) (sound.walk s) (slot_range s) (and_second (not (is_dead p im sound s)) (stands_on (sound.chain s) b) q)) e
+      (λ s l q. stands_young p im b (im.root s) (sound.chain s) (sound.walk s) (slot_range p im sound s) (and_second (not (is_dead p im sound s)) (stands_on (sound.chain s) b) q)) e
 
   -- a mark is free exactly off the chains
   free_off : (n b : ℕ) → same_place Free (mark_at p im sound n b) ≡ not (is_chained p im sound n b)

@@ -1,4 +1,3 @@
-pub mod Decoding
 pub mod Chains
 pub mod KeyWords
 pub mod Lifts
@@ -7,3 +6,5 @@ pub mod ChainMarks
 pub mod BufferSteps
 pub mod Slotwise
 pub mod Begins
+pub mod NextRun
+pub mod UnderWaySteps

@@ -7,3 +7,5 @@ pub mod Chaining
 pub mod Slots
 pub mod Lifting
 pub mod Begun
+pub mod Laws
+pub mod UnderWay

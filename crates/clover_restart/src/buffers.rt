@@ -5,7 +5,7 @@ ghost use Rattle.clover_rule.specs.Cut.{IsSound};
 ghost use Rattle.clover_rule.specs.Memory.{gen};
 ghost use Rattle.clover_rule.specs.Sound.{Sound};
 ghost use Rattle.clover_rule.specs.declared.view.RestartStore.TheVariants.{Lift, LiftFlushed};
-ghost use Rattle.clover_alloc.specs.Ledger.{Moves, new_ledger};
+ghost use Rattle.clover_alloc.specs.Ledger.{IsLedger, Moves, new_ledger};
 ghost use Rattle.clover_alloc.specs.declared.line.Place.TheVariants.{Free as IsFree};
 ghost use Rattle.clover_restart.specs.Lifting.{AreLifted, IsMark, lift_of, next_line};
 ghost use Rattle.clover_restart.specs.Reading.{decoded, number_at, number_of};
@@ -30,8 +30,9 @@ pub fn read_buffers(
     requires sound { IsSound image.now.pool image.now.words }
     requires sized { length marks.now ≡ image.now.pool.nodes * image.now.pool.buffers }
     requires marks { (sound : Sound image.now.pool (decoded image.now)) → (q : ℕ) → q < image.now.pool.nodes * image.now.pool.buffers → slice_index_or marks.now q IsFree ≡ mark_at image.now.pool (decoded image.now) sound image.now.pool.slots (number_at image.now.pool q) }
-    requires new { books.old ≡ new_ledger image.now.pool }
-    ensures { OnOk result ((sound : Sound image.now.pool (decoded image.now)) → AreLifted image.now.pool (decoded image.now) sound (image.now.pool.nodes * image.now.pool.buffers) stores.old.items stores.new.items books.new) }
+    requires new { (books.old ≡ new_ledger image.now.pool) × IsLedger books.old }
+    ensures whole { OnOk result (IsLedger books.new × (books.new.pool ≡ image.now.pool) × (books.new.fresh ≡ true)) }
+    ensures read { OnOk result ((sound : Sound image.now.pool (decoded image.now)) → AreLifted image.now.pool (decoded image.now) sound (image.now.pool.nodes * image.now.pool.buffers) stores.old.items stores.new.items books.new) }
 {
     let pool = image.pool();
     for number in 0..pool.total() {
@@ -56,6 +57,7 @@ fn read_buffer(
     requires fresh { books.old.fresh ≡ true }
     ensures stores { OnOk result (map store_of stores.new.items ≡ map store_of stores.old.items ++ lift_of image.now.pool.wear mark (number_of buffer) (gen ((decoded image.now).next (number_of buffer)))) }
     ensures books { OnOk result (Moves books.old buffer (next_line image.now.pool.wear mark (gen ((decoded image.now).next (number_of buffer)))) books.new) }
+    ensures whole { OnOk result (IsLedger books.new) }
 {
     let wear = image.pool().wear;
     let own = next_in(image, buffer).own;

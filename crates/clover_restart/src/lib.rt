@@ -6,9 +6,13 @@
 mod buffers;
 mod chain;
 mod key;
+mod laws;
 mod reading;
 mod slots;
 pub mod steps;
 mod store;
+#[cfg(test)]
+mod tests;
 
+pub use laws::next_run_law;
 pub use steps::Restart;

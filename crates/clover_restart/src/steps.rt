@@ -3,7 +3,7 @@ ghost use Rattle.std.specs.Prelude.{◌≡◌, ◌≢◌, ℕ, [], false, Ok, If
 ghost use Rattle.clover_rule.specs.Steps.{Restart as Step};
 ghost use Rattle.clover_rule.specs.Cut.{IsSound};
 ghost use Rattle.clover_rule.specs.Sound.{Sound};
-ghost use Rattle.clover_restart.specs.Begun.{IsRestartOf};
+ghost use Rattle.clover_restart.specs.Begun.{IsNextRun, IsRestartOf};
 ghost use Rattle.clover_restart.specs.Reading.{decoded};
 ghost use Rattle.clover_restart.specs.Going.{RestartHolds, OnStored, OnEnd, Stored};
 
@@ -57,12 +57,14 @@ impl Restart {
     pub fn of_sound(alloc: Global, image: &Image) -> Result<Restart, OutOfMemory>
         requires { IsSound image.now.pool image.now.words }
         ensures pool { IfOk result (λ restart. restart.pool ≡ image.now.pool) }
+        ensures next { IfOk result (λ restart. IsNextRun image.now.pool restart.books restart.directory) }
         ensures restarts { IfOk result (λ restart. (sound : Sound image.now.pool (decoded image.now)) → IsRestartOf image.now.pool (decoded image.now) sound restart) }
     {
         let pool = image.pool();
         let mut slots = read_slots(alloc, image)?;
         let mut books = Books::make(alloc, pool)?;
         read_buffers(image, &slots.marks, &mut slots.stores, &mut books)?;
+        slots.directory.stands();
         let count = slots.directory.list().len() as u32;
         slots.stores.push(Store::Count(count))?;
         Ok(Restart {

@@ -13,7 +13,7 @@ use Rattle.clover_restart.proofs.ChainMarks.{mark_is}
 use Rattle.clover_restart.proofs.buffers.read_buffers.Goals as goal
 
 pub loop-number-init : goal.loop-number-init
-loop-number-init c = lifted_none c.args.image.now.pool (decoded c.args.image.now) _ c.args.stores.now.items c.args.books.now refl (ap (λ (x : Ledger). x.pool) c.requires.new) (ap (λ (x : Ledger). x.fresh) c.requires.new)
+loop-number-init c = lifted_none c.args.image.now.pool (decoded c.args.image.now) _ c.args.stores.now.items c.args.books.now refl (ap (λ (x : Ledger). x.pool) c.requires.new.0) (ap (λ (x : Ledger). x.fresh) c.requires.new.0) c.requires.new.1
 
 pub read_buffer-requires-clause-mark : goal.read_buffer-requires-clause-mark
 read_buffer-requires-clause-mark c =
@@ -29,10 +29,10 @@ loop-number-preserved c =
     let p = c.args.image.now.pool in let im = decoded c.args.image.now in let n = c.loop-number.number in
     let is = c.buffer-buffer.ensures.value ∙ ap (λ (q : Pool). buffer_of q n) c.pool-pool.ensures in
     let lt = subst (λ (q : Pool). n < q.nodes * q.buffers) c.pool-pool.ensures (subst (λ (m : ℕ). n < m) c.total-number-end.ensures.value c.loop-number-test.true) in
-    lifted_next p im n c.args.stores.now.items c.loop-number.stores.items c.read_buffer.new.stores.items c.loop-number.books c.read_buffer.new.books c.buffer-buffer.result _ c.loop-number.invariant is (λ s. c.requires.marks s n lt) c.in_ok-read_buffer.ensures.stores c.in_ok-read_buffer.ensures.books
+    lifted_next p im n c.args.stores.now.items c.loop-number.stores.items c.read_buffer.new.stores.items c.loop-number.books c.read_buffer.new.books c.buffer-buffer.result _ c.loop-number.invariant is (λ s. c.requires.marks s n lt) c.in_ok-read_buffer.ensures.stores c.in_ok-read_buffer.ensures.books c.in_ok-read_buffer.ensures.whole
 
-pub returns : goal.returns
-returns c =
+pub returns-clause-read : goal.returns-clause-read
+returns-clause-read c =
     let p = c.args.image.now.pool in let im = decoded c.args.image.now in
     let total : c.total-number-end.result ≡ p.nodes * p.buffers = c.total-number-end.ensures.value ∙ ap (λ (q : Pool). q.nodes * q.buffers) c.pool-pool.ensures in
     let lo = c.loop-number-test.false in let hi = c.loop-number.auto.number-end in

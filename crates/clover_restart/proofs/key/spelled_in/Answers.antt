@@ -1,5 +1,5 @@
 use Rattle.std.proofs.Common.{◌≢◌, sym, ◌∙◌, arith, below_more}
-use Rattle.clover_restart.proofs.Decoding.{key_is}
+use Rattle.clover_image.proofs.Decoding.{key_is}
 use Rattle.clover_restart.proofs.key.spelled_in.Goals as goal
 
 pub loop-place-preserved : goal.loop-place-preserved

@@ -1,6 +1,6 @@
 use Rattle.std.proofs.Common.{sym, ◌∙◌, refl, subst}
 use Rattle.std.specs.Prelude.{IsSome}
-use Rattle.clover_restart.proofs.Decoding.{next_decodes, next_read}
+use Rattle.clover_image.proofs.Decoding.{next_decodes, next_read}
 use Rattle.clover_restart.proofs.reading.next_in.Goals as goal
 
 pub unwrap-requires : goal.unwrap-requires

@@ -1,6 +1,6 @@
 use Rattle.std.proofs.Common.{sym, ◌∙◌, refl, subst}
 use Rattle.std.specs.Prelude.{IsSome}
-use Rattle.clover_restart.proofs.Decoding.{root_decodes}
+use Rattle.clover_image.proofs.Decoding.{root_decodes}
 use Rattle.clover_restart.proofs.reading.root_in.Goals as goal
 
 pub unwrap-requires : goal.unwrap-requires

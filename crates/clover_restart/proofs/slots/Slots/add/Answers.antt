@@ -12,7 +12,7 @@ use Rattle.clover_alloc.specs.declared.line.Place.{Place}
 use Rattle.clover_alloc.specs.declared.line.Place.TheVariants.{Free, Bound, Out}
 use Rattle.clover_restart.specs.Reading.{decoded, number_at}
 use Rattle.clover_restart.specs.declared.store.Store.TheVariants.{Clear}
-use Rattle.clover_restart.proofs.ChainMarks.{slot_range}
+use Rattle.clover_image.proofs.Chains.{slot_range}
 use Rattle.clover_restart.proofs.Lifts.{two_more}
 use Rattle.clover_restart.proofs.Marking.{item_inside}
 use Rattle.clover_restart.proofs.Slotwise.{chain_is, dead_by, not_bound, not_false, not_named, not_true, read_dead, read_kept, some_tag}

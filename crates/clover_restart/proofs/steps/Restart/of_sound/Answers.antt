@@ -21,7 +21,7 @@ pub invariant_of-result : goal.invariant_of-result
 invariant_of-result c =
     let p = c.args.image.now.pool in let im = decoded c.args.image.now in let s = c.requires.reads in let xs = c.list.result.now in
     let counted = sym (length-map xs pair_of) ∙ ap (λ (l : List (ℕ × List ℕ)). length l) c.list.ensures.pairs in
-    let is = plan_is p im s c.in_ok-slots.slots c.read_buffers.new.stores.items c.push.new.self.items c.read_buffers.new.books (c.in_ok-slots.ensures s) (c.in_ok-read_buffers.ensures s) (length xs) counted c.in_ok-push.ensures.items in
+    let is = plan_is p im s c.in_ok-slots.slots c.read_buffers.new.stores.items c.push.new.self.items c.read_buffers.new.books (c.in_ok-slots.ensures s) (c.in_ok-read_buffers.ensures.read s) (length xs) counted c.in_ok-push.ensures.items in
     record {
       made = omega arith;
       within = subst (λ (o : Pool). AreWithin o (map store_of c.push.new.self.items)) (sym c.pool-pool.ensures) (subst (AreWithin p) (sym is) (plan_within p im s));
@@ -31,5 +31,8 @@ pub returns-clause-restarts : goal.returns-clause-restarts
 returns-clause-restarts c =
     let p = c.args.image.now.pool in let im = decoded c.args.image.now in let xs = c.list.result.now in
     let counted = sym (length-map xs pair_of) ∙ ap (λ (l : List (ℕ × List ℕ)). length l) c.list.ensures.pairs in
-    λ s. let x = restarts p im s c.in_ok-slots.slots c.read_buffers.new.stores.items c.push.new.self.items c.read_buffers.new.books (c.in_ok-slots.ensures s) (c.in_ok-read_buffers.ensures s) (length xs) counted c.in_ok-push.ensures.items in
+    λ s. let x = restarts p im s c.in_ok-slots.slots c.read_buffers.new.stores.items c.push.new.self.items c.read_buffers.new.books (c.in_ok-slots.ensures s) (c.in_ok-read_buffers.ensures.read s) (length xs) counted c.in_ok-push.ensures.items in
     record { rest = x.rest; stores = x.stores; lines = x.lines; list = x.list; roots = x.roots }
+
+pub returns-clause-next : goal.returns-clause-next
+returns-clause-next c = record { ledger = c.in_ok-read_buffers.ensures.whole; bindings = (c.stands.ensures, (c.in_ok-slots.ensures c.requires.reads).pool) }
