@@ -94,7 +94,7 @@ module _ (o : Opening) (m : Parts) (rs : List Record) (at : IsAt o m rs) (i : �
 
       go : (n : Note) → n ≡ Refused (suc i) (TooLong written (room o.setup)) → n ≡ begin_note o.setup (served_after o.served rs) d (suc i) t → IsAt o m (rs ++ stays o m rs at (Begin (suc i) t) n ∷ [])
       go n e f = subst (λ (k : Note). IsAt o m (rs ++ stays o m rs at (Begin (suc i) t) k ∷ [])) (sym e)
-          (stayed o m rs at (Begin (suc i) t) (Refused (suc i) (TooLong written (room o.setup))) (record { access = refl; entry = refl; note_is = sym e ∙ f; served = at.served }) (λ z. refl)
+          (stayed o m rs at (Begin (suc i) t) (Refused (suc i) (TooLong written (room o.setup))) tt (record { access = refl; entry = refl; note_is = sym e ∙ f; served = at.served }) (λ z. refl)
           (silent o m rs at (Begin (suc i) t) (Refused (suc i) (TooLong written (room o.setup))) m.clients (λ c s. s)))
 
   -- it has started the call
@@ -150,7 +150,7 @@ module _ (o : Opening) (m : Parts) (rs : List Record) (at : IsAt o m rs) (i : �
     alone = alone_started o rs r m.pool.words m.pool.words m.clients (set m.clients i y) at.alone i y (set_here m.clients i y x here) call written (λ c s. sym s) refl (ap (λ (k : Doing). k.task) does_task) begins
 
     goes_on : (f : Phase) → HasBegun o m.pool i x y call written Quiet (served_after o.served rs) d f → IsAt o (with_client m i y) new
-    goes_on f h = changed o m rs at i x y f (Begin (suc i) (ClientTask call written)) Quiet here refl (record { access = refl; entry = refl; note_is = h.note_is; served = at.served }) h.stands h.matches
+    goes_on f h = changed o m rs at i x y f (Begin (suc i) (ClientTask call written)) Quiet here refl tt (record { access = refl; entry = refl; note_is = h.note_is; served = at.served }) h.stands h.matches
         (names ∙ sym (started_names z y call starts)) (remembers_starts z y call (ended (suc i) rs) starts (at.each i x here).cursors) goes (started_lacks z y call v starts) alone
 
   pub asked_client : (call : Call) (written : ℕ) (note : Note) → IsCallTask call written → Begun (suc i) o.setup x y call written note → IsAt o (with_client m i y) (rs ++ stays o m rs at (Begin (suc i) (ClientTask call written)) note ∷ [])

@@ -53,6 +53,7 @@ use Rattle.clover_run.proofs.Remembering.{remembers_more, remembers_starts, may_
 use Rattle.clover_run.proofs.ServedAlone.{alone_served, served_servers}
 use Rattle.clover_run.proofs.Starting.{SaysStart}
 use Rattle.clover_run.proofs.Stepped.{accessed_task}
+use Rattle.clover_run.proofs.Telling.{answers_none, told_unanswered}
 
 -- a step that serves a want is the step of a call that wants this
 serves_want : (p : Pool) (st : Standing) (call : Call) (r : Record) (w : Want) → w ≢ Nothing → IsServed st.actor st.does w call st.served r → IsStepFor p st call w r
@@ -261,6 +262,7 @@ module _ (o : Opening) (m : Parts) (rs : List Record) (at : IsAt o m rs) (i : �
       (found_behind o rs r q w.server at.found pool.setup running had.server pool.words (ap (λ (v : Served). v.server) (sym (served_more o.served rs r))))
       (inl running)
       (alone_served o rs m.clients (set m.clients i y) i x y m.served w m.pool q note stands of matches side had at.alone (set_here m.clients i y x here) running (doing_own (suc i) rs r refl) (is_of o q i y new pool mine) alone_may)
+      (told_unanswered m.pool q rs r at.told had.moved.knows (answers_none note (served_unanswered (suc i) st.does x.want call m.served r serves)))
 
   -- its access is none of a client
   pub attended_told : IsTold (with_step m i y w q) r

@@ -35,6 +35,7 @@ use Rattle.clover_run.proofs.Freed.{RunsOrStays}
 use Rattle.clover_run.proofs.Onward.{pushed, other_client, stands_on, moved_pool}
 use Rattle.clover_run.proofs.Pasts.{doing_own, ended_more, ended_unanswered, entries_more}
 use Rattle.clover_run.proofs.ServedAlone.{IsServers}
+use Rattle.clover_run.proofs.Telling.{told_unanswered}
 
 -- the machine with another recycler, another side of the server and another pool
 abbrev pub with_recycler : Parts → Recycler → Served → Plain → Parts
@@ -95,7 +96,7 @@ module _ (o : Opening) (m : Parts) (rs : List Record) (at : IsAt o m rs) (e : Ev
 
     pub recycler_behind : Follows o rs has_been → HasServer q w.server → IsPrefix m.served.server.directory.list w.server.directory.list → AllFound o new → RunsOrStays m (with_recycler m y w q) → IsAt o (with_recycler m y w q) new
     recycler_behind follows server grows found runs = pushed o m (with_recycler m y w q) rs has_been at follows refl (moved_pool o m.pool q rs has_been at.pool moved) refl server recycler_at refl (each grows)
-        (λ d above h. absurd (omega (arith, actor, above))) legal found runs alone
+        (λ d above h. absurd (omega (arith, actor, above))) legal found runs alone (told_unanswered m.pool q rs has_been at.told moved.knows none)
 
   -- its access is none of a client
   pub recycler_told : IsTold (with_recycler m y w q) has_been

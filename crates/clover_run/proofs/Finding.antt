@@ -102,9 +102,10 @@ module _ (o : Opening) (p : Plain) (s : ServerState) (setup : p.setup ≡ o.setu
 abbrev BoundFound : Opening → List Record → Type 0
 BoundFound o rs = (slot : ℕ) (key : List ℕ) → Within (slot, key) (served_after o.served rs).server.directory.list → HasChain o.setup.pool (words_after o.setup.pool o.words rs) slot
 
--- nothing is bound at the beginning
-pub found_first : (o : Opening) → o.served.server.directory.list ≡ [] → AllFound o []
-found_first o none before after slot key whole = at_first (BoundFound o) (λ s k named. absurd (subst (Within (s, k)) none named)) before after whole slot key
+-- the chains at the beginning are those of the pool and the server there
+pub found_first : (o : Opening) (p : Plain) (s : ServerState) → p.setup ≡ o.setup → Running p → HasServer p s → p.words ≡ o.words → s ≡ o.served.server → AllFound o []
+found_first o p s setup running server words same before after slot key whole = at_first (BoundFound o) (λ n k named.
+    subst (λ (ws : List ℕ). HasChain o.setup.pool ws n) words (chains o p s setup running server n k (subst (λ (t : ServerState). Within (n, k) t.directory.list) (sym same) named))) before after whole slot key
 
 -- the chain of each bound slot behind one record more
 pub found_more : (o : Opening) (rs : List Record) (r : Record) → AllFound o rs

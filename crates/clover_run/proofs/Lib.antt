@@ -1,3 +1,5 @@
+pub mod Lasting
+pub mod Telling
 pub mod Moving
 pub mod OnSlots
 pub mod Linking
@@ -18,6 +20,9 @@ pub mod Onward
 pub mod Refusing
 pub mod NoAccess
 pub mod Made
+pub mod FirstRun
+pub mod Lost
+pub mod Reopened
 pub mod Busies
 pub mod Happening
 pub mod Stretch
@@ -74,3 +79,5 @@ pub mod RecyclerKept
 pub mod Paying
 pub mod Learning
 pub mod Rounding
+pub mod Reopening
+pub mod Following

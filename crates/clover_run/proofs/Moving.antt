@@ -24,6 +24,7 @@ use Rattle.clover_event.specs.Client.{access}
 use Rattle.clover_event.specs.Folds.{made_by, words_by}
 use Rattle.clover_event.specs.Run.{IsBlank}
 use Rattle.clover_run.specs.Client.{KeepsOthers, Moved}
+use Rattle.clover_run.proofs.Lasting.{known_same, known_stepped}
 
 -- whose the access of a seat is: a client's, or behind all clients the server's
 pub client_access : (s : Setup) (i : ℕ) (act : Act) (refused : Bool) → i < s.clients → listed_access s i act refused ≡ access i act refused
@@ -118,6 +119,7 @@ moved_by i p q a b x s few entered quiet = record {
   used = s.same.used;
   traced = s.same.traced;
   opened = s.same.opened;
+  knows = known_stepped i p q a b true x s;
 }
 
 -- One that decided a call, whose entry was then entered.
@@ -137,6 +139,7 @@ moved_entered_by i p q r a b x e s few entered n more k = record {
   used = k.used ∙ s.same.used;
   traced = k.traced ∙ s.same.traced;
   opened = k.opened ∙ s.same.opened;
+  knows = λ t h. known_same q r k.views k.absent t (known_stepped i p q a b true x s t h);
 }
 
 -- One that was refused.
@@ -155,6 +158,7 @@ moved_refused_by i p q a r entered = record {
   used = r.same.used;
   traced = r.same.traced;
   opened = r.same.opened;
+  knows = known_same p q r.views r.same.absent;
 }
 
 -- The same of a client's access.
@@ -196,6 +200,7 @@ moved_none p q k entered = record {
   used = k.used;
   traced = k.traced;
   opened = k.opened;
+  knows = known_same p q k.views k.absent;
 }
 
 -- Room that was made before it changes nothing.
@@ -214,4 +219,5 @@ moved_kept x e p p1 q k m = record {
   used = m.used ∙ k.used;
   traced = m.traced ∙ k.traced;
   opened = m.opened ∙ k.opened;
+  knows = λ t h. m.knows t (known_same p p1 k.views k.absent t h);
 }

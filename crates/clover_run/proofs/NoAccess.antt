@@ -28,16 +28,19 @@ use Rattle.clover_run.specs.Record.{Record}
 use Rattle.clover_run.specs.Recycling.{IsRecyclerAt}
 use Rattle.clover_run.specs.Run.{Opening, Standing, Follows, IsStepOf, standing, begin_note}
 use Rattle.clover_run.specs.SoFar.{AloneSoFar}
+use Rattle.clover_run.specs.Told.{AllTold}
 use Rattle.clover_run.specs.declared.client.ClientState.{ClientState}
 use Rattle.clover_run.specs.declared.event.Note.{Note}
 use Rattle.clover_run.specs.declared.event.Note.TheVariants.{Quiet, Busy, Missing}
 use Rattle.clover_run.specs.declared.served.Served.{Served}
 use Rattle.clover_run.proofs.Pasts.{entries_more, words_more, served_more, ended_more, ended_still, doing_own, doing_other}
 use Rattle.clover_run.proofs.Alone.{alone_aside}
+use Rattle.clover_run.proofs.CleaningTells.{AnswersNone}
 use Rattle.clover_run.proofs.Finding.{found_more}
 use Rattle.clover_run.proofs.Onward.{pushed, goes_as, goes_same, other_client, own_client, standing_behind, each_set, with_client, moved_pool}
 use Rattle.clover_run.proofs.Lacking.{refusing_lacks}
 use Rattle.clover_run.proofs.Refusing.{refusing, refusing_stands, refusing_matches, refusing_goes}
+use Rattle.clover_run.proofs.Telling.{told_unanswered}
 
 -- no access and no entry, and the server's side as it is
 abbrev pub still : Served → Event → Note → Record
@@ -59,6 +62,7 @@ still_moved p entered = record {
   used = refl;
   traced = refl;
   opened = refl;
+  knows = λ t k. k;
 }
   where
     same : (b : Bool) → p.accesses ≡ (if b then p.accesses ++ [] else p.accesses)
@@ -101,6 +105,10 @@ module _ (o : Opening) (m : Parts) (rs : List Record) (at : IsAt o m rs) where
       subst (λ (ws : List ℕ). HasChain o.setup.pool ws slot) (sym (words_more o.setup.pool o.words rs (stays e note)))
       (at.found rs [] slot key (sym (append-nil rs)) (subst (λ (v : Served). Within (slot, key) v.server.directory.list) (served_more o.served rs (stays e note) ∙ at.served) named)))
 
+  -- and nothing is told
+  still_told : (e : Event) (note : Note) → AnswersNone note → AllTold m.pool (rs ++ stays e note ∷ [])
+  still_told e note none = told_unanswered m.pool m.pool rs (stays e note) at.told (λ t k. k) none
+
   -- no call ends
   pub ends_none : (c : ℕ) (e : Event) (note : Note) → ended c (rs ++ stays e note ∷ []) ≡ ended c rs
   ends_none c e note = ended_more c rs (stays e note) ∙ ended_still c (doing c rs).task note (ended c rs)
@@ -122,8 +130,8 @@ module _ (o : Opening) (m : Parts) (rs : List Record) (at : IsAt o m rs) where
   others_recycler e note apart = subst (IsRecyclerAt m.pool m.served m.recycler) (sym (doing_other 0 rs (stays e note) apart)) at.recycler
 
   -- nothing is another
-  pub stayed : (e : Event) (note : Note) → Follows o rs (stays e note) → ((d : Doing) → does d (stays e note) e ≡ d) → AloneSoFar o m.pool.words m.clients (rs ++ stays e note ∷ []) → IsAt o m (rs ++ stays e note ∷ [])
-  stayed e note follows same alone = pushed o m m rs (stays e note) at follows refl (still_pool e note) refl at.server kept refl each (λ d above h. ap (λ (z : Doing). z.task) (same d) ∙ h) (still_legal e note) (still_found e note) (inr (refl, refl)) alone
+  pub stayed : (e : Event) (note : Note) → AnswersNone note → Follows o rs (stays e note) → ((d : Doing) → does d (stays e note) e ≡ d) → AloneSoFar o m.pool.words m.clients (rs ++ stays e note ∷ []) → IsAt o m (rs ++ stays e note ∷ [])
+  stayed e note none follows same alone = pushed o m m rs (stays e note) at follows refl (still_pool e note) refl at.server kept refl each (λ d above h. ap (λ (z : Doing). z.task) (same d) ∙ h) (still_legal e note) (still_found e note) (inr (refl, refl)) alone (still_told e note none)
     where
       kept : IsRecyclerAt m.pool m.served m.recycler (doing 0 (rs ++ stays e note ∷ []))
       kept = subst (IsRecyclerAt m.pool m.served m.recycler)
@@ -149,15 +157,15 @@ module _ (o : Opening) (m : Parts) (rs : List Record) (at : IsAt o m rs) where
   absent i x here above = let l = seated i x here in omega arith
 
   -- one client is another, and the record has no access and no entry
-  pub changed : (i : ℕ) (x y : ClientState) (f : Phase) (e : Event) (note : Note) → nth m.clients i ≡ Some x → actor_of e ≡ suc i → Follows o rs (stays e note) → Stands o m.pool i y f → Matches y (view_at m.pool i) f (does (doing (suc i) rs) (stays e note) e)
+  pub changed : (i : ℕ) (x y : ClientState) (f : Phase) (e : Event) (note : Note) → nth m.clients i ≡ Some x → actor_of e ≡ suc i → AnswersNone note → Follows o rs (stays e note) → Stands o m.pool i y f → Matches y (view_at m.pool i) f (does (doing (suc i) rs) (stays e note) e)
       → names_of m.served (does (doing (suc i) rs) (stays e note) e) ≡ y.node.names → Remembers y.node.names y.node.caller.cursors (ended (suc i) rs) → (y.node.caller.under ≢ NoCall → GoesSoFar o.setup.pool (standing_behind o (suc i) rs (stays e note)) y (call_at y (view_at m.pool i))) → LacksNames y (view_at m.pool i)
       → AloneSoFar o m.pool.words (set m.clients i y) (rs ++ stays e note ∷ []) → IsAt o (with_client m i y) (rs ++ stays e note ∷ [])
-  changed i x y f e note here actor follows stands matches names cursors goes lacks alone = pushed o m (with_client m i y) rs (stays e note) at follows refl (still_pool e note) refl at.server (others_recycler e note (λ (h : actor_of e ≡ 0). omega (arith, h, actor))) (length-set m.clients i y)
+  changed i x y f e note here actor none follows stands matches names cursors goes lacks alone = pushed o m (with_client m i y) rs (stays e note) at follows refl (still_pool e note) refl at.server (others_recycler e note (λ (h : actor_of e ≡ 0). omega (arith, h, actor))) (length-set m.clients i y)
       (each_set (λ (j : ℕ) (z : ClientState). IsClientAt o m.pool j z (rs ++ stays e note ∷ [])) m.clients i y
       (own_client o m.pool i y f rs (stays e note) actor stands matches names (subst (Remembers y.node.names y.node.caller.cursors) (sym (ends_none (suc i) e note)) cursors) goes lacks)
       (λ j z apart there. other_still e note j z there (λ (s : actor_of e ≡ suc j). apart (omega (arith, s, actor)))))
       (λ d above h. absurd (absent i x here (subst (λ (b : ℕ). o.setup.clients < b) actor above)))
-      (still_legal e note) (still_found e note) (inr (refl, refl)) alone
+      (still_legal e note) (still_found e note) (inr (refl, refl)) alone (still_told e note none)
 
   if_true : (b : Bool) (x y : Note) → b ≡ true → (if b then x else y) ≡ x
   if_true true x y e = refl
@@ -182,17 +190,17 @@ module _ (o : Opening) (m : Parts) (rs : List Record) (at : IsAt o m rs) where
   silent e note clients none = alone_aside o rs (stays e note) m.pool.words m.pool.words m.clients clients at.alone (λ c call written s t f. none c s) (no_step e note)
 
   pub begun_missing : (a : ℕ) (call : Call) (written : ℕ) → o.setup.clients < a → IsAt o m (rs ++ stays (Begin a (ClientTask call written)) (Missing a) ∷ [])
-  begun_missing a call written above = stayed (Begin a (ClientTask call written)) (Missing a) (record { access = refl; entry = refl; note_is = begin_missing a call written above; served = at.served }) (λ d. refl) (silent (Begin a (ClientTask call written)) (Missing a) m.clients (λ c s. s))
+  begun_missing a call written above = stayed (Begin a (ClientTask call written)) (Missing a) tt (record { access = refl; entry = refl; note_is = begin_missing a call written above; served = at.served }) (λ d. refl) (silent (Begin a (ClientTask call written)) (Missing a) m.clients (λ c s. s))
 
   pub begun_busy : (i : ℕ) (x : ClientState) (call : Call) (written : ℕ) → nth m.clients i ≡ Some x → HasTask x → IsAt o m (rs ++ stays (Begin (suc i) (ClientTask call written)) (Busy (suc i)) ∷ [])
-  begun_busy i x call written here busy = stayed (Begin (suc i) (ClientTask call written)) (Busy (suc i)) (record { access = refl; entry = refl; note_is = told; served = at.served }) (λ d. refl) (silent (Begin (suc i) (ClientTask call written)) (Busy (suc i)) m.clients (λ c s. s))
+  begun_busy i x call written here busy = stayed (Begin (suc i) (ClientTask call written)) (Busy (suc i)) tt (record { access = refl; entry = refl; note_is = told; served = at.served }) (λ d. refl) (silent (Begin (suc i) (ClientTask call written)) (Busy (suc i)) m.clients (λ c s. s))
     where
       told : Busy (suc i) ≡ begin_note o.setup (served_after o.served rs) (doing (suc i) rs) (suc i) (ClientTask call written)
       told = let was = at.each i x here in let s = task_some o m.pool i x was.phase (view_at m.pool i) (doing (suc i) rs) busy was.stands was.matches in sym (busy_note i x here (doing (suc i) rs) s.0 call written s.1)
 
   -- an actor with no task steps
   pub idled : (a : ℕ) → (doing a rs).task ≡ None → IsAt o m (rs ++ stays (Step a) Quiet ∷ [])
-  idled a none = stayed (Step a) Quiet (record {
+  idled a none = stayed (Step a) Quiet tt (record {
     accesses = tt;
     is = subst (λ (t : Option Task). IsStepOf o.setup.pool (standing o a rs) t (stays (Step a) Quiet)) (sym none) (record { access = refl; entry = refl; note_is = refl; served = at.served });
   }) (λ d. refl) (silent (Step a) Quiet m.clients (λ c s. s))
@@ -201,14 +209,14 @@ module _ (o : Opening) (m : Parts) (rs : List Record) (at : IsAt o m rs) where
   pub refused_far : (a : ℕ) → o.setup.clients < a → IsAt o m (rs ++ stays (Refuse a) Quiet ∷ [])
   refused_far a above = pushed o m m rs (stays (Refuse a) Quiet) at (record { access = refl; entry = refl; note_is = refl; served = at.served }) refl (still_pool (Refuse a) Quiet) refl at.server (others_recycler (Refuse a) Quiet (λ (h : a ≡ 0). omega (arith, h, above))) refl
       (λ i x here. other_still (Refuse a) Quiet i x here (λ (e : a ≡ suc i). absent i x here (subst (λ (b : ℕ). o.setup.clients < b) e above)))
-      (λ d over h. h) (still_legal (Refuse a) Quiet) (still_found (Refuse a) Quiet) (inr (refl, refl)) (silent (Refuse a) Quiet m.clients (λ c s. s))
+      (λ d over h. h) (still_legal (Refuse a) Quiet) (still_found (Refuse a) Quiet) (inr (refl, refl)) (silent (Refuse a) Quiet m.clients (λ c s. s)) (still_told (Refuse a) Quiet tt)
 
   pub refused_client : (i : ℕ) (x : ClientState) → nth m.clients i ≡ Some x → IsAt o (with_client m i (refusing x)) (rs ++ stays (Refuse (suc i)) Quiet ∷ [])
   refused_client i x here =
       let was = at.each i x here in
       let d : Doing = doing (suc i) rs in
       let names : names_of m.served (record d { refusing = true }) ≡ (standing o (suc i) rs).names = (λ j. names_of (at.served j) d) in
-      changed i x (refusing x) was.phase (Refuse (suc i)) Quiet here refl (record { access = refl; entry = refl; note_is = refl; served = at.served })
+      changed i x (refusing x) was.phase (Refuse (suc i)) Quiet here refl tt (record { access = refl; entry = refl; note_is = refl; served = at.served })
       (refusing_stands o m.pool i x was.phase was.stands) (refusing_matches x (view_at m.pool i) was.phase d was.matches) (names ∙ was.names) was.cursors
       (λ busy. let t : Standing = standing_behind o (suc i) rs (stays (Refuse (suc i)) Quiet) in refusing_goes o.setup.pool t x (view_at m.pool i)
       (goes_as o.setup.pool (standing o (suc i) rs) t x (call_at x (view_at m.pool i)) names refl refl refl (ends_none (suc i) (Refuse (suc i)) Quiet) (was.goes busy)))

@@ -36,6 +36,7 @@ use Rattle.clover_run.proofs.Dues.{is_called, own_busy}
 use Rattle.clover_run.proofs.Goes.{since_few}
 use Rattle.clover_run.proofs.Happening.{behind}
 use Rattle.clover_run.proofs.Keeping.{stands_kept}
+use Rattle.clover_run.proofs.Lasting.{known_same}
 use Rattle.clover_run.proofs.Lessening.{own_less, left_less}
 use Rattle.clover_run.proofs.Onward.{with_step, is_of}
 use Rattle.clover_run.proofs.Owning.{owned_client, owned_told}
@@ -51,7 +52,6 @@ kept_at o m n rs same at =
       setup = same.setup ∙ at.setup;
       pool = record {
         setup = k.setup ∙ at.pool.setup;
-        start = k.start ∙ at.pool.start;
         first = k.first ∙ at.pool.first;
         used = k.used ∙ at.pool.used;
         opened = k.opened ∙ at.pool.opened;
@@ -59,7 +59,7 @@ kept_at o m n rs same at =
         words = k.words ∙ at.pool.words;
         entries = k.entries ∙ at.pool.entries;
         entered = k.entries ∙ at.pool.entered ∙ sym (λ z. longest (k.views z ++ k.absent z));
-        accesses = k.accesses ∙ at.pool.accesses ∙ ap (λ (b : Bool). if b then accesses_in rs else []) (sym k.traced);
+        accesses = k.accesses ∙ at.pool.accesses ∙ ap (λ (b : Bool). if b then o.listed ++ accesses_in rs else []) (sym k.traced);
         made = k.made ∙ at.pool.made;
         seats = ap length k.views ∙ at.pool.seats;
       };
@@ -83,6 +83,7 @@ kept_at o m n rs same at =
       counted = at.counted;
       free = at.free;
       alone = subst (λ (ws : List ℕ). AloneSoFar o ws n.clients rs) (sym k.words) (subst (λ (cs : List ClientState). AloneSoFar o m.pool.words cs rs) (sym same.clients) at.alone);
+      told = λ t e. known_same m.pool n.pool k.views k.absent t (at.told t e);
     }
   where
     recycler : IsRecyclerAt n.pool n.served n.recycler (doing 0 rs)

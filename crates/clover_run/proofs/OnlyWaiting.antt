@@ -66,7 +66,7 @@ module _ (o : Opening) (m : Parts) (rs : List Record) (at : IsAt o m rs) where
     }
 
     pub waited : IsAt o m (rs ++ stays o m rs at (Step (suc i)) Waits ∷ [])
-    waited = stayed o m rs at (Step (suc i)) Waits (record {
+    waited = stayed o m rs at (Step (suc i)) Waits tt (record {
       accesses = tt;
       is = subst (λ (t : Option Task). IsStepOf o.setup.pool st t r) (sym does.0.1) (for_want o.setup.pool st call r (want_in st call) (λ none. some (sym wants_it ∙ none)) waits_so);
     }) (λ d. refl) (silent o m rs at (Step (suc i)) Waits m.clients (λ c s. s))

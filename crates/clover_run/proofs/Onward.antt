@@ -1,5 +1,5 @@
 -- The machine stands behind one record more: what that owes, and what a client that the record is not of keeps.
-use Rattle.std.proofs.Common.{◌≡◌, ◌≢◌, ℕ, ◌≤◌, ◌<◌, suc, length, set, take, List, [], ◌∷◌, ◌++◌, Bool, true, false, refl, sym, ap, ◌∙◌, subst, arith, append-nil, ne_eqb, ⊎_elim, option_to_list}
+use Rattle.std.proofs.Common.{◌≡◌, ◌≢◌, ℕ, ◌≤◌, ◌<◌, suc, length, set, take, List, [], ◌∷◌, ◌++◌, Bool, true, false, refl, sym, ap, ◌∙◌, subst, arith, append-nil, append_assoc, ne_eqb, ⊎_elim, option_to_list}
 use Rattle.std.specs.Prelude.{Option, Some, None, ◌==◌, if◌then◌else◌, IfSome}
 use Rattle.std.proofs.lemmas.List.{length-take, take-append-le}
 use Rattle.std.proofs.lemmas.List.Elements.{filter-append}
@@ -29,12 +29,13 @@ use Rattle.clover_event.specs.Folds.{words_by, made_by, actor_of}
 use Rattle.clover_run.specs.Alone.{AllFound}
 use Rattle.clover_run.specs.Client.{LacksNames, Phase, Stands, Matches, Moved, IsOf, GoesSoFar, Remembers, call_at}
 use Rattle.clover_run.specs.Ends.{ended}
-use Rattle.clover_run.specs.Folds.{Doing, accesses_in, entries_in, served_after, doing, does, names_of}
+use Rattle.clover_run.specs.Folds.{Doing, accesses_in, entries_in, listed_in, served_after, doing, does, names_of}
 use Rattle.clover_run.specs.Machine.{Parts, IsAt, IsPoolAt, IsClientAt}
 use Rattle.clover_run.specs.Record.{Record}
 use Rattle.clover_run.specs.Recycling.{IsRecyclerAt}
 use Rattle.clover_run.specs.Run.{Opening, Standing, Follows, standing, own_tag, first_of}
 use Rattle.clover_run.specs.SoFar.{AloneSoFar}
+use Rattle.clover_run.specs.Told.{AllTold}
 use Rattle.clover_run.specs.Wanting.{slot_for}
 use Rattle.clover_run.specs.Working.{HasServer}
 use Rattle.clover_run.specs.declared.client.ClientState.{ClientState}
@@ -46,8 +47,8 @@ use Rattle.clover_run.proofs.Pasts.{accesses_more, entries_more, words_more, mad
 pub pushed : (o : Opening) (m n : Parts) (rs : List Record) (r : Record) → IsAt o m rs → Follows o rs r → n.setup ≡ m.setup → IsPoolAt o n.pool (rs ++ r ∷ []) → n.served ≡ r.served → HasServer n.pool n.served.server → IsRecyclerAt n.pool n.served n.recycler (doing 0 (rs ++ r ∷ [])) → length n.clients ≡ length m.clients
     → ((i : ℕ) (x : ClientState) → nth n.clients i ≡ Some x → IsClientAt o n.pool i x (rs ++ r ∷ []))
     → ((d : Doing) → o.setup.clients < actor_of r.event → d.task ≡ None → (does d r r.event).task ≡ None)
-    → Legal o.first o.used (entries_in (rs ++ r ∷ [])) → AllFound o (rs ++ r ∷ []) → RunsOrStays m n → AloneSoFar o n.pool.words n.clients (rs ++ r ∷ []) → IsAt o n (rs ++ r ∷ [])
-pushed o m n rs r at follows setup pool served server recycler clients each far legal found runs alone = record {
+    → Legal o.first o.used (entries_in (rs ++ r ∷ [])) → AllFound o (rs ++ r ∷ []) → RunsOrStays m n → AloneSoFar o n.pool.words n.clients (rs ++ r ∷ []) → AllTold n.pool (rs ++ r ∷ []) → IsAt o n (rs ++ r ∷ [])
+pushed o m n rs r at follows setup pool served server recycler clients each far legal found runs alone told = record {
   run = goes_more o [] rs r at.run follows;
   setup = setup ∙ at.setup;
   pool = pool;
@@ -65,6 +66,7 @@ pushed o m n rs r at follows setup pool served server recycler clients each far 
   counted = counted_behind o m n rs r at pool server (served ∙ sym (served_more o.served rs r)) runs;
   free = free_behind o m n rs r at pool server (served ∙ sym (served_more o.served rs r)) (clients ∙ at.clients) each runs;
   alone = alone;
+  told = told;
 }
 
 -- the tag that a call may commit goes by what its actor has under way alone
@@ -210,7 +212,6 @@ stands_on o i j z f x e p q apart is moved view s =
 pub moved_pool : (o : Opening) (p q : Plain) (rs : List Record) (r : Record) → IsPoolAt o p rs → Moved r.access r.entry p q → IsPoolAt o q (rs ++ r ∷ [])
 moved_pool o p q rs r at moved = record {
   setup = moved.setup ∙ at.setup;
-  start = moved.start ∙ at.start;
   first = moved.first ∙ at.first;
   used = moved.used ∙ at.used;
   opened = moved.opened ∙ at.opened;
@@ -218,11 +219,11 @@ moved_pool o p q rs r at moved = record {
   words = moved.words ∙ ap (λ (s : Setup). words_by s.pool p.words r.access) at.setup ∙ ap (λ (w : List ℕ). words_by o.setup.pool w r.access) at.words ∙ sym (words_more o.setup.pool o.words rs r);
   entries = moved.entries ∙ ap (λ (l : List Entry). l ++ option_to_list r.entry) at.entries ∙ sym (entries_more rs r);
   entered = moved.entered;
-  accesses = moved.accesses ∙ grown p.traced at.accesses ∙ ap (λ (b : Bool). if b then accesses_in rs ++ option_to_list r.access else []) (sym moved.traced) ∙ ap (λ (l : List Access). if q.traced then l else []) (sym (accesses_more rs r));
+  accesses = moved.accesses ∙ grown p.traced at.accesses ∙ ap (λ (b : Bool). if b then (o.listed ++ accesses_in rs) ++ option_to_list r.access else []) (sym moved.traced) ∙ ap (λ (l : List Access). if q.traced then l else []) (append_assoc o.listed (accesses_in rs) (option_to_list r.access) ∙ ap (λ (l : List Access). o.listed ++ l) (sym (accesses_more rs r)));
   made = moved.made ∙ ap (λ (n : ℕ). made_by n r.access) at.made ∙ sym (made_more o.made rs r);
   seats = moved.seats ∙ at.seats;
 }
   where
-    grown : (b : Bool) → p.accesses ≡ (if b then accesses_in rs else []) → (if b then p.accesses ++ option_to_list r.access else p.accesses) ≡ (if b then accesses_in rs ++ option_to_list r.access else [])
+    grown : (b : Bool) → p.accesses ≡ listed_in o.listed b rs → (if b then p.accesses ++ option_to_list r.access else p.accesses) ≡ (if b then (o.listed ++ accesses_in rs) ++ option_to_list r.access else [])
     grown true h = ap (λ (l : List Access). l ++ option_to_list r.access) h
     grown false h = h

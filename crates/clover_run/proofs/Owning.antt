@@ -15,6 +15,7 @@ use Rattle.clover_rule.specs.declared.access.Access.{Access}
 use Rattle.clover_rule.specs.declared.access.Actor.TheVariants.{Client}
 use Rattle.clover_rule.proofs.Steps.{prefix_self, set_here}
 use Rattle.clover_plain.specs.Plain.{Plain, Running, view_at}
+use Rattle.clover_call.specs.Caller.{slot_of}
 use Rattle.clover_call.specs.declared.under.Underway.TheVariants.{Nothing as NoCall}
 use Rattle.clover_event.specs.Client.{IsLast}
 use Rattle.clover_event.specs.declared.event.Event.TheVariants.{Step}
@@ -25,6 +26,7 @@ use Rattle.clover_run.specs.Machine.{Parts, IsAt, IsPoolAt, IsClientAt, IsTold}
 use Rattle.clover_run.specs.Record.{Record}
 use Rattle.clover_run.specs.Recycling.{IsRecyclerAt}
 use Rattle.clover_run.specs.Run.{Opening, Standing, Follows, IsCause, IsEntry, IsOwn, IsOwnAccess, IsStepFor, IsStepOf, standing}
+use Rattle.clover_run.specs.Told.{AllTold}
 use Rattle.clover_run.specs.Working.{HasServer}
 use Rattle.clover_run.specs.declared.client.ClientState.{ClientState}
 use Rattle.clover_run.specs.declared.event.Note.{Note}
@@ -34,11 +36,13 @@ use Rattle.clover_run.specs.declared.want.Want.{Want}
 use Rattle.clover_run.proofs.Behind.{legal_in, server_same, names_behind, keys_behind}
 use Rattle.clover_run.proofs.Dues.{own_task, went_own, went_free, went_goes}
 use Rattle.clover_run.proofs.Finding.{found_behind}
+use Rattle.clover_run.proofs.Lasting.{known_at}
 use Rattle.clover_run.proofs.Onward.{pushed, is_of, other_client, own_client, standing_behind, each_set, with_step, stands_on, moved_pool}
 use Rattle.clover_run.proofs.Pasts.{AnswersOnly, ended_more, ended_other, ended_unanswered, served_more}
 use Rattle.clover_run.proofs.Recalling.{went_remembers}
 use Rattle.clover_run.proofs.Recyclers.{recycler_other}
 use Rattle.clover_run.proofs.Stepped.{alone_went}
+use Rattle.clover_run.proofs.Telling.{told_behind, told_known}
 
 -- a note of an own access answers its client alone
 answers_own : (p : Pool) (st : Standing) (r : Record) (x : Access) → IsOwnAccess p st r x → AnswersOnly st.actor r.note
@@ -133,6 +137,12 @@ module _ (o : Opening) (m : Parts) (rs : List Record) (at : IsAt o m rs) (i : �
       (ended_more (suc j) rs r ∙ ended_other (suc j) (suc i) (doing (suc j) rs).task note (Some w.access) (ended (suc j) rs) answers (λ (e : suc i ≡ suc j). apart (omega arith)))
       ([], sym (append-nil r.served.server.directory.list))
 
+  -- a tag that its answer tells is the cursor that it set
+  told : AllTold q new
+  told = told_behind m.pool q rs r at.told w.moved.knows (λ t e.
+      known_at q i (slot_of x.node.caller.under) t (let a = w.stands.seats in let b = w.stands.seat in omega arith)
+      (told_known y.node.caller.pool (view_at q i) (slot_of x.node.caller.under) w.access.act note x.node.caller.cursors y.node.caller.cursors w.cursor w.stands.holds.caller.cursors t e))
+
   pub owned_client : IsAt o (with_step m i y m.served q) new
   owned_client = pushed o m (with_step m i y m.served q) rs r at follows refl pool at.served server recycler (length-set m.clients i y)
       (each_set (λ (j : ℕ) (z : ClientState). IsClientAt o q j z new) m.clients i y mine others)
@@ -141,6 +151,7 @@ module _ (o : Opening) (m : Parts) (rs : List Record) (at : IsAt o m rs) (i : �
       (found_behind o rs r q m.served.server at.found pool.setup running server pool.words (ap (λ (v : Served). v.server) (at.served ∙ sym (served_more o.served rs r))))
       (inl running)
       (alone_went o rs m.clients (set m.clients i y) i was.phase x y m.pool q note own was.stands of was.matches w at.alone here (set_here m.clients i y x here))
+      told
 
   -- the access is the last that the client was told
   pub owned_told : IsTold (with_step m i y m.served q) r

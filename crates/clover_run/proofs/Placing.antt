@@ -27,7 +27,7 @@ use Rattle.clover_run.specs.Client.{Calls, IsCall, IsIn, Moved, Phase, Stands, S
 use Rattle.clover_run.specs.Run.{Opening}
 use Rattle.clover_run.specs.declared.client.ClientState.{ClientState}
 use Rattle.clover_run.specs.declared.want.Want.TheVariants.{Nothing, Stock}
-use Rattle.clover_run.proofs.Views.{handed_seats}
+use Rattle.clover_run.proofs.Views.{handed_known, handed_seats}
 
 -- a node with no call under way knows what it does of any call, whatever is in the room
 pub holds_any : (n : NodeState) (call other : Call) (v : View) (room room1 : ValueBuf) → IsIdle n → NodeHolds n call v room → NodeHolds n other v room1
@@ -164,6 +164,7 @@ moved_handed c batch names a p p1 q m h same = record {
   used = h.used ∙ m.used;
   traced = h.traced ∙ m.traced;
   opened = h.opened ∙ m.opened;
+  knows = λ t k. handed_known c batch names p1 q h t (m.knows t k);
 }
 
 -- the entries of a pool to which a step added none
@@ -186,6 +187,7 @@ moved_none p entered = record {
   used = refl;
   traced = refl;
   opened = refl;
+  knows = λ t k. k;
 }
   where
     by : (t : Bool) → p.accesses ≡ (if t then p.accesses ++ [] else p.accesses)

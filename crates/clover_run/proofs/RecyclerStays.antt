@@ -53,7 +53,7 @@ module _ (o : Opening) (m : Parts) (rs : List Record) (at : IsAt o m rs) where
     waits_on (Some OfAll) some = waits_so OfAll
 
     pub recycler_waited : m.recycler.chore ≢ None → IsAt o m (rs ++ stays o m rs at (Step 0) Waits ∷ [])
-    recycler_waited some = stayed o m rs at (Step 0) Waits (record {
+    recycler_waited some = stayed o m rs at (Step 0) Waits tt (record {
       accesses = tt;
       is = subst (λ (t : Option Task). IsStepOf o.setup.pool st t r) (sym at.recycler.task) (waits_on m.recycler.chore some);
     }) (λ d. refl) (silent o m rs at (Step 0) Waits m.clients (λ c s. s))

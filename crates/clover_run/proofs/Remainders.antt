@@ -141,6 +141,8 @@ part_none (line.Step a n) before = (All-nil (λ (r : Record). r.event ≡ Step a
 part_none (line.Finish a) before = tt
 part_none (line.Call a t) before = inl refl
 part_none (line.Refuse a) before = refl
+part_none (line.Cut choice more) before = refl
+part_none (line.Image choice) before = refl
 
 -- so far nothing of what is left was made
 pub part_here : (l : Line) (w : Work) (before more : List Record) → Leaves l w before more → IsPartOrAll l before more

@@ -22,6 +22,7 @@ use Rattle.clover_run.specs.Working.{Gained, HasServer, MayServe, OnGrant, Regar
 use Rattle.clover_run.specs.declared.client.ClientState.{ClientState}
 use Rattle.clover_run.specs.declared.event.Note.{Note}
 use Rattle.clover_run.specs.declared.served.Served.{Served}
+use Rattle.clover_run.proofs.Lasting.{known_same}
 
 module _ (p q : Plain) (k : Kept p q) where
   pub kept_view : (i : ℕ) → view_at q i ≡ view_at p i
@@ -99,6 +100,7 @@ module _ (p q : Plain) (k : Kept p q) where
       used = m.used ∙ k.used;
       traced = m.traced ∙ k.traced;
       opened = m.opened ∙ k.opened;
+      knows = λ t h. m.knows t (known_same p q k.views k.absent t h);
     }
 
     -- a step that served the client served it before the room was made

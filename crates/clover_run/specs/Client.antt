@@ -10,6 +10,7 @@ use Rattle.clover_map.specs.History.{own, key_of}
 use Rattle.clover_map.specs.declared.call.Call.{Call}
 use Rattle.clover_map.specs.declared.call.Entry.{Entry}
 use Rattle.clover_script.specs.declared.line.Task.TheVariants.{Client as ClientTask}
+use Rattle.clover_rule.specs.Cut.{IsKnownDurable}
 use Rattle.clover_rule.specs.Lists.{Within}
 use Rattle.clover_rule.specs.Steps.{Step as Due, act_of, reply_of}
 use Rattle.clover_rule.specs.declared.access.Access.{Access}
@@ -186,6 +187,10 @@ pub record Remembers (names : List (ℕ × List ℕ)) (k : Known) (h : List (Lis
   pub last : MatchOption k.last (h ≡ []) (λ q. (rest : List (List ℕ × ℕ)) × (h ≡ (key_at names q.0, tag_number q.1) ∷ rest) × Within (q.0, key_at names q.0) names)
   pub list : All (λ q. IsLatest (key_at names q.0) (tag_number q.1) h × Within (q.0, key_at names q.0) names) k.list
 
+-- what some view knew to be durable one knows still
+abbrev pub KeepsKnown : Plain → Plain → Type 0
+KeepsKnown p q = (t : ℕ) → IsKnownDurable (p.views ++ p.absent) t → IsKnownDurable (q.views ++ q.absent) t
+
 -- An event changed the pool so, by this access or none, and added this entry or none.
 pub record Moved (x : Option Access) (e : Option Entry) (p q : Plain) : Type 0 where
   pub words : q.words ≡ words_by p.setup.pool p.words x
@@ -201,6 +206,7 @@ pub record Moved (x : Option Access) (e : Option Entry) (p q : Plain) : Type 0 w
   pub used : q.used ≡ p.used
   pub traced : q.traced ≡ p.traced
   pub opened : q.opened ≡ p.opened
+  pub knows : KeepsKnown p q
 
 -- every other view is as it was
 abbrev pub KeepsOthers : ℕ → Plain → Plain → Type 0

@@ -30,9 +30,9 @@ abbrev pub entries_in : List Record → List Entry
 entries_in [] = []
 entries_in (r ∷ rs) = option_to_list r.entry ++ entries_in rs
 
--- the accesses that are listed: with a trace all, and without one none
-abbrev pub traced_in : Bool → List Record → List Access
-traced_in traced rs = if traced then accesses_in rs else []
+-- the accesses that are listed, behind those from before the records: with a trace all, and without one none
+abbrev pub listed_in : List Access → Bool → List Record → List Access
+listed_in before traced rs = if traced then before ++ accesses_in rs else []
 
 -- the words after some records
 abbrev pub words_after : Pool → List ℕ → List Record → List ℕ

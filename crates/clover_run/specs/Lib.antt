@@ -16,7 +16,11 @@ pub mod SoFar
 pub mod Freed
 pub mod Owed
 pub mod Rounds
+pub mod Told
 pub mod Machine
+pub mod Lawful
+pub mod Power
+pub mod Reopening
 pub mod Left
 pub mod Running
 pub mod Kept

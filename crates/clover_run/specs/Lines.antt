@@ -38,13 +38,15 @@ pub record Calls (a : ℕ) (t : Task) (before rs : List Record) : Type 0 where
   pub away : IsTurnedAway first.note → more ≡ []
   pub on : (IsTurnedAway first.note → ⊥) → Finishes a (before ++ first ∷ []) more
 
--- the line stands for these records, behind those before
+-- the line stands for these records, behind those before; one of power cuts stands for no part of a run
 abbrev pub CoversLine : Line → List Record → List Record → Type 0
 CoversLine (line.Begin a t) before rs = (r : Record) × (rs ≡ r ∷ []) × (r.event ≡ Begin a t)
 CoversLine (line.Step a n) before rs = All (λ (r : Record). r.event ≡ Step a) rs × (length rs ≡ n)
 CoversLine (line.Finish a) before rs = Finishes a before rs
 CoversLine (line.Call a t) before rs = Calls a t before rs
 CoversLine (line.Refuse a) before rs = (r : Record) × (rs ≡ r ∷ []) × (r.event ≡ Refuse a)
+CoversLine (line.Cut choice more) before rs = ⊥
+CoversLine (line.Image choice) before rs = ⊥
 
 -- the lines, in order, stand for these records
 abbrev pub Covers : List Line → List Record → List Record → Type 0

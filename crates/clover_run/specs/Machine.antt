@@ -9,9 +9,9 @@ use Rattle.clover_words.specs.Place.{pool_words}
 use Rattle.clover_map.specs.Legal.{Legal}
 use Rattle.clover_script.specs.declared.line.Task.{Task}
 use Rattle.clover_script.specs.declared.line.Task.TheVariants.{Client as ClientTask}
-use Rattle.clover_alloc.specs.Ledger.{new_ledger}
+use Rattle.clover_alloc.specs.Ledger.{Ledger, new_ledger}
 use Rattle.clover_alloc.specs.declared.batch.Batch.{Batch}
-use Rattle.clover_dir.specs.Directory.{nothing_bound}
+use Rattle.clover_dir.specs.Directory.{Bindings, nothing_bound}
 use Rattle.clover_server.specs.Holding.{Agrees}
 use Rattle.clover_server.specs.Laws.{IsFirstServer}
 use Rattle.clover_server.specs.Server.{new_server}
@@ -26,13 +26,14 @@ use Rattle.clover_event.specs.declared.event.Event.{Event}
 use Rattle.clover_event.specs.declared.event.Event.TheVariants.{Begin, Step}
 use Rattle.clover_run.specs.Alone.{AllFound, AllCounted}
 use Rattle.clover_run.specs.Client.{LacksNames, Phase, HasTask, Stands, Matches, GoesSoFar, Remembers, call_at}
-use Rattle.clover_run.specs.Folds.{entries_in, words_after, made_after, served_after, doing, traced_in}
+use Rattle.clover_run.specs.Folds.{entries_in, words_after, made_after, served_after, doing, listed_in}
 use Rattle.clover_run.specs.Freed.{AllFree}
 use Rattle.clover_run.specs.Record.{Record}
 use Rattle.clover_run.specs.Recycling.{IsRecyclerAt}
 use Rattle.clover_run.specs.Run.{Opening, IsRun, standing}
 use Rattle.clover_run.specs.Served.{is_elsewhere}
 use Rattle.clover_run.specs.SoFar.{AloneSoFar}
+use Rattle.clover_run.specs.Told.{AllTold}
 use Rattle.clover_run.specs.Working.{HasServer}
 use Rattle.clover_run.specs.declared.client.ClientState.{ClientState}
 use Rattle.clover_run.specs.declared.event.Note.{Note}
@@ -52,7 +53,6 @@ pub record Parts : Type 0 where
 -- The pool is as these records left it.
 pub record IsPoolAt (o : Opening) (p : Plain) (rs : List Record) : Type 0 where
   pub setup : p.setup ≡ o.setup
-  pub start : p.start ≡ o.words
   pub first : p.first ≡ o.first
   pub used : p.used ≡ o.used
   pub opened : p.opened ≡ true
@@ -60,7 +60,7 @@ pub record IsPoolAt (o : Opening) (p : Plain) (rs : List Record) : Type 0 where
   pub words : p.words ≡ words_after o.setup.pool o.words rs
   pub entries : p.entries ≡ entries_in rs
   pub entered : p.entries ≡ history p
-  pub accesses : p.accesses ≡ traced_in p.traced rs
+  pub accesses : p.accesses ≡ listed_in o.listed p.traced rs
   pub made : p.made ≡ made_after o.made rs
   pub seats : length p.views ≡ o.setup.clients + 1
 
@@ -95,6 +95,7 @@ pub record IsAt (o : Opening) (m : Parts) (rs : List Record) : Type 0 where
   pub counted : AllCounted o rs
   pub free : AllFree o rs
   pub alone : AloneSoFar o m.pool.words m.clients rs
+  pub told : AllTold m.pool rs
 
 abbrev pub IsBehind : Parts → Type 0
 IsBehind m = (o : Opening) × (rs : List Record) × IsAt o m rs
@@ -103,9 +104,13 @@ IsBehind m = (o : Opening) × (rs : List Record) × IsAt o m rs
 abbrev pub no_batch : Batch
 no_batch = record { tags = replicate 64 (record { node = 0; index = 0; generation = 0 }); count = 0; few = leb-true 0 64 refl }
 
+-- the server's side of a run that begins with these books and this directory: nobody holds the server, and nothing is under way
+abbrev pub new_side : Setup → Ledger → Bindings → Served
+new_side s books d = record { server = new_server s books d; holder = None; read = 0; done = 0; batch = no_batch }
+
 -- the server's side of a pool of which nothing was handed out
 abbrev pub first_served : Setup → Served
-first_served s = record { server = new_server s (new_ledger s.pool) (nothing_bound s.pool); holder = None; read = 0; done = 0; batch = no_batch }
+first_served s = new_side s (new_ledger s.pool) (nothing_bound s.pool)
 
 -- the books are in order besides
 pub record IsFirstSide (s : Setup) (v : Served) : Type 0 where
@@ -114,7 +119,7 @@ pub record IsFirstSide (s : Setup) (v : Served) : Type 0 where
 
 -- where the first run of a setup begins: words of 0, nothing handed out, and nothing before it
 abbrev pub first_opening : Setup → Opening
-first_opening s = record { setup = s; words = replicate (pool_words s.pool) 0; served = first_served s; first = finite.empty; used = []; run = 1; made = 0 }
+first_opening s = record { setup = s; words = replicate (pool_words s.pool) 0; served = first_served s; first = finite.empty; used = []; run = 1; made = 0; listed = [] }
 
 -- the task is one of the actor's: of a client's number a call as the reader keeps it, and of 0 one of the recycler
 abbrev pub IsTaskOfActor : ℕ → Task → Type 0

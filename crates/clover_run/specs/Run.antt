@@ -43,7 +43,7 @@ use Rattle.clover_run.specs.Wanting.{slot_for, wants}
 use Rattle.clover_run.specs.declared.want.Want.{Want}
 use Rattle.clover_run.specs.declared.want.Want.TheVariants.{Nothing}
 
--- Where a run begins, and all that was before it: the setup, the words of its pool, the server's side, the map and the used tags, its number among the runs, and how many accesses were made before it.
+-- Where a run begins, and all that was before it: the setup, the words of its pool, the server's side, the map and the used tags, its number among the runs, and the accesses before it, how many were made and which ones a trace lists.
 pub record Opening : Type 0 where
   pub setup : Setup
   pub words : List ℕ
@@ -52,6 +52,7 @@ pub record Opening : Type 0 where
   pub used : List ℕ
   pub run : ℕ
   pub made : ℕ
+  pub listed : List Access
 
 -- what a step finds: the actor, what it has under way, the names that it knows, the tags at which its answered calls ended, how many entries there are of it, the words and the server's side
 pub record Standing : Type 0 where

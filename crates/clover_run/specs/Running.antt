@@ -26,6 +26,8 @@ IsPartOf (line.Step a n) before rs = All (λ (r : Record). r.event ≡ Step a) r
 IsPartOf (line.Finish a) before rs = Works a before rs
 IsPartOf (line.Call a t) before rs = BeginsCall a t before rs
 IsPartOf (line.Refuse a) before rs = rs ≡ []
+IsPartOf (line.Cut choice more) before rs = rs ≡ []
+IsPartOf (line.Image choice) before rs = rs ≡ []
 
 abbrev pub IsPartOrAll : Line → List Record → List Record → Type 0
 IsPartOrAll l before rs = IsPartOf l before rs ⊎ CoversLine l before rs
@@ -66,10 +68,12 @@ abbrev pub Comes : Line → Option Advance → List Record → List Record → T
 Comes l None before more = CoversLine l before more × All IsSilent more
 Comes l (Some x) before more = (r : Record) × (more ≡ r ∷ []) × (r.note ≡ x.note) × Leaves l x.left before more
 
--- the first event of the line may come
+-- the first event of the line may come: it asks something of an actor, and a task that is begun is one of its actor's
 abbrev pub MayRun : Line → Type 0
 MayRun (line.Begin a t) = MayCome (Begin a t)
 MayRun (line.Call a t) = MayCome (Begin a t)
+MayRun (line.Cut choice more) = ⊥
+MayRun (line.Image choice) = ⊥
 MayRun l = Unit {0}
 
 -- The machine went on by the next event of the line, or by all that was left of it: behind any records behind which it stood it stands behind these too.

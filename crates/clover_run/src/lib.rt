@@ -4,6 +4,7 @@
 
 mod client;
 mod event;
+mod laws;
 mod machine;
 mod recycler;
 mod runner;

@@ -2,9 +2,9 @@
 ghost use Rattle.std.specs.Prelude.{◌≡◌, ◌+◌, ◌<◌, ◌≤◌, ◌++◌, ◌∷◌, ◌⊎◌, ◌↔◌, [], false, ℕ, List, length, IsTrue, IfOk, OnErr, Some};
 ghost use Rattle.clover_rule.specs.Lists.{nth};
 ghost use Rattle.clover_run.specs.Client.{IsFirst};
-ghost use Rattle.clover_run.specs.Folds.{entries_in, traced_in, made_after};
+ghost use Rattle.clover_run.specs.Folds.{entries_in, listed_in, made_after};
 ghost use Rattle.clover_run.specs.Left.{left};
-ghost use Rattle.clover_run.specs.Machine.{IsAt, Continues, Happens, IsSame, MayCome, IsBusy, IsFirstSide, OnlyWaits, WantsNothing, first_opening, no_batch};
+ghost use Rattle.clover_run.specs.Machine.{IsAt, Continues, Happens, IsSame, MayCome, IsBusy, IsFirstSide, OnlyWaits, WantsNothing, first_opening, new_side, no_batch};
 ghost use Rattle.clover_run.specs.Record.{Record};
 ghost use Rattle.clover_run.specs.Run.{Opening};
 ghost use Rattle.clover_run.specs.declared.client.ClientState.{ClientState as State};
@@ -12,6 +12,8 @@ ghost use Rattle.clover_event.specs.Client.{IsCallTask};
 ghost use Rattle.clover_script.specs.declared.line.Task.TheVariants.{Client as ClientTask};
 ghost use Rattle.clover_event.specs.declared.event.Event.TheVariants.{Begin as BeginOf, Step as StepOf, Refuse as RefuseOf};
 ghost use Rattle.clover_run.specs.declared.event.Note.TheVariants.{Quiet as IsQuiet};
+
+mod power;
 
 use crate::client::ClientState;
 use crate::event::Note;
@@ -77,13 +79,20 @@ fn first_side(alloc: Global, setup: Setup) -> Result<Served, OutOfMemory>
     first_law();
     let books = Books::make(alloc, setup.pool)?;
     let directory = Directory::make(alloc, setup.pool)?;
-    Ok(Served {
+    Ok(new_side(setup, books, directory))
+}
+
+// The server's side of a run that begins with these books and this directory.
+fn new_side(setup: Setup, books: Books, directory: Directory) -> Served
+    ensures { result ≡ new_side setup books directory }
+{
+    Served {
         server: Server::make(setup, books, directory),
         holder: None,
         read: 0,
         done: 0,
         batch: no_batch(),
-    })
+    }
 }
 
 // The batch of a side of which nothing was handed out.
@@ -299,6 +308,13 @@ impl Machine {
         self.is_busy(actor) && !self.only_waits(actor)
     }
 
+    /// The pool, whose words a power cut keeps.
+    pub fn pool(&self) -> &PlainPool
+        ensures { result.now ≡ self.now.pool }
+    {
+        &self.pool
+    }
+
     /// Whether the accesses are listed.
     pub fn traced(&self) -> bool
         ensures { result ≡ self.now.pool.traced }
@@ -320,9 +336,9 @@ impl Machine {
         self.pool.entries()
     }
 
-    /// The accesses so far, in order, refused ones among them; none without a trace.
+    /// The accesses so far, in this run and before it, in order, refused ones among them; none without a trace.
     pub fn accesses(&self) -> &[Access]
-        ensures { (o : Opening) (rs : List Record) → IsAt o self.now rs → result.now ≡ traced_in self.now.pool.traced rs }
+        ensures { (o : Opening) (rs : List Record) → IsAt o self.now rs → result.now ≡ listed_in o.listed self.now.pool.traced rs }
     {
         self.pool.accesses()
     }

@@ -79,6 +79,7 @@ pub fn begin_line(machine: &mut Machine, line: Line) -> Result<Option<Advance>, 
             machine.refuse(actor);
             Ok(Some(last_of(actor, Note::Quiet)))
         }
+        Line::Cut { .. } | Line::Image { .. } => unreachable!(),
     }
 }
 
