@@ -14,10 +14,10 @@ use Rattle.clover_rule.specs.History.{Version, commit_of, kept, lost_in}
 use Rattle.clover_script.specs.declared.run_entry.RunEntry.{RunEntry}
 use Rattle.clover_run.specs.Folds.{entries_in}
 use Rattle.clover_run.specs.Run.{Opening}
+use Rattle.clover_run.specs.Told.{told}
 use Rattle.clover_sched.specs.Cuts.{AllFollow, EachRun, StandsLegal}
 use Rattle.clover_sched.specs.Items.{Item, Happened, Loses, Shows, Present, first_present, history_at, marked, none_gone, present_after, present_by, run_entries}
 use Rattle.clover_sched.specs.Laws.{AreNew, IsLegalRun, RunsStandLaw, StandsOnce, handed_in}
-use Rattle.clover_sched.specs.Told.{told}
 
 -- a step over which other tags are used as well is one, where its tag is not among them
 does_anew : (m o : Tagged) (used more : List ℕ) (call : Call) (reply : Reply) (n q : Tagged) → Does m used call reply n → Does o more call reply q → Does m more call reply n

@@ -10,17 +10,16 @@ use Rattle.clover_rule.specs.History.{Last, kept}
 use Rattle.clover_alloc.specs.Ledger.{Ledger, IsLedger}
 use Rattle.clover_dir.specs.Directory.{Bindings, IsDirectory}
 use Rattle.clover_plain.specs.Reopening.{AreOfWords}
-use Rattle.clover_server.specs.Server.{new_server}
 use Rattle.clover_script.specs.declared.choice.Choice.{Choice}
 use Rattle.clover_script.specs.declared.run_entry.RunEntry.{RunEntry}
 use Rattle.clover_image.specs.Choosing.{chosen}
 use Rattle.clover_run.specs.Folds.{entries_in}
-use Rattle.clover_run.specs.Machine.{no_batch}
+use Rattle.clover_run.specs.Machine.{new_side}
 use Rattle.clover_run.specs.Run.{Follows}
+use Rattle.clover_run.specs.Told.{told}
 use Rattle.clover_run.specs.declared.served.Served.{Served}
 use Rattle.clover_sched.specs.Items.{Item, Happened, Loses, Shows, Loss, Present, words_at, present_by}
 use Rattle.clover_sched.specs.Outages.{AreOutages, last_words}
-use Rattle.clover_sched.specs.Told.{told}
 
 -- the server's side of a new run: nobody holds the server, nothing is under way, and its books and directory are whole and those of the words
 pub record IsNewSide (s : Setup) (ws : List ℕ) (v : Served) : Type 0 where
@@ -29,7 +28,7 @@ pub record IsNewSide (s : Setup) (ws : List ℕ) (v : Served) : Type 0 where
   pub ledger : IsLedger books × (books.pool ≡ s.pool) × (books.fresh ≡ true)
   pub bindings : IsDirectory directory × (directory.pool ≡ s.pool)
   pub agree : AreOfWords s.pool ws books directory
-  pub value : v ≡ record { server = new_server s books directory; holder = None; read = 0; done = 0; batch = no_batch }
+  pub value : v ≡ new_side s books directory
 
 -- The cut's line behind what was before: its losses of power, and what is left of the run's history. It lost last commits of their keys that nobody was told of, and leads to the map that is left.
 pub record IsLoss (at : Present) (choice : Choice) (more : List (ℕ × Choice)) (l : Loss) : Type 0 where

@@ -7,12 +7,12 @@ use Rattle.clover_map.specs.declared.call.Entry.{Entry}
 use Rattle.clover_rule.specs.History.{commit_of, lost_in}
 use Rattle.clover_script.specs.declared.choice.Choice.{Choice}
 use Rattle.clover_script.specs.declared.run_entry.RunEntry.{RunEntry}
-use Rattle.clover_run.specs.Folds.{entries_in, made_after, words_after}
+use Rattle.clover_run.specs.Folds.{accesses_in, entries_in, made_after, words_after}
 use Rattle.clover_run.specs.Record.{Record}
 use Rattle.clover_run.specs.Run.{Opening}
+use Rattle.clover_run.specs.Told.{told}
 use Rattle.clover_run.specs.declared.served.Served.{Served}
-use Rattle.clover_sched.specs.Outages.{Outage, last_words, stored_in}
-use Rattle.clover_sched.specs.Told.{told}
+use Rattle.clover_sched.specs.Outages.{Outage, last_words, stored_in, stores_in}
 
 -- what a cut's line came to: its losses of power, the tags that they took, the map that is left, and the server's side of the next run
 pub record Loss : Type 0 where
@@ -62,6 +62,7 @@ reopened at l = record {
   used = used_by at.opening.used (entries_in at.records);
   run = suc at.opening.run;
   made = made_after at.opening.made at.records + stored_in l.outages;
+  listed = (at.opening.listed ++ accesses_in at.records) ++ stores_in l.outages;
 }
 
 abbrev pub present_by : Present → Item → Present

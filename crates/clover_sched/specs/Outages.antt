@@ -1,11 +1,14 @@
 -- Losses of power: the image that each one left, and the stores of its restart.
-use Rattle.std.specs.Prelude.{◌≡◌, ℕ, ◌+◌, List, [], ◌∷◌, ◌++◌, length, take, Option, Some, None}
+use Rattle.std.specs.Prelude.{◌≡◌, ℕ, ◌+◌, List, [], ◌∷◌, ◌++◌, length, map, take, false, Option, Some, None}
 use Rattle.clover_words.specs.declared.pool.Pool.{Pool}
 use Rattle.clover_map.specs.Tagged.{Tagged}
 use Rattle.clover_script.specs.declared.choice.Choice.{Choice}
 use Rattle.clover_image.specs.Choosing.{chosen}
 use Rattle.clover_rule.specs.Cut.{IsSound, StandsFor, image_of}
 use Rattle.clover_rule.specs.Restart.{plan, rested_words, words_after_stores}
+use Rattle.clover_rule.specs.Steps.{Restart, act_of}
+use Rattle.clover_rule.specs.declared.access.Access.{Access}
+use Rattle.clover_rule.specs.declared.access.Actor.TheVariants.{Restart as RestartActor}
 use Rattle.clover_rule.specs.declared.view.RestartStore.{RestartStore}
 
 -- the image that a loss of power left, and the stores that its restart made
@@ -46,3 +49,12 @@ last_words p (x ∷ y ∷ xs) = last_words p (y ∷ xs)
 abbrev pub stored_in : List Outage → ℕ
 stored_in [] = 0
 stored_in (x ∷ xs) = length x.stores + stored_in xs
+
+-- the access that makes a store of a restart
+abbrev pub store_access : RestartStore → Access
+store_access x = record { actor = RestartActor; act = act_of (Restart x) 0; refused = false }
+
+-- the accesses of their restarts, in order
+abbrev pub stores_in : List Outage → List Access
+stores_in [] = []
+stores_in (x ∷ xs) = map store_access x.stores ++ stores_in xs
