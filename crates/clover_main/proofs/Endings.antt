@@ -16,6 +16,7 @@ use Rattle.clover_run.specs.Text.{said, text}
 use Rattle.clover_main.specs.Beginnings.{CoversFront}
 use Rattle.clover_port.specs.Told.{Rose}
 use Rattle.clover_main.specs.Causes.{Writes}
+use Rattle.clover_main.specs.Cuts.{HasNoCuts}
 use Rattle.clover_main.specs.Reading.{Reads}
 use Rattle.clover_main.specs.Refusing.{line_of}
 use Rattle.clover_main.specs.declared.refusal.Refusal.TheVariants.{OutOfMemory}
@@ -25,7 +26,7 @@ use Rattle.clover_main.specs.Running.{PutsEnding, Ran, Fails}
 use Rattle.clover_main.specs.declared.output.Stop.{Stop}
 use Rattle.clover_main.specs.declared.output.Stop.TheVariants.{Memory, Write}
 use Rattle.clover_main.proofs.Committing.{legal_committed}
-use Rattle.clover_main.proofs.Following.{lawful_at}
+use Rattle.clover_run.proofs.Following.{lawful_at}
 use Rattle.clover_main.proofs.Pieces.{front_then, whole_put}
 
 module _ (o : Opening) (lines : List Line) (t : Bool) (none : o.first ≡ empty) where
@@ -55,8 +56,8 @@ module _ (o : Opening) (lines : List Line) (t : Bool) (none : o.first ≡ empty)
 abbrev pub Begins : List ℕ → Opening → List Line → Type 1
 Begins bytes o lines = (o.first ≡ empty) × ((Is : Opening → List Line → Type 0) → Is o lines → IsScriptOf bytes Is)
 
-pub script_begins : (bytes : List ℕ) (s : Setup) (said : List Spoken) → IsLinesOf bytes s said → Begins bytes (first_opening s) (map kept_line said)
-script_begins bytes s said script = (refl, λ Is is. record { setup = s; said = said; script = script; is = is })
+pub script_begins : (bytes : List ℕ) (s : Setup) (said : List Spoken) → IsLinesOf bytes s said → HasNoCuts bytes → Begins bytes (first_opening s) (map kept_line said)
+script_begins bytes s said script uncut = (refl, λ Is is. record { setup = s; said = said; script = script; uncut = uncut; is = is })
 
 rose_from : (a b c : ℕ) → a ≤ b → Rose b c → Rose a c
 rose_from a b c le rose = omega arith

@@ -4,14 +4,16 @@ use Rattle.std.proofs.lemmas.Bool.{cases_eq}
 use Rattle.std.specs.Io.KnownBytes.{Consumes, IsAtEnd}
 use Rattle.clover_words.specs.declared.setup.Setup.{Setup}
 use Rattle.clover_script.specs.Line.{Spoken}
-use Rattle.clover_script.specs.Lines.{IsLinesOf, IsRefusedLine}
+use Rattle.clover_script.specs.Lines.{IsLinesOf}
 use Rattle.clover_main.specs.declared.refusal.Refusal.{Refusal}
 use Rattle.clover_main.specs.declared.refusal.Refusal.TheVariants.{BadLine, TooMuchInput, ReadFault, OutOfMemory, BadWords}
 use Rattle.clover_port.specs.Told.{Rose}
+use Rattle.clover_main.specs.Cuts.{HasNoCuts, IsTurnedDown}
 use Rattle.clover_main.specs.Reading.{Reads, input_limit}
 use Rattle.clover_main.specs.Refusing.{status_of, HasShown}
 use Rattle.clover_main.specs.Replay.{Replays, Refuses, IsExact}
 use Rattle.clover_script.proofs.LinesLaws.{lines_not_refused}
+use Rattle.clover_main.proofs.CutLines.{cuts_nowhere}
 
 -- a source that was read to its end gave all that it had
 all_given : (text given : List ℕ) (after : Option (List ℕ)) → Consumes (Some text) after given → IsAtEnd after → given ≡ text
@@ -33,8 +35,8 @@ read_cause left after faults now BadWords is shown = absurd (omega arith)
 
 -- the status 1 is that of a bad line or of too much input
 text_cause : (text : List ℕ) (after : Option (List ℕ)) (faults now : ℕ) (r : Refusal) → status_of r ≡ 1 → HasShown (Some text) after faults now r
-    → ((n : ℕ) × IsRefusedLine text n) ⊎ (input_limit < length text)
-text_cause text after faults now (BadLine n) is (given, read, bad) = inl (n, subst (λ t. IsRefusedLine t n) (all_given text given after read.taken read.ended) bad)
+    → ((n : ℕ) × IsTurnedDown text n) ⊎ (input_limit < length text)
+text_cause text after faults now (BadLine n) is (given, read, bad) = inl (n, subst (λ t. IsTurnedDown t n) (all_given text given after read.taken read.ended) bad)
 text_cause text after faults now TooMuchInput is shown = inr (omega (arith, some_given text shown.bytes after shown.taken, shown.many))
 text_cause text after faults now ReadFault is shown = absurd (omega arith)
 text_cause text after faults now OutOfMemory is shown = absurd (omega arith)
@@ -42,8 +44,8 @@ text_cause text after faults now BadWords is shown = absurd shown
 
 -- what each status says, where no count rose and the source's bytes are known
 record Says (text : List ℕ) (status : ℕ) : Type 0 where
-  zero : status ≡ 0 → (s : Setup) × (said : List Spoken) × IsLinesOf text s said × (length text ≤ input_limit)
-  one : status ≡ 1 → ((n : ℕ) × IsRefusedLine text n) ⊎ (input_limit < length text)
+  zero : status ≡ 0 → (s : Setup) × (said : List Spoken) × IsLinesOf text s said × (length text ≤ input_limit) × HasNoCuts text
+  one : status ≡ 1 → ((n : ℕ) × IsTurnedDown text n) ⊎ (input_limit < length text)
   two : status ≡ 2 → ⊥
   three : status ≡ 3 → ⊥
   most : status ≤ 4
@@ -73,12 +75,16 @@ no_zero : (text : List ℕ) (status : ℕ) → Says text status → (status ≡ 
 no_zero text status says never =
     elim (among text status says) [ inl z ↦ absurd (never z) | inr r ↦ r ]
 
+-- a script without power cuts is not turned down
+not_down : (text : List ℕ) (s : Setup) (said : List Spoken) (n : ℕ) → IsLinesOf text s said → HasNoCuts text → IsTurnedDown text n → ⊥
+not_down text s said n script uncut down = elim down.0 as (λ _. ⊥) [ inl bad ↦ lines_not_refused text s said n script bad | inr cut ↦ cuts_nowhere text n uncut cut ]
+
 is_exact : (text : List ℕ) (status : ℕ) → Says text status → IsExact text status
 is_exact text status says = record {
-  script = λ s said is short. no_one text status says (λ o.
-      elim (says.one o) as (λ _. ⊥) [ inl bad ↦ lines_not_refused text s said bad.0 is bad.1 | inr more ↦ absurd (omega arith) ]);
+  script = λ s said is uncut short. no_one text status says (λ o.
+      elim (says.one o) as (λ _. ⊥) [ inl bad ↦ not_down text s said bad.0 is uncut bad.1 | inr more ↦ absurd (omega arith) ]);
   refused = λ n bad short. no_zero text status says (λ z.
-      let done = says.zero z in lines_not_refused text done.0 done.1 n done.2 bad);
+      let done = says.zero z in not_down text done.0 done.1 n done.2 done.4 bad);
   much = λ more. no_zero text status says (λ z. absurd (omega (arith, (says.zero z).3)));
 }
 
@@ -98,6 +104,7 @@ exact status t left after taken now sb sf kb kf zero one two three most text is 
             run.is.said,
             subst (λ t. IsLinesOf t run.is.setup run.is.said) same run.is.script,
             subst (λ (t : List ℕ). length t ≤ input_limit) same read.short,
+            subst HasNoCuts same run.is.uncut,
           );
       one = λ o.
           let refuses = one o in

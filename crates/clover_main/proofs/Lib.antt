@@ -1,8 +1,8 @@
 pub mod Cells
 pub mod Committing
+pub mod CutLines
 pub mod Endings
 pub mod Exactness
-pub mod Following
 pub mod Listening
 pub mod Loops
 pub mod Pieces

@@ -6,7 +6,7 @@ use Rattle.std.proofs.lemmas.List.Elements.{All-head, All-tail}
 use Rattle.clover_words.specs.declared.setup.Setup.{Setup}
 use Rattle.clover_map.specs.declared.call.Call.{Call}
 use Rattle.clover_map.specs.declared.call.Call.TheVariants.{Get, Put, Delete, Swap}
-use Rattle.clover_script.specs.Line.{lines_of, pool_line, numbers_of, IsClientCall, Asked, client, recycle, sweep, IsAsked, cut_call, written, kept_task, Spoken, says_begin, says_step, says_finish, says_call, says_refuse, IsSpoken, kept_line, IsLineOf, IsNoLine, IsIgnored}
+use Rattle.clover_script.specs.Line.{lines_of, pool_line, numbers_of, IsClientCall, Asked, client, recycle, sweep, IsAsked, cut_call, written, kept_task, Spoken, says_begin, says_step, says_finish, says_call, says_refuse, says_cut, says_image, IsSpoken, IsOfCuts, kept_line, IsLineOf, IsNoLine, IsIgnored}
 use Rattle.clover_script.specs.Lines.{Say, IsLinesOf}
 use Rattle.clover_script.specs.declared.line.Line.{Line}
 use Rattle.clover_script.specs.declared.line.PoolLine.{PoolLine}
@@ -14,6 +14,7 @@ use Rattle.clover_script.proofs.SpokenLemmas.{no_pool, not_ignored}
 use Rattle.clover_event.specs.Client.{IsCallTask}
 use Rattle.clover_run.specs.Machine.{IsTaskOfActor}
 use Rattle.clover_run.specs.Running.{MayRun}
+use Rattle.clover_main.specs.Cuts.{IsUncut}
 use Rattle.clover_main.specs.Hearing.{Heard}
 
 -- a line that is passed over is no actor's, and neither is a pool line
@@ -50,13 +51,15 @@ may_ask a (client call) is = (is.0, is_task call is.2)
 may_ask a (recycle slot) is = is.0
 may_ask a sweep is = is
 
-may_say : (s : Spoken) → IsSpoken s → MayRun (kept_line s)
-may_say (says_begin a asked) is = may_ask a asked is
-may_say (says_step a n) is = tt
-may_say (says_finish a) is = tt
-may_say (says_call a asked) is = may_ask a asked is
-may_say (says_refuse a) is = tt
+may_say : (s : Spoken) → IsSpoken s → (IsOfCuts s → ⊥) → MayRun (kept_line s)
+may_say (says_begin a asked) is uncut = may_ask a asked is
+may_say (says_step a n) is uncut = tt
+may_say (says_finish a) is uncut = tt
+may_say (says_call a asked) is uncut = may_ask a asked is
+may_say (says_refuse a) is uncut = tt
+may_say (says_cut choice more) is uncut = uncut tt
+may_say (says_image choice) is uncut = uncut tt
 
--- a line that a text says may be run
-pub line_may : (text : List ℕ) (line : Line) → IsLineOf text line → MayRun line
-line_may text line (spoken, is, e, kept) = subst MayRun (sym kept) (may_say spoken is)
+-- a line that a text says may be run, if it asks for no power cut
+pub line_may : (text : List ℕ) (line : Line) → IsUncut text → IsLineOf text line → MayRun line
+line_may text line uncut (spoken, is, e, kept) = subst MayRun (sym kept) (may_say spoken is (λ of. uncut (spoken, of, is, e)))

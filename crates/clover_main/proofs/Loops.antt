@@ -5,7 +5,7 @@ use Rattle.clover_script.specs.Line.{lines_of, IsLineOf, IsNoLine}
 use Rattle.std.proofs.lemmas.Bool.Decides.{nat_tests}
 use Rattle.clover_script.specs.declared.line.Line.{Line}
 use Rattle.clover_script.proofs.SpokenLemmas.{one_line}
-use Rattle.clover_run.specs.Folds.{traced_in}
+use Rattle.clover_run.specs.Folds.{listed_in}
 use Rattle.clover_run.specs.Lines.{CoversLine, Covers}
 use Rattle.clover_run.specs.Machine.{Parts, Continues, IsAt}
 use Rattle.clover_run.specs.Record.{Record}
@@ -16,29 +16,29 @@ use Rattle.clover_run.specs.declared.runner.Work.{Work}
 use Rattle.clover_run.proofs.Remainders.{left_then, part_then}
 use Rattle.clover_main.specs.Beginnings.{IsBegun, CoversFront}
 use Rattle.clover_main.specs.Hearing.{Heard}
-use Rattle.clover_main.specs.Performing.{IsLawful}
+use Rattle.clover_run.specs.Lawful.{IsLawful}
 use Rattle.clover_main.specs.Running.{Ran, Runs, Fails, Stops, IsSaidBy, IsPartOfSaid, Reaches}
 use Rattle.clover_main.specs.declared.output.Stop.{Stop}
-use Rattle.clover_main.proofs.Following.{lawful_at}
+use Rattle.clover_run.proofs.Following.{lawful_at}
 use Rattle.clover_main.proofs.Pieces.{ran_then, fails_then, ran_nothing}
 
 pub continues_then : (m n k : Parts) → Continues m n → Continues n k → Continues m k
 continues_then m n k f g = record { setup = g.setup ∙ f.setup; traced = g.traced ∙ f.traced }
 
 -- an event of a line was made, and what it came to was said
-module _ (m n : Parts) (l : Line) (came : Option Advance) (listed : ℕ) (adv : Advances m n l came) (has : (o : Opening) (rs : List Record) → IsAt o m rs → listed ≡ length (traced_in m.pool.traced rs)) where
-  has_listed : (o : Opening) (rs : List Record) → IsAt o m rs → listed ≡ length (traced_in n.pool.traced rs)
-  has_listed o rs at = has o rs at ∙ ap (λ t. length (traced_in t rs)) (sym adv.goes_on.traced)
+module _ (m n : Parts) (l : Line) (came : Option Advance) (listed : ℕ) (adv : Advances m n l came) (has : (o : Opening) (rs : List Record) → IsAt o m rs → listed ≡ length (listed_in o.listed m.pool.traced rs)) where
+  has_listed : (o : Opening) (rs : List Record) → IsAt o m rs → listed ≡ length (listed_in o.listed n.pool.traced rs)
+  has_listed o rs at = has o rs at ∙ ap (λ t. length (listed_in o.listed t rs)) (sym adv.goes_on.traced)
 
   pub told_runs : (a b : Option (List ℕ)) (w v : List ℕ) (left : Option Work)
-      → ((o : Opening) (rs more : List Record) (line : Line) → IsAt o n (rs ++ more) → Comes line came rs more → listed ≡ length (traced_in n.pool.traced rs) → Ran o n.pool.traced rs n a b w v (IsLeft line left rs)) → Runs m n a b w v (IsLeft l left)
+      → ((o : Opening) (rs more : List Record) (line : Line) → IsAt o n (rs ++ more) → Comes line came rs more → listed ≡ length (listed_in o.listed n.pool.traced rs) → Ran o n.pool.traced rs n a b w v (IsLeft line left rs)) → Runs m n a b w v (IsLeft l left)
   told_runs a b w v left tells = record {
     goes_on = adv.goes_on;
     ran = λ o rs at. let x = adv.ran o rs at in subst (λ t. Ran o t rs n a b w v (IsLeft l left rs)) adv.goes_on.traced (tells o rs x.0 l x.1 x.2 (has_listed o rs at));
   }
 
   pub told_stops : (stop : Stop) (a b : Option (List ℕ)) (w : List ℕ)
-      → ((o : Opening) (rs more : List Record) (line : Line) → IsLawful o rs → IsAt o n (rs ++ more) → Comes line came rs more → listed ≡ length (traced_in n.pool.traced rs) → Fails o n.pool.traced rs stop a b w (IsPartOrAll line rs)) → Stops m stop a b w (IsPartOrAll l)
+      → ((o : Opening) (rs more : List Record) (line : Line) → IsLawful o rs → IsAt o n (rs ++ more) → Comes line came rs more → listed ≡ length (listed_in o.listed n.pool.traced rs) → Fails o n.pool.traced rs stop a b w (IsPartOrAll line rs)) → Stops m stop a b w (IsPartOrAll l)
   told_stops stop a b w tells o rs at = let x = adv.ran o rs at in subst (λ t. Fails o t rs stop a b w (IsPartOrAll l rs)) adv.goes_on.traced (tells o rs x.0 l (lawful_at o m rs at) x.1 x.2 (has_listed o rs at))
 
 -- the first event of a line went on, and then what was left of it

@@ -8,7 +8,7 @@ use Rattle.clover_words.specs.Tag.{TagParts}
 use Rattle.clover_alloc.specs.Batch.{tags_of}
 use Rattle.clover_alloc.specs.declared.batch.Batch.{Batch}
 use Rattle.clover_rule.specs.declared.access.Access.{Access}
-use Rattle.clover_run.specs.Folds.{accesses_in, traced_in}
+use Rattle.clover_run.specs.Folds.{accesses_in, listed_in}
 use Rattle.clover_run.specs.Machine.{Parts, IsAt}
 use Rattle.clover_run.specs.Record.{Record}
 use Rattle.clover_run.specs.Run.{Opening}
@@ -18,11 +18,11 @@ use Rattle.clover_run.specs.Text.{said, noted}
 use Rattle.clover_run.specs.declared.event.Note.{Note}
 use Rattle.clover_run.specs.declared.event.Note.TheVariants.{Quiet, Waits}
 use Rattle.clover_main.specs.Causes.{AppendsFront}
-use Rattle.clover_main.specs.Performing.{IsLawful}
+use Rattle.clover_run.specs.Lawful.{IsLawful}
 use Rattle.clover_main.specs.Running.{Says, Puts, PutsEnding, Ran, Fails}
 use Rattle.clover_main.specs.declared.output.Stop.{Stop}
 use Rattle.clover_main.specs.declared.output.Stop.TheVariants.{Memory, Write}
-use Rattle.clover_main.proofs.Following.{lawful_at}
+use Rattle.clover_run.proofs.Following.{lawful_at}
 use Rattle.clover_main.proofs.Puts.{front_of_first}
 
 pub all_said : (t : Bool) (rs qs : List Record) → flat_map (said t) (rs ++ qs) ≡ flat_map (said t) rs ++ flat_map (said t) qs
@@ -40,19 +40,22 @@ get_behind [] (Some x) = refl
 get_behind (x ∷ xs) o = get_behind xs o
 
 -- the access that was listed last is that of the last record
-listed_last : (rs : List Record) (r : Record) → slice_get (accesses_in (rs ++ r ∷ [])) (length (accesses_in rs)) ≡ r.access
-listed_last rs r = ap (λ l. slice_get l (length (accesses_in rs))) (accesses_append rs (r ∷ []) ∙ ap (λ l. accesses_in rs ++ l) (append-nil (option_to_list r.access))) ∙ get_behind (accesses_in rs) r.access
+listed_last : (before : List Access) (rs : List Record) (r : Record) → slice_get (before ++ accesses_in (rs ++ r ∷ [])) (length (before ++ accesses_in rs)) ≡ r.access
+listed_last before rs r =
+    ap (λ l. slice_get (before ++ l) (length (before ++ accesses_in rs))) (accesses_append rs (r ∷ []) ∙ ap (λ l. accesses_in rs ++ l) (append-nil (option_to_list r.access)))
+    ∙ ap (λ l. slice_get l (length (before ++ accesses_in rs))) (sym (append_assoc before (accesses_in rs) (option_to_list r.access)))
+    ∙ get_behind (before ++ accesses_in rs) r.access
 
 -- the line of the access that is listed behind those before is the one that is printed; without a trace there is none
-listed_line : (t : Bool) (rs : List Record) (r : Record) → traced true (slice_get (traced_in t (rs ++ r ∷ [])) (length (traced_in t rs))) ≡ traced t r.access
-listed_line true rs r = ap (traced true) (listed_last rs r)
-listed_line false rs r = refl
+listed_line : (before : List Access) (t : Bool) (rs : List Record) (r : Record) → traced true (slice_get (listed_in before t (rs ++ r ∷ [])) (length (listed_in before t rs))) ≡ traced t r.access
+listed_line before true rs r = ap (traced true) (listed_last before rs r)
+listed_line before false rs r = refl
 
 -- that line and that of the note are what the record prints
-pub said_line : (t : Bool) (xs : List Access) (n : ℕ) (rs : List Record) (r : Record) (note : Note) (batch : Batch) (old mid new : List ℕ) (u : Bool) → u ≡ t → xs ≡ traced_in t (rs ++ r ∷ []) → n ≡ length (traced_in t rs) → r.note ≡ note → batch ≡ r.served.batch
+pub said_line : (before : List Access) (t : Bool) (xs : List Access) (n : ℕ) (rs : List Record) (r : Record) (note : Note) (batch : Batch) (old mid new : List ℕ) (u : Bool) → u ≡ t → xs ≡ listed_in before t (rs ++ r ∷ []) → n ≡ length (listed_in before t rs) → r.note ≡ note → batch ≡ r.served.batch
     → mid ≡ old ++ traced true (slice_get xs n) → new ≡ mid ++ noted u (tags_of batch) note → new ≡ old ++ said t r
-said_line t xs n rs r note batch old mid new u same all here is last grown told =
-    let line : traced true (slice_get xs n) ≡ traced t r.access = ap (λ l. traced true (slice_get l n)) all ∙ ap (λ k. traced true (slice_get (traced_in t (rs ++ r ∷ [])) k)) here ∙ listed_line t rs r in
+said_line before t xs n rs r note batch old mid new u same all here is last grown told =
+    let line : traced true (slice_get xs n) ≡ traced t r.access = ap (λ l. traced true (slice_get l n)) all ∙ ap (λ k. traced true (slice_get (listed_in before t (rs ++ r ∷ [])) k)) here ∙ listed_line before t rs r in
     told ∙ ap (λ (b : Bool). mid ++ noted b (tags_of batch) note) same ∙ ap (λ l. l ++ noted t (tags_of batch) note) (grown ∙ ap (λ l. old ++ l) line) ∙ append_assoc old (traced t r.access) (noted t (tags_of batch) note)
     ∙ (λ k. old ++ (traced t r.access ++ noted t (tags_of (last k)) (sym is k)))
 

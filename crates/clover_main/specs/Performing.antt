@@ -1,23 +1,17 @@
 -- what the printed text of a run of some lines promises
 use Rattle.std.specs.Prelude.{◌≡◌, ◌⊎◌, ℕ, Bool, List, [], ◌∷◌, ◌++◌, flat_map}
-use Rattle.clover_map.specs.History.{IsNumberedByClient}
-use Rattle.clover_map.specs.Legal.{Legal}
 use Rattle.clover_map.specs.declared.bytes.Value.{Value}
 use Rattle.clover_map.specs.declared.call.Call.{Call}
 use Rattle.clover_map.specs.declared.call.Call.TheVariants.{Get, Put, Swap}
 use Rattle.clover_map.specs.declared.call.Entry.{Entry}
 use Rattle.clover_map.specs.declared.call.Reply.TheVariants.{Stored, Found}
 use Rattle.clover_script.specs.declared.line.Line.{Line}
-use Rattle.clover_rule.specs.Accesses.{Replays}
 use Rattle.clover_rule.specs.Lists.{Within}
-use Rattle.clover_run.specs.Alone.{AllFound, AllCounted, AllAlone}
-use Rattle.clover_run.specs.Folds.{accesses_in, entries_in}
-use Rattle.clover_run.specs.Freed.{AllFree}
+use Rattle.clover_run.specs.Folds.{entries_in}
+use Rattle.clover_run.specs.Lawful.{IsLawful}
 use Rattle.clover_run.specs.Lines.{Covers}
-use Rattle.clover_run.specs.Owed.{AllPaid}
 use Rattle.clover_run.specs.Record.{Record}
-use Rattle.clover_run.specs.Rounds.{AllRounds}
-use Rattle.clover_run.specs.Run.{Opening, IsRun}
+use Rattle.clover_run.specs.Run.{Opening}
 use Rattle.clover_run.specs.Text.{said, text}
 use Rattle.clover_main.specs.Beginnings.{CoversFront}
 
@@ -34,19 +28,6 @@ IsCommitted h k t v = (e : Entry) × Within e h × (e.reply ≡ Stored t) × Sto
 -- each value that a get found was committed before, whole, under its key and with its tag
 abbrev pub AllCommitted : List Entry → Type 0
 AllCommitted h = (before after : List Entry) (e : Entry) (k : List ℕ) (t : ℕ) (v : Value) → h ≡ before ++ e ∷ after → e.call ≡ Get k → e.reply ≡ Found t v → IsCommitted before k t v
-
--- The records are a run whose accesses replay; its history is legal from what was before it, and in each client's order. At every moment each bound key has a chain with a tail, the count is the number of the bindings, and a buffer that the server's books have as free lies free. A call that runs alone is answered at exactly its cost; from one start of it to the next it makes these accesses, and the server those that its tasks cost.
-pub record IsLawful (o : Opening) (records : List Record) : Type 0 where
-  pub run : IsRun o records
-  pub replays : Replays o.setup.pool o.words (accesses_in records)
-  pub legal : Legal o.first o.used (entries_in records)
-  pub numbered : IsNumberedByClient (entries_in records)
-  pub found : AllFound o records
-  pub counted : AllCounted o records
-  pub free : AllFree o records
-  pub alone : AllAlone o records
-  pub paid : AllPaid o records
-  pub rounds : AllRounds o records
 
 -- Out is the text of a run of the lines, in which no value is torn.
 pub record IsPerformed (o : Opening) (lines : List Line) (t : Bool) (out : List ℕ) : Type 0 where

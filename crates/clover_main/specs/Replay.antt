@@ -3,7 +3,7 @@ use Rattle.std.specs.Prelude.{◌≡◌, ℕ, ◌<◌, ◌≤◌, ◌⊎◌, Boo
 use Rattle.std.specs.Io.KnownBytes.{Appends}
 use Rattle.clover_words.specs.declared.setup.Setup.{Setup}
 use Rattle.clover_script.specs.Line.{Spoken, kept_line}
-use Rattle.clover_script.specs.Lines.{IsLinesOf, IsRefusedLine}
+use Rattle.clover_script.specs.Lines.{IsLinesOf}
 use Rattle.clover_script.specs.declared.line.Line.{Line}
 use Rattle.clover_run.specs.Machine.{first_opening}
 use Rattle.clover_run.specs.Run.{Opening}
@@ -12,15 +12,17 @@ use Rattle.clover_main.specs.declared.output.Stop.TheVariants.{Memory, Write}
 use Rattle.clover_main.specs.declared.refusal.Refusal.{Refusal}
 use Rattle.clover_main.specs.declared.refusal.Refusal.TheVariants.{OutOfMemory}
 use Rattle.clover_main.specs.Causes.{AppendsFront, Writes}
+use Rattle.clover_main.specs.Cuts.{HasNoCuts, IsTurnedDown}
 use Rattle.clover_main.specs.Performing.{IsPerformed, IsBeginning, IsOutput}
 use Rattle.clover_main.specs.Reading.{Reads, input_limit}
 use Rattle.clover_main.specs.Refusing.{status_of, line_of, HasShown}
 
--- The text is a script, and this holds of its lines and of where their run begins: a pool of its setup with nothing in it.
+-- The text is a script without power cuts, and this holds of its lines and of where their run begins: a pool of its setup with nothing in it.
 pub record IsScriptOf (text : List ℕ) (Is : Opening → List Line → Type 0) : Type 0 where
   pub setup : Setup
   pub said : List Spoken
   pub script : IsLinesOf text setup said
+  pub uncut : HasNoCuts text
   pub is : Is (first_opening setup) (map kept_line said)
 
 -- the text is a script, and out is the text of a run of it
@@ -77,8 +79,8 @@ pub record Refuses (status : ℕ) (left after : Option (List ℕ)) (source_befor
   pub shown : HasShown left after source_before source_faults refusal
   pub put : Writes taken now sink_before sink_faults (line_of refusal)
 
--- What the status must be where no count rose: of a script 0, of any other text 1. Want of memory alone is free.
+-- What the status must be where no count rose: of a script without power cuts 0, of any other text 1. Want of memory alone is free.
 pub record IsExact (text : List ℕ) (status : ℕ) : Type 0 where
-  pub script : (s : Setup) (said : List Spoken) → IsLinesOf text s said → length text ≤ input_limit → (status ≡ 0) ⊎ (status ≡ 4)
-  pub refused : (n : ℕ) → IsRefusedLine text n → length text ≤ input_limit → (status ≡ 1) ⊎ (status ≡ 4)
+  pub script : (s : Setup) (said : List Spoken) → IsLinesOf text s said → HasNoCuts text → length text ≤ input_limit → (status ≡ 0) ⊎ (status ≡ 4)
+  pub refused : (n : ℕ) → IsTurnedDown text n → length text ≤ input_limit → (status ≡ 1) ⊎ (status ≡ 4)
   pub much : input_limit < length text → (status ≡ 1) ⊎ (status ≡ 4)

@@ -14,7 +14,7 @@ use Rattle.clover_run.specs.declared.runner.Work.{Work}
 use Rattle.clover_run.specs.Running.{IsPartOrAll, steps_left}
 use Rattle.clover_main.specs.Causes.{AppendsFront}
 use Rattle.clover_main.specs.Hearing.{Heard}
-use Rattle.clover_main.specs.Performing.{IsLawful}
+use Rattle.clover_run.specs.Lawful.{IsLawful}
 use Rattle.clover_main.specs.declared.output.Stop.{Stop}
 use Rattle.clover_main.specs.declared.output.Stop.TheVariants.{Memory, Write}
 
@@ -67,7 +67,7 @@ abbrev pub most_steps : Parts → Option Work → ℕ
 most_steps m None = 0
 most_steps m (Some w) = suc (steps_left m w)
 
--- a text that is no line of an actor stands for no records, and one that is for those of its line
+-- a text that is no line stands for no records, and one that is for those of its line
 abbrev pub IsSaidBy : List ℕ → List Record → List Record → Type 0
 IsSaidBy text before more = (IsNoLine text × (more ≡ [])) ⊎ ((line : Line) × IsLineOf text line × CoversLine line before more)
 

@@ -11,6 +11,7 @@ mod refusal;
 mod replaying;
 mod running;
 mod stdio;
+mod uncut;
 
 pub use command::{clover, exit};
 pub use io::{Failed, Sink, Source};

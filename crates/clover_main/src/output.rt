@@ -1,7 +1,7 @@
 // What waits to be put into the sink. It is put in large pieces, and what one event prints stays together.
 ghost use Rattle.std.specs.Prelude.{◌≡◌, ◌≤◌, ◌++◌, ◌∷◌, List, [], length, true, OnOk, OnErr, IfErr, slice_get};
 ghost use Rattle.std.specs.Io.KnownBytes.{Appends};
-ghost use Rattle.clover_run.specs.Folds.{entries_in, made_after, traced_in};
+ghost use Rattle.clover_run.specs.Folds.{entries_in, listed_in, made_after};
 ghost use Rattle.clover_run.specs.Machine.{IsAt};
 ghost use Rattle.clover_run.specs.Record.{Record};
 ghost use Rattle.clover_run.specs.Run.{Opening};
@@ -75,7 +75,7 @@ impl Output {
     ///
     /// Err for want of memory, and then what waits is as it was.
     pub fn say(&mut self, machine: &Machine, listed: usize, note: &Note) -> Result<(), AllocError>
-        ensures ok { OnOk result ((o : Opening) (rs : List Record) (r : Record) → IsAt o machine.now (rs ++ r ∷ []) → r.note ≡ note.now → listed ≡ length (traced_in machine.now.pool.traced rs)
+        ensures ok { OnOk result ((o : Opening) (rs : List Record) (r : Record) → IsAt o machine.now (rs ++ r ∷ []) → r.note ≡ note.now → listed ≡ length (listed_in o.listed machine.now.pool.traced rs)
             → self.new.waiting.items ≡ self.old.waiting.items ++ said machine.now.pool.traced r) }
         ensures err { OnErr result (self.new.waiting.items ≡ self.old.waiting.items) }
     {
@@ -136,7 +136,7 @@ fn push_said(
     listed: usize,
     note: &Note,
 ) -> Result<(), AllocError>
-    ensures ok { OnOk result ((o : Opening) (rs : List Record) (r : Record) → IsAt o machine.now (rs ++ r ∷ []) → r.note ≡ note.now → listed ≡ length (traced_in machine.now.pool.traced rs)
+    ensures ok { OnOk result ((o : Opening) (rs : List Record) (r : Record) → IsAt o machine.now (rs ++ r ∷ []) → r.note ≡ note.now → listed ≡ length (listed_in o.listed machine.now.pool.traced rs)
         → piece.new.items ≡ piece.old.items ++ said machine.now.pool.traced r) }
 {
     push_listed(piece, machine.accesses(), listed)?;

@@ -5,6 +5,7 @@ ghost use Rattle.clover_script.specs.Line.{Spoken};
 ghost use Rattle.clover_script.specs.Lines.{IsLinesOf};
 ghost use Rattle.clover_port.specs.Told.{Rose};
 ghost use Rattle.clover_main.specs.Causes.{HasStopCause};
+ghost use Rattle.clover_main.specs.Cuts.{HasNoCuts};
 ghost use Rattle.clover_main.specs.Reading.{Reads, TakesFew};
 ghost use Rattle.clover_main.specs.Refusing.{HasShown};
 ghost use Rattle.clover_main.specs.Replay.{IsReplay, Replays, StopsShort, LacksMemory, HasStopped, Refuses, IsExact};
@@ -14,8 +15,8 @@ use crate::output::{Output, Stop};
 use crate::read::read_all;
 use crate::refusal::{Refusal, refuse};
 use crate::running::run_lines;
+use crate::uncut::check_uncut;
 use clover_run::Machine;
-use clover_script::check_lines;
 use clover_words::Setup;
 use std::alloc::Global;
 
@@ -76,15 +77,15 @@ struct Script {
 /// The script of the source.
 fn script_of<S: Source>(alloc: Global, source: &mut S) -> Result<Script, Refusal>
     ensures read { IfOk result (λ script. Reads (S.left source.old) (S.left source.new) script.text.items) }
-    ensures script { IfOk result (λ script. (said : List Spoken) × IsLinesOf script.text.items script.setup said) }
+    ensures script { IfOk result (λ script. (said : List Spoken) × IsLinesOf script.text.items script.setup said × HasNoCuts script.text.items) }
     ensures quiet { IfOk result (λ script. S.faults source.new ≡ S.faults source.old) }
     ensures err { IfErr result (λ refusal. HasShown (S.left source.old) (S.left source.new) (S.faults source.old) (S.faults source.new) refusal) }
     ensures few { TakesFew (S.left source.old) (S.left source.new) }
 {
     let text = read_all(alloc, source)?;
-    match check_lines(&text) {
+    match check_uncut(&text) {
         Ok(setup) => Ok(Script { text, setup }),
-        Err(bad) => Err(Refusal::BadLine(bad.line)),
+        Err(line) => Err(Refusal::BadLine(line)),
     }
 }
 
@@ -96,7 +97,7 @@ fn run_script<K: Sink>(
     trace: bool,
     sink: &mut K,
 ) -> Result<(), Stop>
-    requires { (said : List Spoken) × IsLinesOf text.now setup said }
+    requires { (said : List Spoken) × IsLinesOf text.now setup said × HasNoCuts text.now }
     ensures ok { OnOk result ((out : List ℕ) × IsReplay trace text.now out × Appends (K.taken sink.old) (K.taken sink.new) out) }
     ensures err { IfErr result (λ stop. HasStopped stop trace text.now (K.taken sink.old) (K.taken sink.new)) }
     ensures cause { HasStopCause (K.faults sink.old) (K.faults sink.new) result }

@@ -3,7 +3,7 @@
 ghost use Rattle.std.specs.Prelude.{◌≡◌, ◌<◌, ◌++◌, List, [], length, OnOk, IfOk, IfErr};
 ghost use Rattle.clover_script.specs.Line.{lines_of, IsLineOf};
 ghost use Rattle.clover_script.specs.declared.line.Line.{Line as LineData};
-ghost use Rattle.clover_run.specs.Folds.{traced_in};
+ghost use Rattle.clover_run.specs.Folds.{listed_in};
 ghost use Rattle.clover_run.specs.Lines.{CoversLine, Covers};
 ghost use Rattle.clover_run.specs.Machine.{IsAt};
 ghost use Rattle.clover_run.specs.Record.{Record};
@@ -11,8 +11,9 @@ ghost use Rattle.clover_run.specs.Run.{Opening};
 ghost use Rattle.clover_run.specs.Running.{Comes, IsLeft, IsPartOrAll, MayRun, steps_line};
 ghost use Rattle.clover_main.specs.Beginnings.{CoversFront};
 ghost use Rattle.clover_main.specs.Causes.{HasStopCause};
+ghost use Rattle.clover_main.specs.Cuts.{IsUncut, HasNoCuts};
 ghost use Rattle.clover_main.specs.Hearing.{Heard};
-ghost use Rattle.clover_main.specs.Performing.{IsLawful};
+ghost use Rattle.clover_run.specs.Lawful.{IsLawful};
 ghost use Rattle.clover_main.specs.Running.{Ran, Runs, Fails, Stops, left_of, most_steps, IsSaidBy, IsPartOfSaid};
 
 use crate::io::Sink;
@@ -31,10 +32,10 @@ fn tell<K: Sink>(
     out: &mut Output,
     sink: &mut K,
 ) -> Result<Option<Work>, Stop>
-    ensures ok { IfOk result (λ left. (o : Opening) (rs more : List Record) (line : LineData) → IsAt o machine.now (rs ++ more) → Comes line came rs more → listed ≡ length (traced_in machine.now.pool.traced rs)
+    ensures ok { IfOk result (λ left. (o : Opening) (rs more : List Record) (line : LineData) → IsAt o machine.now (rs ++ more) → Comes line came rs more → listed ≡ length (listed_in o.listed machine.now.pool.traced rs)
         → Ran o machine.now.pool.traced rs machine.now (K.taken sink.old) (K.taken sink.new) out.old.waiting.items out.new.waiting.items (IsLeft line left rs)) }
     ensures left { IfOk result (λ left. left ≡ left_of came) }
-    ensures err { IfErr result (λ stop. (o : Opening) (rs more : List Record) (line : LineData) → IsLawful o rs → IsAt o machine.now (rs ++ more) → Comes line came rs more → listed ≡ length (traced_in machine.now.pool.traced rs)
+    ensures err { IfErr result (λ stop. (o : Opening) (rs more : List Record) (line : LineData) → IsLawful o rs → IsAt o machine.now (rs ++ more) → Comes line came rs more → listed ≡ length (listed_in o.listed machine.now.pool.traced rs)
         → Fails o machine.now.pool.traced rs stop (K.taken sink.old) (K.taken sink.new) out.old.waiting.items (IsPartOrAll line rs)) }
     ensures cause { HasStopCause (K.faults sink.old) (K.faults sink.new) result }
 {
@@ -115,6 +116,7 @@ fn run_text<K: Sink>(
     out: &mut Output,
     sink: &mut K,
 ) -> Result<(), Stop>
+    requires uncut { IsUncut text.now }
     ensures ok { OnOk result (Runs machine.old machine.new (K.taken sink.old) (K.taken sink.new) out.old.waiting.items out.new.waiting.items (IsSaidBy text.now)) }
     ensures err { IfErr result (λ stop. Stops machine.old stop (K.taken sink.old) (K.taken sink.new) out.old.waiting.items (IsPartOfSaid text.now)) }
     ensures cause { HasStopCause (K.faults sink.old) (K.faults sink.new) result }
@@ -129,7 +131,7 @@ fn run_text<K: Sink>(
     }
 }
 
-/// The lines of actors in a text, in order; all others are passed over.
+/// The lines behind the pool line of a text, in order; all others are passed over.
 pub fn run_lines<K: Sink>(
     alloc: Global,
     machine: &mut Machine,
@@ -137,6 +139,7 @@ pub fn run_lines<K: Sink>(
     out: &mut Output,
     sink: &mut K,
 ) -> Result<(), Stop>
+    requires uncut { HasNoCuts text.now }
     ensures ok { OnOk result ((o : Opening) (lines : List LineData) → IsAt o machine.old [] → Heard (lines_of text.now) lines → Ran o machine.old.pool.traced [] machine.new (K.taken sink.old) (K.taken sink.new) out.old.waiting.items out.new.waiting.items (Covers lines [])) }
     ensures err { IfErr result (λ stop. (o : Opening) (lines : List LineData) → IsAt o machine.old [] → Heard (lines_of text.now) lines → Fails o machine.old.pool.traced [] stop (K.taken sink.old) (K.taken sink.new) out.old.waiting.items (CoversFront lines)) }
     ensures cause { HasStopCause (K.faults sink.old) (K.faults sink.new) result }

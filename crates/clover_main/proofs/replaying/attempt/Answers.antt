@@ -1,7 +1,15 @@
 use Rattle.std.proofs.Common.{ℕ, List, sym, subst}
+use Rattle.clover_script.specs.Line.{Spoken}
+use Rattle.clover_script.specs.Lines.{IsLinesOf}
+use Rattle.clover_main.specs.Cuts.{HasNoCuts}
 use Rattle.clover_main.specs.Reading.{Reads}
 use Rattle.clover_main.proofs.Endings.{lacks_memory}
 use Rattle.clover_main.proofs.replaying.attempt.Goals as goal
+
+pub run_script-requires : goal.run_script-requires
+run_script-requires g c =
+    let P : List ℕ → Type 0 = λ text. (said : List Spoken) × IsLinesOf text c.in-Ok.script.setup said × HasNoCuts text in
+    subst P (sym c.deref.ensures.value) c.in-Ok.ensures.script
 
 pub returns-in-Ok-clause-memory : goal.returns-in-Ok-clause-memory
 returns-in-Ok-clause-memory g c is =

@@ -28,7 +28,7 @@ returns-in_err-run_lines-clause-err g c =
     let from = first_opening c.args.setup in
     let P : Bool → List ℕ → Type 0 = λ t w. Fails from t [] c.in_err-run_lines.field-0.0 (g.K.Sink.taken c.args.sink.now) (g.K.Sink.taken c.run_lines.new.sink) w (CoversFront lines) in
     let p = err_from_is_err_and c.from_residual-in_err-run_lines.result c.from_residual-in_err-run_lines.ensures.1 in
-    rw (p.1, p.2) (stops_running c.args.text.now from lines c.args.trace (script_begins c.args.text.now c.args.setup said c.requires.1) c.in_err-run_lines.field-0.0 _ _
+    rw (p.1, p.2) (stops_running c.args.text.now from lines c.args.trace (script_begins c.args.text.now c.args.setup said c.requires.1 c.requires.2) c.in_err-run_lines.field-0.0 _ _
     (subst (λ t. P t []) c.in_ok-machine.ensures.parts.1 (subst (P c.in_ok-machine.machine.pool.traced) c.new-out.ensures (c.in_err-run_lines.ensures.err from lines c.in_ok-machine.ensures.at (lines_heard c.args.text.now c.args.setup said c.requires.1)))))
 
 pub returns-clause-ok : goal.returns-clause-ok
@@ -37,7 +37,7 @@ returns-clause-ok g c =
     let lines : List Line = map kept_line said in
     let from = first_opening c.args.setup in
     let P : Bool → List ℕ → Type 0 = λ t w. Ran from t [] c.run_lines.new.machine (g.K.Sink.taken c.args.sink.now) (g.K.Sink.taken c.run_lines.new.sink) w c.run_lines.new.out.waiting.items (Covers lines []) in
-    on_ok_weaker c.close.result (λ closed. performs c.args.text.now from lines c.args.trace (script_begins c.args.text.now c.args.setup said c.requires.1) c.run_lines.new.machine _ _ _ _
+    on_ok_weaker c.close.result (λ closed. performs c.args.text.now from lines c.args.trace (script_begins c.args.text.now c.args.setup said c.requires.1 c.requires.2) c.run_lines.new.machine _ _ _ _
     (subst (λ t. P t []) c.in_ok-machine.ensures.parts.1 (subst (P c.in_ok-machine.machine.pool.traced) c.new-out.ensures (c.in_ok-run_lines.ensures.ok from lines c.in_ok-machine.ensures.at (lines_heard c.args.text.now c.args.setup said c.requires.1)))) closed) c.close.ensures.ok
 
 pub returns-clause-err : goal.returns-clause-err
@@ -46,5 +46,5 @@ returns-clause-err g c =
     let lines : List Line = map kept_line said in
     let from = first_opening c.args.setup in
     let P : Bool → List ℕ → Type 0 = λ t w. Ran from t [] c.run_lines.new.machine (g.K.Sink.taken c.args.sink.now) (g.K.Sink.taken c.run_lines.new.sink) w c.run_lines.new.out.waiting.items (Covers lines []) in
-    IfErr-weaker c.close.result _ _ (λ stop closed. stops_closing c.args.text.now from lines c.args.trace (script_begins c.args.text.now c.args.setup said c.requires.1) stop c.run_lines.new.machine _ _ _ _
+    IfErr-weaker c.close.result _ _ (λ stop closed. stops_closing c.args.text.now from lines c.args.trace (script_begins c.args.text.now c.args.setup said c.requires.1 c.requires.2) stop c.run_lines.new.machine _ _ _ _
     (subst (λ t. P t []) c.in_ok-machine.ensures.parts.1 (subst (P c.in_ok-machine.machine.pool.traced) c.new-out.ensures (c.in_ok-run_lines.ensures.ok from lines c.in_ok-machine.ensures.at (lines_heard c.args.text.now c.args.setup said c.requires.1)))) closed) c.close.ensures.err

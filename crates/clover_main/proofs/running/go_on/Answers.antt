@@ -2,7 +2,7 @@ use Rattle.std.proofs.Common.{ap, inl, length}
 use Rattle.std.proofs.lemmas.Result.{IfErr-weaker, IfOk-weaker}
 use Rattle.clover_run.specs.Running.{IsPartOrAll, steps_line}
 use Rattle.clover_run.proofs.Remainders.{part_none}
-use Rattle.clover_main.proofs.Following.{lawful_at}
+use Rattle.clover_run.proofs.Following.{lawful_at}
 use Rattle.clover_main.proofs.Loops.{told_runs, told_stops}
 use Rattle.clover_main.proofs.Pieces.{fails_none}
 use Rattle.clover_main.proofs.running.go_on.Goals as goal
