@@ -76,6 +76,9 @@ pub mod RestedWords
 pub mod StoredWords
 pub mod RestartLaw
 pub mod Marks
+pub mod ChainEnds
+pub mod LostTags
+pub mod LossSeen
 pub mod Restarted
 pub mod RestartedLaw
 pub mod RestartBooks

@@ -30,3 +30,4 @@ pub mod Restart
 pub mod Preset
 pub mod Moves
 pub mod Laws
+pub mod Marks

@@ -1,5 +1,6 @@
 // The laws, each a contract of a function with an empty body.
 ghost use Rattle.clover_rule.specs.Cut.{CutLaw};
+ghost use Rattle.clover_rule.specs.Marks.{MarksLaw};
 ghost use Rattle.clover_rule.specs.Preset.{PresetLaw};
 ghost use Rattle.clover_rule.specs.Laws.{PartsLaw, LongestLaw, StepLaw, ToldLaw, TableStepLaw, RiseLaw, AccessLaw, OperationLaw, OpeningLaw, BlankLaw, ClientLaw, GrantLaw, AcceptLaw, HandOverLaw, NoteLaw, JoinNoteLaw, SpentLaw, OneReadingLaw, RestartLaw, RestartedLaw, ReopenLaw, UsedLaw, MarkLaw};
 
@@ -126,4 +127,9 @@ pub fn used_law()
 /// Which commits a cut took is seen at the map that is left.
 pub fn mark_law()
     ensures { MarkLaw }
+{}
+
+/// Which commits a cut took is seen at the ends of the chains, in the current copies and in the image that is left.
+pub fn marks_law()
+    ensures { MarksLaw }
 {}
