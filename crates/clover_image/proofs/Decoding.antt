@@ -12,6 +12,7 @@ use Rattle.clover_words.specs.Version.{buffer_at}
 use Rattle.clover_rule.specs.Content.{inside}
 use Rattle.clover_rule.specs.Cut.{IsSound}
 use Rattle.clover_rule.specs.Memory.{Next, word, gen, link}
+use Rattle.clover_rule.specs.Told.{IsShown}
 use Rattle.clover_rule.specs.Words.{next_of, root_of, guarded}
 use Rattle.clover_rule.proofs.Codecs.{shown_next, shown_root, next_of_word, tag_option}
 use Rattle.clover_rule.proofs.Keeping.{inside_of}
@@ -39,7 +40,7 @@ tag_options (Some t) = refl
 pub key_is : (m : PoolImage) (s j : ℕ) → s < m.pool.slots → j < 32 → (decoded m).key s j ≡ slice_index m.words (place m.pool (Key s j))
 key_is m s j h k = ap (λ (x : Bool). guarded x (slice_index m.words (place m.pool (Key s j))) 0) (and_true (nat_lt s m.pool.slots) (nat_lt j 32) (test_below s m.pool.slots h) (test_below j 32 k))
 
-module _ (m : PoolImage) (sound : IsSound m.pool m.words) where
+module _ (m : PoolImage) where
   -- the number of the word
   abbrev root_number : ℕ → ℕ
   root_number s = slice_index m.words (place m.pool (Root s))
@@ -47,11 +48,9 @@ module _ (m : PoolImage) (sound : IsSound m.pool m.words) where
   abbrev next_number : Buffer → ℕ
   next_number b = slice_index m.words (place m.pool (NextOf b))
 
-  pub root_decodes : (s : ℕ) → s < m.pool.slots → (o : Option TagParts) × IsLink o × (root_word o ≡ root_number s)
-  root_decodes s h = shown_root m.pool s (root_number s) (
-    sound.decodes (Root s) h tt,
-    λ t e. sound.reads.root s t (ap (λ (x : Bool). guarded x (root_of (root_number s)) None) (test_below s m.pool.slots h) ∙ e),
-  )
+  -- a root of the pool is that of its number
+  pub root_is : (s : ℕ) → s < m.pool.slots → (decoded m).root s ≡ root_of (root_number s)
+  root_is s h = ap (λ (x : Bool). guarded x (root_of (root_number s)) None) (test_below s m.pool.slots h)
 
   -- where the buffer is in the pool, its next word is that of its number
   pub next_is : (b : Buffer) → IsBuffer m.pool b → (decoded m).next (number_of b) ≡ next_of (next_number b)
@@ -59,8 +58,16 @@ module _ (m : PoolImage) (sound : IsSound m.pool m.words) where
       ap (λ (x : Bool). guarded x (next_of (next_number (buffer_at (number_of b)))) (word 0 None)) (buffer_inside m.pool b h)
       ∙ ap (λ (x : Buffer). next_of (next_number x)) (buffer_back m.pool b h)
 
-  pub next_decodes : (b : Buffer) → IsBuffer m.pool b → (n : NextParts) × IsNext n × (next_word n ≡ next_number b)
-  next_decodes b h = shown_next m.pool b (next_number b) (
+  pub next_tells : (b : Buffer) (n : NextParts) → IsBuffer m.pool b → IsNext n → next_word n ≡ next_number b → word n.own (option_map tag_number n.link) ≡ (decoded m).next (number_of b)
+  next_tells b n h is e = ap (word n.own) (sym (tag_options n.link)) ∙ sym (next_of_word n is) ∙ ap next_of e ∙ sym (next_is b h)
+
+  -- the same, as a caller with a sound image cites it
+  pub next_read : IsSound m.pool m.words → (b : Buffer) (n : NextParts) → IsBuffer m.pool b → IsNext n → next_word n ≡ next_number b → word n.own (option_map tag_number n.link) ≡ (decoded m).next (number_of b)
+  next_read sound = next_tells
+
+  -- a sound image may show each of its next words, and each of its roots
+  pub sound_next : IsSound m.pool m.words → (b : Buffer) → IsBuffer m.pool b → IsShown m.pool (NextOf b) (next_number b)
+  sound_next sound b h = (
     sound.decodes (NextOf b) h tt,
     (
       subst (λ (x : Next). gen x ≤ m.pool.wear) (next_is b h) (sound.reads.own (number_of b)),
@@ -68,5 +75,11 @@ module _ (m : PoolImage) (sound : IsSound m.pool m.words) where
     ),
   )
 
-  pub next_read : (b : Buffer) (n : NextParts) → IsBuffer m.pool b → IsNext n → next_word n ≡ next_number b → word n.own (option_map tag_number n.link) ≡ (decoded m).next (number_of b)
-  next_read b n h is e = ap (word n.own) (sym (tag_options n.link)) ∙ sym (next_of_word n is) ∙ ap next_of e ∙ sym (next_is b h)
+  pub sound_root : IsSound m.pool m.words → (s : ℕ) → s < m.pool.slots → IsShown m.pool (Root s) (root_number s)
+  sound_root sound s h = (sound.decodes (Root s) h tt, λ t e. sound.reads.root s t (root_is s h ∙ e))
+
+  pub root_decodes : IsSound m.pool m.words → (s : ℕ) → s < m.pool.slots → (o : Option TagParts) × IsLink o × (root_word o ≡ root_number s)
+  root_decodes sound s h = shown_root m.pool s (root_number s) (sound_root sound s h)
+
+  pub next_decodes : IsSound m.pool m.words → (b : Buffer) → IsBuffer m.pool b → (n : NextParts) × IsNext n × (next_word n ≡ next_number b)
+  next_decodes sound b h = shown_next m.pool b (next_number b) (sound_next sound b h)

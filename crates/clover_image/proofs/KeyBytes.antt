@@ -6,25 +6,25 @@ use Rattle.std.specs.Int.{w64, from_be_bytes}
 use Rattle.std.proofs.lemmas.Bool.Decides.{nat_tests}
 use Rattle.std.proofs.lemmas.List.{ext_get_or, get_or-take, length-drop, length-take-le}
 use Rattle.clover_words.specs.Pack.{AreBytes, IsRoom, eight_at, packed, words_of}
-use Rattle.clover_words.proofs.Packing.{one_byte}
+use Rattle.clover_words.proofs.Packing.{eight_byte, one_byte}
 use Rattle.clover_map.specs.Key.{IsKey}
 use Rattle.clover_rule.specs.Content.{Spells, spelling}
 use Rattle.clover_rule.specs.Lists.{nth}
 use Rattle.clover_rule.proofs.Spelling.{length_words, nth_all}
 
--- bytes that are the same in one word
-same_word : (a b : List ℕ) (k : ℕ) → ((i : ℕ) → i < 8 → get_or a (8 * k + i) 0 ≡ get_or b (8 * k + i) 0) → packed a k ≡ packed b k
+-- words whose bytes are the same
+pub same_word : (a b : List ℕ) (j k : ℕ) → ((i : ℕ) → i < 8 → get_or a (8 * j + i) 0 ≡ get_or b (8 * k + i) 0) → packed a j ≡ packed b k
 unfolding packed
-same_word a b k same =
-    let e0 : get_or a (8 * k) 0 ≡ get_or b (8 * k) 0 = (let z : 8 * k + 0 ≡ 8 * k = omega arith in subst (λ (n : ℕ). get_or a n 0 ≡ get_or b n 0) z (same 0 (omega arith))) in
+same_word a b j k same =
+    let zeroth : get_or a (8 * j) 0 ≡ get_or b (8 * k) 0 = eight_byte a j 0 (omega arith) ∙ same 0 (omega arith) ∙ sym (eight_byte b k 0 (omega arith)) in
     let e1 = same 1 (omega arith) in let e2 = same 2 (omega arith) in let e3 = same 3 (omega arith) in let e4 = same 4 (omega arith) in
     let e5 = same 5 (omega arith) in let e6 = same 6 (omega arith) in let e7 = same 7 (omega arith) in
-    let e : eight_at a k ≡ eight_at b k = cc in
+    let e : eight_at a j ≡ eight_at b k = cc in
     ap (from_be_bytes w64) e
 
 -- the front of some bytes has their words, as far as it goes
 front_word : (bytes : List ℕ) (n k : ℕ) → 8 * k + 8 ≤ n → packed (take n bytes) k ≡ packed bytes k
-front_word bytes n k h = same_word (take n bytes) bytes k (λ i l. get_or-take n bytes (8 * k + i) 0 (omega arith))
+front_word bytes n k h = same_word (take n bytes) bytes k k (λ i l. get_or-take n bytes (8 * k + i) 0 (omega arith))
 
 key_bytes : (k : List ℕ) → IsKey k → AreBytes (length k ∷ k)
 key_bytes k h zero = let a = h.1 in omega arith
@@ -49,7 +49,7 @@ words_spelled : (f : ℕ → ℕ) (k : List ℕ) → Spells f k → (j : ℕ) �
 unfolding spelling
 words_spelled f k s j h = s j (packed (length k ∷ k) j) (nth_all (length k ∷ k) j h)
 
-are_take : (b : List ℕ) (n : ℕ) → AreBytes b → AreBytes (take n b)
+pub are_take : (b : List ℕ) (n : ℕ) → AreBytes b → AreBytes (take n b)
 are_take b zero h i = omega arith
 are_take [] (suc n) h i = h i
 are_take (x ∷ xs) (suc n) h zero = h zero

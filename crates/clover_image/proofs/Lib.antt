@@ -4,3 +4,10 @@ pub mod Decoding
 pub mod KeyBytes
 pub mod Shown
 pub mod Tails
+pub mod Contents
+pub mod Standing
+pub mod Padding
+pub mod Answered
+pub mod Walking
+pub mod Entering
+pub mod Verdict

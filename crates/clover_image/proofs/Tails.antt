@@ -17,7 +17,7 @@ use Rattle.clover_rule.specs.Content.{InRange, Fits, content, inside, value_meta
 use Rattle.clover_rule.specs.Cut.{IsSound}
 use Rattle.clover_rule.specs.Image.{Image, Chain}
 use Rattle.clover_rule.specs.Lists.{Each, nth}
-use Rattle.clover_rule.specs.Memory.{link}
+use Rattle.clover_rule.specs.Memory.{link, word}
 use Rattle.clover_rule.specs.Sound.{versions_of}
 use Rattle.clover_rule.specs.Words.{guarded, root_of}
 use Rattle.clover_rule.proofs.Codecs.{root_of_word}
@@ -26,7 +26,7 @@ use Rattle.clover_rule.proofs.Ties.{and_true, buffer_in, test_below}
 use Rattle.clover_image.specs.Image.{PoolImage}
 use Rattle.clover_image.specs.Reading.{decoded, is_value, last_of, number_in, number_of, of_value, tail_as}
 use Rattle.clover_image.proofs.Chains.{chain_fits, nth_each, slot_range}
-use Rattle.clover_image.proofs.Decoding.{next_read, root_decodes, tag_options}
+use Rattle.clover_image.proofs.Decoding.{next_tells, root_decodes, tag_options}
 
 -- so many steps along the chain stands this tag
 pub record IsReached (im : Image) (ts : List ℕ) (steps t : ℕ) : Type 0 where
@@ -94,11 +94,16 @@ module _ (p : Pool) (im : Image) (ts : List ℕ) (steps t : ℕ) (r : IsReached 
 number_back : (n : ℕ) → number_of (buffer_at n) ≡ n
 number_back n = omega arith
 
--- the link that the next word of a tag's buffer says
-pub link_said : (m : PoolImage) → IsSound m.pool m.words → (t : ℕ) (b : Buffer) (n : NextParts) → b ≡ buffer_at (home t)
+-- what the next word of a tag's buffer says
+pub next_said : (m : PoolImage) (t : ℕ) (b : Buffer) (n : NextParts) → b ≡ buffer_at (home t)
+    → IsBuffer m.pool b → IsNext n → next_word n ≡ number_in m (NextOf b) → (decoded m).next (home t) ≡ word n.own (option_map tag_number n.link)
+next_said m t b n at h is e =
+    sym (next_tells m b n h is e ∙ ap (λ (z : Buffer). (decoded m).next (number_of z)) at ∙ ap (decoded m).next (number_back (home t)))
+
+-- and its link
+pub link_said : (m : PoolImage) (t : ℕ) (b : Buffer) (n : NextParts) → b ≡ buffer_at (home t)
     → IsBuffer m.pool b → IsNext n → next_word n ≡ number_in m (NextOf b) → link ((decoded m).next (home t)) ≡ option_map tag_number n.link
-link_said m sound t b n at h is e =
-    sym (ap link (next_read m sound b n h is e) ∙ ap (λ (z : Buffer). link ((decoded m).next (number_of z))) at ∙ ap (λ (k : ℕ). link ((decoded m).next k)) (number_back (home t)))
+link_said m t b n at h is e = ap link (next_said m t b n at h is e)
 
 -- the root that the root's word says
 pub root_said : (m : PoolImage) (s : ℕ) (o : Option TagParts) → s < m.pool.slots → root_word o ≡ number_in m (Root s) → (decoded m).root s ≡ option_map tag_number o

@@ -1,5 +1,5 @@
 -- An image as contracts see it, and which words it has.
-use Rattle.std.specs.Prelude.{ℕ, List}
+use Rattle.std.specs.Prelude.{ℕ, ◌^◌, ◌<◌, List, slice_index}
 use Rattle.clover_words.specs.declared.pool.Pool.{Pool}
 use Rattle.clover_words.specs.declared.word.Word.{Word}
 use Rattle.clover_words.specs.declared.word.Side.TheVariants.{Flushed}
@@ -13,3 +13,7 @@ pub record PoolImage : Type 0 where
 -- the word is in the pool, and has a flushed copy
 abbrev pub IsDurable : Pool → Word → Type 0
 IsDurable p w = IsWithin p w × HasSide w Flushed
+
+-- each number fits into a word
+abbrev pub AreWords : List ℕ → Type 0
+AreWords words = (i : ℕ) → slice_index words i < 2 ^ 64

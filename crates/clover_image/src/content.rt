@@ -1,21 +1,24 @@
 // What the words of an image say: next words, roots, keys and the contents of versions.
-ghost use Rattle.std.specs.Prelude.{◌≡◌, ◌<◌, ◌≤◌, ◌↔◌, ℕ, List, IfNone, IfSome, IsTrue, Some};
+ghost use Rattle.std.specs.Prelude.{◌≡◌, ◌*◌, ◌<◌, ◌≤◌, ◌↔◌, ℕ, List, length, IfNone, IfOk, IfSome, IsTrue, Some};
 ghost use Rattle.std.specs.Prelude.{Option};
-ghost use Rattle.clover_words.specs.declared.word.Word.TheVariants.{Next, Root, Meta as MetaOf};
+ghost use Rattle.clover_words.specs.declared.word.Word.TheVariants.{Next, Root, Meta as MetaOf, Value as ValueOf};
 ghost use Rattle.clover_words.specs.declared.tag.Tag.{Tag};
 ghost use Rattle.clover_words.specs.Next.{IsNext, IsLink, next_word, root_word};
 ghost use Rattle.clover_words.specs.Meta.{IsMeta, meta_word};
 ghost use Rattle.clover_words.specs.Place.{IsBuffer};
 ghost use Rattle.clover_words.specs.Tag.{tag_number, home};
 ghost use Rattle.clover_words.specs.Version.{buffer_at};
-ghost use Rattle.clover_words.specs.Pack.{packed};
+ghost use Rattle.clover_words.specs.Pack.{AreBytes, packed};
+ghost use Rattle.clover_map.specs.declared.bytes.Value.{Value};
 ghost use Rattle.clover_map.specs.Key.{IsKey};
 ghost use Rattle.clover_rule.specs.Content.{InRange, Spells};
+ghost use Rattle.clover_image.specs.Contents.{HasVersion, HasWords};
+ghost use Rattle.clover_image.specs.Damage.{IsPadded};
 ghost use Rattle.clover_image.specs.Reading.{HasKey, decoded, number_in, of_value};
 
 use crate::image::Image;
 use clover_list::OutOfMemory;
-use clover_map::{Bytes, BytesFault, Key, Value};
+use clover_map::{Bytes, Key, Value};
 use clover_words::{
     Buffer, Kind, Meta, NextWord, Pool, Tag, ValueBuf, Word, pack, root_decode, unpack,
 };
@@ -69,8 +72,9 @@ pub(crate) fn is_value(meta: Meta) -> bool
 pub(crate) fn is_padded(word: u64, used: u32) -> bool
     requires some { 1 ≤ used }
     requires most { used ≤ 8 }
+    ensures { IsTrue result ↔ IsPadded word used }
 {
-    used == 8 || word % (1 << (8 * (8 - used))) == 0
+    pack(&word.to_be_bytes()[..used as usize], 0) == word
 }
 
 /// The key of a slot. None where the key words spell none, or no such slot is in the pool.
@@ -111,29 +115,48 @@ fn spelled_key(spelled: &ValueBuf) -> Option<Key>
 }
 
 /// The value of a tag's version. None where it is a tombstone, or where its words are not those of a version.
-pub(crate) fn value_of(
+pub(crate) fn value_of(alloc: Global, image: &Image, tag: Tag) -> Result<Option<Value>, OutOfMemory>
+    ensures { (x : Option Value) → HasVersion image.now (tag_number tag) x → IfOk result (λ value. value ≡ x) }
+{
+    match meta_of(image, tag) {
+        Some(meta) if is_value(meta) && meta.length <= 8 * image.pool().words => {
+            let bytes = value_bytes(alloc, image, tag.buffer(), meta.length)?;
+            Ok(Some(Value {
+                flags: meta.flags,
+                bytes,
+            }))
+        }
+        _ => Ok(None),
+    }
+}
+
+// The first bytes of a buffer's value words, so many of them.
+fn value_bytes(
     alloc: Global,
     image: &Image,
-    tag: Tag,
-) -> Result<Option<Value>, OutOfMemory> {
-    let Some(meta) = meta_of(image, tag) else {
-        return Ok(None);
-    };
-    if meta.kind == Kind::Tombstone || meta.length > 8 * image.pool().words {
-        return Ok(None);
-    }
+    buffer: Buffer,
+    count: u32,
+) -> Result<Bytes, OutOfMemory>
+    requires within { IsBuffer image.now.pool buffer }
+    requires fits { count ≤ 8 * image.now.pool.words }
+    ensures { (value : List ℕ) → AreBytes value → length value ≡ count → HasWords image.now buffer value → IfOk result (λ bytes. bytes ≡ value) }
+{
+    let room = value_words(image, buffer, count.div_ceil(8));
+    let items = room.bytes[..count as usize].to_vec(alloc)?;
+    Ok(Bytes::front_of(items))
+}
+
+// The bytes of the first value words of a buffer, so many of them.
+fn value_words(image: &Image, buffer: Buffer, count: u32) -> ValueBuf
+    requires within { IsBuffer image.now.pool buffer }
+    requires fits { count ≤ image.now.pool.words }
+    ensures { (j : ℕ) → j < count → packed result.bytes j ≡ number_in image.now (ValueOf buffer j) }
+{
     let mut room = ValueBuf::new();
-    for k in 0..meta.length.div_ceil(8) {
-        if let Some(word) = image.get(Word::Value(tag.buffer(), k)) {
+    for k in 0..count {
+        if let Some(word) = image.get(Word::Value(buffer, k)) {
             unpack(word, k, &mut room);
         }
     }
-    match Bytes::of(alloc, &room.bytes[..meta.length as usize]) {
-        Ok(bytes) => Ok(Some(Value {
-            flags: meta.flags,
-            bytes,
-        })),
-        Err(BytesFault::Length { .. }) => Ok(None),
-        Err(BytesFault::OutOfMemory) => Err(OutOfMemory),
-    }
+    room
 }

@@ -3,7 +3,8 @@ use clover_list::OutOfMemory;
 use clover_words::Word;
 use std::alloc::{AllocError, AllocFailed};
 
-/// A rule of images. They are tried in this order.
+/// A rule of images, in the order of the passes that test them: all next words, all roots, the keys slot by slot, and the
+/// chains slot by slot and tag by tag.
 #[derive(Clone, Copy, Debug, PartialEq, Eq)]
 pub enum DamageRule {
     /// A next word decodes, its own generation is at most the wear, and its target is a buffer of the pool at a
@@ -42,24 +43,44 @@ pub enum SoundFault {
 }
 
 impl<T: Drop> From<AllocFailed<T>> for SoundFault {
+    ghost use Rattle.std.specs.Prelude.{◌≡◌};
+    ghost use Rattle.clover_image.specs.declared.damage.SoundFault.TheVariants.{OutOfMemory};
+
+    ghost from_gives = { λ _ fault. fault ≡ OutOfMemory };
+
     fn from(_: AllocFailed<T>) -> Self {
         SoundFault::OutOfMemory
     }
 }
 
 impl From<AllocError> for SoundFault {
+    ghost use Rattle.std.specs.Prelude.{◌≡◌};
+    ghost use Rattle.clover_image.specs.declared.damage.SoundFault.TheVariants.{OutOfMemory};
+
+    ghost from_gives = { λ _ fault. fault ≡ OutOfMemory };
+
     fn from(_: AllocError) -> Self {
         SoundFault::OutOfMemory
     }
 }
 
 impl From<OutOfMemory> for SoundFault {
+    ghost use Rattle.std.specs.Prelude.{◌≡◌};
+    ghost use Rattle.clover_image.specs.declared.damage.SoundFault.TheVariants.{OutOfMemory};
+
+    ghost from_gives = { λ _ fault. fault ≡ OutOfMemory };
+
     fn from(_: OutOfMemory) -> Self {
         SoundFault::OutOfMemory
     }
 }
 
 impl From<Damage> for SoundFault {
+    ghost use Rattle.std.specs.Prelude.{◌≡◌};
+    ghost use Rattle.clover_image.specs.declared.damage.SoundFault.TheVariants.{Damaged};
+
+    ghost from_gives = { λ damage fault. fault ≡ Damaged damage };
+
     fn from(damage: Damage) -> Self {
         SoundFault::Damaged(damage)
     }

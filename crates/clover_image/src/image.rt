@@ -1,7 +1,7 @@
 // The image: one number for each durable word of a pool, in the order of their addresses.
 ghost use Rattle.std.specs.Prelude.{◌≡◌, ◌<◌, ◌↔◌, length, replicate, slice_index, slice_set, IfOk, IfSome, IfNone, IsTrue, IsFalse};
 ghost use Rattle.clover_words.specs.Place.{place, durable_words};
-ghost use Rattle.clover_image.specs.Image.{IsDurable};
+ghost use Rattle.clover_image.specs.Image.{AreWords, IsDurable};
 
 use clover_list::OutOfMemory;
 use clover_words::{Pool, Side, Word};
@@ -34,6 +34,11 @@ pub(crate) fn durable_count(pool: &Pool) -> usize
     ((pool.len() - u64::from(pool.slots) - 1) / 2) as usize
 }
 
+// Each number fits into a word. Does nothing: its contract is a fact for callers.
+fn each_fits(words: &[u64])
+    ensures { AreWords words.now }
+{}
+
 impl Image {
     /// The image in which each durable word of the pool is 0. `OutOfMemory` for want of memory.
     pub fn blank(alloc: Global, pool: Pool) -> Result<Image, OutOfMemory>
@@ -56,6 +61,13 @@ impl Image {
         ensures sized { length self.now.words ≡ durable_words self.now.pool }
     {
         &self.words
+    }
+
+    // Each number fits into a word. Does nothing: its contract is a fact for callers.
+    pub(crate) fn are_words(&self)
+        ensures { AreWords self.now.words }
+    {
+        each_fits(self.words());
     }
 
     // The image of these numbers.

@@ -1,12 +1,17 @@
 // The map that a sound image stands for.
-ghost use Rattle.std.specs.Prelude.{◌≡◌, List, ℕ, Some, None};
+ghost use Rattle.std.specs.Prelude.{◌≡◌, ◌<◌, List, ℕ, Some, None, IfOk, OnOk};
+ghost use Rattle.std.specs.FinMap.{insert};
 ghost use Rattle.std.specs.Option.{option_map};
 ghost use Rattle.clover_words.specs.Tag.{tag_number};
-ghost use Rattle.clover_rule.specs.Cut.{IsSound};
-ghost use Rattle.clover_rule.specs.Content.{InRange};
+ghost use Rattle.clover_map.specs.declared.bytes.Value.{Value};
+ghost use Rattle.clover_map.specs.Does.{held};
+ghost use Rattle.clover_map.specs.Key.{IsKey};
+ghost use Rattle.clover_rule.specs.Cut.{IsSound, StandsFor};
+ghost use Rattle.clover_rule.specs.Content.{InRange, Spells};
 ghost use Rattle.clover_rule.specs.Image.{Chain};
 ghost use Rattle.clover_rule.specs.Lists.{Each};
 ghost use Rattle.clover_rule.specs.Sound.{versions_of};
+ghost use Rattle.clover_image.specs.Contents.{HasVersion};
 ghost use Rattle.clover_image.specs.Reading.{decoded, last_of, tail_as, told_tail};
 
 use crate::content::{is_value, key_of, meta_of, next_of, root_of, value_of};
@@ -44,11 +49,15 @@ fn last_from(image: &Image, root: Tag) -> Option<Tag>
 
 /// The map that a sound image stands for: the keys whose slot's chain ends in a value, each with the chain's last tag and
 /// its value. `OutOfMemory` for want of memory.
-pub fn map_of(alloc: Global, image: &Image) -> Result<TaggedMap, OutOfMemory> {
+pub fn map_of(alloc: Global, image: &Image) -> Result<TaggedMap, OutOfMemory>
+    ensures { (sound : IsSound image.now.pool image.now.words) → IfOk result (λ map. StandsFor image.now.pool (decoded image.now) sound.reads map) }
+{
     let mut map = TaggedMap::make(alloc);
     for slot in 0..image.pool().slots {
-        if let Some((tag, true)) = image.tail(slot) {
-            enter(alloc, image, slot, tag, &mut map)?;
+        match image.tail(slot) {
+            Some(tail) if tail.1 => enter(alloc, image, slot, tail.0, &mut map)?,
+            Some(_) => {}
+            None => {}
         }
     }
     Ok(map)
@@ -61,7 +70,9 @@ fn enter(
     slot: u32,
     tag: Tag,
     map: &mut TaggedMap,
-) -> Result<(), OutOfMemory> {
+) -> Result<(), OutOfMemory>
+    ensures { (key : List ℕ) (value : Value) → slot < image.now.pool.slots → IsKey key → Spells ((decoded image.now).key slot) key → HasVersion image.now (tag_number tag) (Some value) → OnOk result (map.new ≡ insert map.old key (held (tag_number tag) value)) }
+{
     let value = value_of(alloc, image, tag)?;
     if let (Some(key), Some(value)) = (key_of(image, slot), value) {
         let put = Call::Put { key, value };

@@ -26,7 +26,7 @@ pub returns-in-None : goal.returns-in-None
 returns-in-None c = λ sound tags chain range.
     let m = c.args.image.now in let t = tag_number c.loop-steps.last in
     let said = c.in_ok-tag.ensures.some in
-    let l = link_said m sound t c.buffer.result c.in_ok-tag.field-0 c.buffer.ensures.value said.0 said.1 said.2 in
+    let l = link_said m t c.buffer.result c.in_ok-tag.field-0 c.buffer.ensures.value said.0 said.1 said.2 in
     let e = ap (λ (n : NextParts). option_map tag_number n.link) (sym c.branch.view_is) ∙ ap (option_map tag_number) c.in-None.is in
     sym (reached_last m.pool (decoded m) tags c.loop-steps._steps t (c.loop-steps.invariant sound tags chain range) (l ∙ e))
 
@@ -34,7 +34,7 @@ pub loop-steps-preserved : goal.loop-steps-preserved
 loop-steps-preserved c = λ sound tags chain range.
     let m = c.args.image.now in let t = tag_number c.loop-steps.last in
     let said = c.in_ok-tag.ensures.some in
-    let l = link_said m sound t c.buffer.result c.in_ok-tag.field-0 c.buffer.ensures.value said.0 said.1 said.2 in
+    let l = link_said m t c.buffer.result c.in_ok-tag.field-0 c.buffer.ensures.value said.0 said.1 said.2 in
     let e = ap (λ (n : NextParts). option_map tag_number n.link) (sym c.branch.view_is) ∙ ap (option_map tag_number) c.in-Some.is in
     reached_next m.pool (decoded m) tags c.loop-steps._steps t (c.loop-steps.invariant sound tags chain range) (tag_number c.in-Some.tag) (l ∙ e)
 
