@@ -71,7 +71,7 @@ leaves_unanswered a d want v n TurnUnreached r l b reply e = let q : Refused a W
 leaves_unanswered a d want v n TurnUnlinked r l b reply e = l
 leaves_unanswered a d want v n (TurnRecycled old) r l b reply e = l
 
-served_unanswered : (a : ℕ) (d : Doing) (want : Want) (call : Call) (v : Served) (r : Record) → IsServed a d want call v r → (b : ℕ) (reply : Reply) → r.note ≡ Answered b reply → ⊥
+pub served_unanswered : (a : ℕ) (d : Doing) (want : Want) (call : Call) (v : Served) (r : Record) → IsServed a d want call v r → (b : ℕ) (reply : Reply) → r.note ≡ Answered b reply → ⊥
 served_unanswered a d want call v r s b reply e = by (is_elsewhere v.holder a) refl
   where
     by : (z : Bool) → is_elsewhere v.holder a ≡ z → ⊥

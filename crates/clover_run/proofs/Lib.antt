@@ -79,5 +79,7 @@ pub mod RecyclerKept
 pub mod Paying
 pub mod Learning
 pub mod Rounding
+pub mod Singly
+pub mod Costing
 pub mod Reopening
 pub mod Following

@@ -26,7 +26,7 @@ use Rattle.clover_rule.specs.declared.access.Actor.TheVariants.{Client, Server}
 use Rattle.clover_server.specs.Going.{server_step, went, answer_of, at_last, directory_on, outcome_of, refused, left_over, recycle_outcome, taken_in, work_on}
 use Rattle.clover_server.specs.Looking.{room_of}
 use Rattle.clover_server.specs.Server.{ServerState}
-use Rattle.clover_server.specs.Steps.{Due, Finishes, Sweeps, Recycles, Binds, Answers, Begins, OnAccess, RecycleStep, FinishStep, all_swept, begun, binding, by_room, ended, ended_if, is_left, named_due, or_finish, own_turn, recycle_due, stock_due, swept, swept_on, want_after}
+use Rattle.clover_server.specs.Steps.{Due, Finishes, Sweeps, Recycles, Binds, Answers, Begins, OnAccess, RecycleStep, FinishStep, all_swept, begun, by_room, ended, ended_if, is_left, named_due, or_finish, own_turn, recycle_due, stock_due, swept, swept_on, want_after}
 use Rattle.clover_server.specs.declared.due.Room.{Room}
 use Rattle.clover_server.specs.declared.due.Room.TheVariants.{Swept, Full as IsFull, Free as HasFree}
 use Rattle.clover_server.specs.declared.outcome.Outcome.{Outcome}

@@ -7,7 +7,7 @@ use Rattle.clover_map.specs.declared.call.Call.TheVariants.{Get, Put, Delete, Sw
 use Rattle.clover_server.specs.Going.{went, answer_of}
 use Rattle.clover_server.specs.Looking.{free_in, room_of}
 use Rattle.clover_server.specs.Server.{ServerState}
-use Rattle.clover_server.specs.Steps.{Due, Finishes, Sweeps, Recycles, Binds as BindsFor, Answers, OnAccess, WantStep, all_swept, by_room, full_if, full_turn, named_due, or_finish, stock_due, swept_on, swept_turn}
+use Rattle.clover_server.specs.Steps.{Due, Finishes, Sweeps, Recycles, Binds as BindsFor, Answers, OnAccess, WantStep, all_swept, by_room, ended as want_over, full_if, full_turn, named_due, or_finish, stock_due, swept_on, swept_turn}
 use Rattle.clover_server.specs.Told.{IsWantTurn}
 use Rattle.clover_server.specs.Whole.{IsNamed}
 use Rattle.clover_node.specs.Node.{IsPut}
@@ -85,6 +85,36 @@ module _ (s n : ServerState) (t : Telling) where
   serves_ready Names (Get key) some h = clears_ready s.task (Get key) (λ put. put) refl h
   serves_ready Names (Delete key) some h = clears_ready s.task (Delete key) (λ put. put) refl h
   serves_ready Names (Swap key expected value) some h = clears_ready s.task (Swap key expected value) (λ put. put) refl h
+
+  -- no access was made, no task is left, and a put's key is bound where that was wanted
+  pub ready_still : (want : Want) (call : Call) → Serves want call s n Ready t → t.still
+  ready_still Nothing call h = absurd h
+  ready_still Stock call h = answered (stock_due s) (idle_answers s n Ready t.made t.failed t.still (stock_due s) tt h).0 h
+  ready_still Names (Put key value) h = (binds_ready s.task key (Put key value) refl refl h).still
+  ready_still Names (Get key) h = (clears_ready s.task (Get key) (λ put. put) refl h).still
+  ready_still Names (Delete key) h = (clears_ready s.task (Delete key) (λ put. put) refl h).still
+  ready_still Names (Swap key expected value) h = (clears_ready s.task (Swap key expected value) (λ put. put) refl h).still
+
+  pub ready_idle : (want : Want) (call : Call) → Serves want call s n Ready t → n.task ≡ None
+  ready_idle Nothing call h = absurd h
+  ready_idle Stock call h = by s.task refl a.0
+    where
+      a : (stock_due s ≡ Answers Ready) × (n ≡ want_over s)
+      a = idle_answers s n Ready t.made t.failed t.still (stock_due s) tt h
+
+      by : (u : Option Unfinished) → s.task ≡ u → or_finish u (by_room s (room_of s s.setup.batch) (Answers Ready)) ≡ Answers Ready → n.task ≡ None
+      by None idle e = ap (λ (z : ServerState). z.task) a.1 ∙ idle
+      by (Some u) idle e = absurd (let z : More ≡ Ready = ap answer_in e in cc)
+  ready_idle Names (Put key value) h = (binds_ready s.task key (Put key value) refl refl h).idle
+  ready_idle Names (Get key) h = (clears_ready s.task (Get key) (λ put. put) refl h).idle
+  ready_idle Names (Delete key) h = (clears_ready s.task (Delete key) (λ put. put) refl h).idle
+  ready_idle Names (Swap key expected value) h = (clears_ready s.task (Swap key expected value) (λ put. put) refl h).idle
+
+  pub ready_named : (call : Call) → IsPut call → Serves Names call s n Ready t → IsNamed (key_of call) n
+  ready_named (Put key value) put h = (binds_ready s.task key (Put key value) refl refl h).named refl tt
+  ready_named (Get key) put h = absurd put
+  ready_named (Delete key) put h = absurd put
+  ready_named (Swap key expected value) put h = absurd put
 
 -- what a want may be due
 abbrev IsWantDue : Due → Type 0

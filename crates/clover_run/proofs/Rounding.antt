@@ -37,12 +37,12 @@ use Rattle.clover_run.proofs.ServerTells.{serves}
 use Rattle.clover_run.proofs.Stepped.{accessed_task, entered_task, granted_task}
 
 -- a step in which nothing happened to what the actor has under way, but that an access of the server was made
-abbrev IsUnsaid : Note → Type 0
+abbrev pub IsUnsaid : Note → Type 0
 IsUnsaid Quiet = Unit {0}
 IsUnsaid Waits = Unit {0}
 IsUnsaid note = ⊥
 
-abbrev IsAsBefore : Doing → Doing → Type 0
+abbrev pub IsAsBefore : Doing → Doing → Type 0
 IsAsBefore n d = (n.task ≡ d.task) × (n.since ≡ d.since) × (n.stock ≡ d.stock)
 
 acted_same : (d : Doing) (x : Access) (a : Actor) → a ≡ Server → IsAsBefore (acted d a x) d
@@ -57,7 +57,7 @@ note_same d e w Quiet u h = h
 note_same d e w Waits u h = h
 note_same d e w note u h = absurd u
 
-unsaid_same : (d : Doing) (r : Record) → IsServers r → r.entry ≡ None → IsUnsaid r.note → IsAsBefore (stepped d r) d
+pub unsaid_same : (d : Doing) (r : Record) → IsServers r → r.entry ≡ None → IsUnsaid r.note → IsAsBefore (stepped d r) d
 unsaid_same d r servers none u = subst (λ (e : Option Entry). IsAsBefore (ended_if (ends r.note) (granted (entered (accessed d r.access) e) r.served r.note)) d) (sym none) (note_same (accessed d r.access) d r.served r.note u (accessed_same d r.access servers))
 
 -- a task behind a step is none, or the one before it
@@ -65,7 +65,7 @@ ended_task : (b : Bool) (d : Doing) → ((ended_if b d).task ≡ None) ⊎ ((end
 ended_task true d = inl refl
 ended_task false d = inr refl
 
-task_behind : (d : Doing) (r : Record) → ((stepped d r).task ≡ None) ⊎ ((stepped d r).task ≡ d.task)
+pub task_behind : (d : Doing) (r : Record) → ((stepped d r).task ≡ None) ⊎ ((stepped d r).task ≡ d.task)
 task_behind d r = by (ended_task (ends r.note) (granted (entered (accessed d r.access) r.entry) r.served r.note))
   where
     same : (granted (entered (accessed d r.access) r.entry) r.served r.note).task ≡ d.task
@@ -75,14 +75,14 @@ task_behind d r = by (ended_task (ends r.note) (granted (entered (accessed d r.a
     by (inl e) = inl e
     by (inr e) = inr (e ∙ same)
 
-still_none : (d : Doing) (r : Record) → d.task ≡ None → (stepped d r).task ≡ None
+pub still_none : (d : Doing) (r : Record) → d.task ≡ None → (stepped d r).task ≡ None
 still_none d r none = by (task_behind d r)
   where
     by : ((stepped d r).task ≡ None) ⊎ ((stepped d r).task ≡ d.task) → (stepped d r).task ≡ None
     by (inl e) = e
     by (inr e) = e ∙ none
 
-is_nothing : (w : Want) → (w ≡ Nothing) ⊎ (w ≢ Nothing)
+pub is_nothing : (w : Want) → (w ≡ Nothing) ⊎ (w ≢ Nothing)
 is_nothing Nothing = inl refl
 is_nothing Stock = inr (λ e. cc)
 is_nothing Names = inr (λ e. cc)

@@ -23,7 +23,6 @@ use Rattle.clover_run.specs.Record.{Record}
 use Rattle.clover_run.specs.Run.{Opening, Standing, standing, known_slot, want_in}
 use Rattle.clover_run.specs.SoFar.{Will, AloneSoFar}
 use Rattle.clover_run.specs.declared.client.ClientState.{ClientState}
-use Rattle.clover_run.specs.declared.event.Note.{Note}
 use Rattle.clover_run.specs.declared.event.Note.TheVariants.{Quiet}
 use Rattle.clover_run.specs.declared.want.Want.TheVariants.{Nothing}
 

@@ -19,6 +19,7 @@ pub mod Rounds
 pub mod Told
 pub mod Machine
 pub mod Lawful
+pub mod Costs
 pub mod Power
 pub mod Reopening
 pub mod Left

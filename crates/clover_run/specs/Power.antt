@@ -5,20 +5,22 @@ use Rattle.clover_map.specs.declared.call.Entry.{Entry}
 use Rattle.clover_alloc.specs.Ledger.{Ledger}
 use Rattle.clover_dir.specs.Directory.{Bindings}
 use Rattle.clover_rule.specs.Cut.{AfterCut, IsKnownDurable, image_of}
+use Rattle.clover_rule.specs.Marks.{Marks}
 use Rattle.clover_rule.specs.Restart.{plan as stores_of, rested_words}
 use Rattle.clover_rule.specs.declared.view.View.{View}
 use Rattle.clover_plain.specs.Plain.{Plain, restart_view}
-use Rattle.clover_run.specs.Folds.{entries_in, listed_in, made_after}
+use Rattle.clover_run.specs.Folds.{entries_in, listed_in, made_after, words_after}
 use Rattle.clover_run.specs.Machine.{new_side}
 use Rattle.clover_run.specs.Record.{Record}
 use Rattle.clover_run.specs.Run.{Opening}
 use Rattle.clover_run.specs.Told.{told}
 
--- What a power cut behind these records may leave: the image stands for the map of a history that survived these views, which knew each tag to be durable that was told.
+-- What a power cut behind these records may leave: the image stands for the map of a history that survived these views, which knew each tag to be durable that was told. Which commits it took is seen at the ends of the chains.
 pub record MayLeave (o : Opening) (rs : List Record) (image : List ℕ) : Type 0 where
   pub views : List View
   pub after : AfterCut o.setup.pool o.first o.used views (entries_in rs) image
   pub known : (t : ℕ) → told rs t ≡ true → IsKnownDurable views t
+  pub marks : Marks o.setup.pool (words_after o.setup.pool o.words rs) image (entries_in rs) after.survives.lost
 
 -- The power failed behind these records, which left this image. The pool is down, restart has all stores of the image to make, and the history is handed out.
 pub record LosesPower (o : Opening) (rs : List Record) (image : List ℕ) (p : Plain) (handed : List Entry) : Type 0 where

@@ -308,6 +308,14 @@ impl Machine {
         self.is_busy(actor) && !self.only_waits(actor)
     }
 
+    /// The setup, which is the pool's too.
+    pub fn setup(&self) -> Setup
+        ensures value { result ≡ self.now.setup }
+        ensures pool { self.now.pool.setup ≡ self.now.setup }
+    {
+        self.setup
+    }
+
     /// The pool, whose words a power cut keeps.
     pub fn pool(&self) -> &PlainPool
         ensures { result.now ≡ self.now.pool }
