@@ -15,9 +15,9 @@ use Rattle.clover_script.specs.declared.run_entry.RunEntry.{RunEntry}
 use Rattle.clover_run.specs.Folds.{entries_in}
 use Rattle.clover_run.specs.Run.{Opening}
 use Rattle.clover_run.specs.Told.{told}
-use Rattle.clover_sched.specs.Cuts.{AllFollow, EachRun, StandsLegal}
-use Rattle.clover_sched.specs.Items.{Item, Happened, Loses, Shows, Present, first_present, history_at, marked, none_gone, present_after, present_by, run_entries}
-use Rattle.clover_sched.specs.Laws.{AreNew, IsLegalRun, RunsStandLaw, StandsOnce, handed_in}
+use Rattle.clover_sched.specs.Cuts.{AllFollow, AreNew, EachRun, StandsLegal}
+use Rattle.clover_sched.specs.Items.{Item, Happened, Loses, Shows, Present, first_present, history_at, is_in, marked, none_gone, present_after, present_by, run_entries}
+use Rattle.clover_sched.specs.Laws.{IsLegalRun, RunsStandLaw, StandsOnce, handed_in}
 
 -- a step over which other tags are used as well is one, where its tag is not among them
 does_anew : (m o : Tagged) (used more : List ℕ) (call : Call) (reply : Reply) (n q : Tagged) → Does m used call reply n → Does o more call reply q → Does m more call reply n
@@ -145,26 +145,26 @@ module _ (o : Opening) where
   stands_on : (at : Present) (items : List Item) → Reached o at → AllFollow at items → EachRun IsLegalRun at items → StandsOnce o (history_at (present_after at items))
   stands_on at [] r follows runs = record {
     legal = legal_behind o.first at.opening.first o.used at.past (run_entries at none_gone) r.leads
-        (subst (λ (u : List ℕ). StandsLegal at.opening.first u (run_entries at none_gone)) r.used (stands_all at.opening.run (told at.records) at.opening.first at.opening.used (entries_in at.records) runs));
-    once = once_more at none_gone r runs;
+        (subst (λ (u : List ℕ). StandsLegal at.opening.first u (run_entries at none_gone)) r.used (stands_all at.opening.run (told at.records) at.opening.first at.opening.used (entries_in at.records) runs.1));
+    once = once_more at none_gone r runs.1;
   }
   stands_on at (Happened x ∷ items) r follows runs = stands_on (present_by at (Happened x)) items (record { leads = r.leads; used = r.used; once = r.once }) follows.1 runs
   stands_on at (Shows choice image ∷ items) r follows runs = stands_on at items r follows.1 runs
-  stands_on at (Loses choice more l ∷ items) r follows runs = stands_on (present_by at (Loses choice more l)) items reached follows.1 runs.1
+  stands_on at (Loses choice more l ∷ items) r follows runs = stands_on (present_by at (Loses choice more l)) items reached follows.1 (runs.0.1, runs.1)
     where
       mine : List RunEntry
-      mine = run_entries at l.gone
+      mine = run_entries at (is_in l.gone)
 
       kept_on : StandsLeads at.opening.first at.opening.used mine l.left
-      kept_on = stands_kept at.opening.run l.gone (told at.records) at.opening.first at.opening.first l.left at.opening.used at.opening.used (entries_in at.records) follows.0.leads runs.0
+      kept_on = stands_kept at.opening.run (is_in l.gone) (told at.records) at.opening.first at.opening.first l.left at.opening.used at.opening.used (entries_in at.records) follows.0.takes.leads runs.0.0
 
       reached : Reached o (present_by at (Loses choice more l))
       reached = record {
         leads = leads_behind o.first at.opening.first l.left o.used at.past mine r.leads (subst (λ (u : List ℕ). StandsLeads at.opening.first u mine l.left) r.used kept_on);
         used = ap (λ (u : List ℕ). u ++ handed (entries_in at.records)) r.used ∙ append_assoc o.used (handed_in at.past) (handed (entries_in at.records))
-            ∙ ap (λ (u : List ℕ). o.used ++ (handed_in at.past ++ u)) (sym (handed_marked at.opening.run l.gone (told at.records) (entries_in at.records)))
+            ∙ ap (λ (u : List ℕ). o.used ++ (handed_in at.past ++ u)) (sym (handed_marked at.opening.run (is_in l.gone) (told at.records) (entries_in at.records)))
             ∙ ap (λ (u : List ℕ). o.used ++ u) (sym (handed_more at.past mine));
-        once = once_more at l.gone r runs.0;
+        once = once_more at (is_in l.gone) r runs.0.0;
       }
 
 pub runs_stand : RunsStandLaw

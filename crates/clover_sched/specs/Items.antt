@@ -1,6 +1,6 @@
 -- What happens in a script: records of events, losses of power, and images that are shown; and where some of them lead.
 use Prim.Native.Nat.{suc}
-use Rattle.std.specs.Prelude.{ℕ, ◌+◌, not, List, [], ◌∷◌, ◌++◌, map, fold, Bool, false}
+use Rattle.std.specs.Prelude.{ℕ, ◌+◌, ◌||◌, not, nat_eq, List, [], ◌∷◌, ◌++◌, map, fold, Bool, false}
 use Rattle.clover_map.specs.Legal.{used_by}
 use Rattle.clover_map.specs.Tagged.{Tagged}
 use Rattle.clover_map.specs.declared.call.Entry.{Entry}
@@ -14,10 +14,10 @@ use Rattle.clover_run.specs.Told.{told}
 use Rattle.clover_run.specs.declared.served.Served.{Served}
 use Rattle.clover_sched.specs.Outages.{Outage, last_words, stored_in, stores_in}
 
--- what a cut's line came to: its losses of power, the tags that they took, the map that is left, and the server's side of the next run
+-- what a cut's line came to: its losses of power, the tags of the commits that they took, the map that is left, and the server's side of the next run
 pub record Loss : Type 0 where
   pub outages : List Outage
-  pub gone : ℕ → Bool
+  pub gone : List ℕ
   pub left : Tagged
   pub served : Served
 
@@ -35,6 +35,11 @@ pub record Present : Type 0 where
 -- the words of the moment
 abbrev pub words_at : Present → List ℕ
 words_at at = words_after at.opening.setup.pool at.opening.words at.records
+
+-- the tag is one of these
+abbrev pub is_in : List ℕ → ℕ → Bool
+is_in [] t = false
+is_in (u ∷ us) t = nat_eq u t || is_in us t
 
 -- an entry of a run, which stands unless its commit is gone, and is told where its commit is
 abbrev pub marked : ℕ → (ℕ → Bool) → (ℕ → Bool) → Entry → RunEntry
@@ -67,7 +72,7 @@ reopened at l = record {
 
 abbrev pub present_by : Present → Item → Present
 present_by at (Happened r) = record at { records = at.records ++ r ∷ [] }
-present_by at (Loses choice more l) = record { past = at.past ++ run_entries at l.gone; opening = reopened at l; records = [] }
+present_by at (Loses choice more l) = record { past = at.past ++ run_entries at (is_in l.gone); opening = reopened at l; records = [] }
 present_by at (Shows choice image) = at
 
 abbrev pub present_after : Present → List Item → Present

@@ -1,11 +1,10 @@
 -- What holds over all runs of a script.
-use Rattle.std.specs.Prelude.{ℕ, List, [], ◌∷◌, ◌++◌, map}
+use Rattle.std.specs.Prelude.{ℕ, List, map}
 use Rattle.clover_map.specs.Legal.{Legal, handed}
-use Rattle.clover_map.specs.Tags.{IsFresh}
 use Rattle.clover_script.specs.declared.run_entry.RunEntry.{RunEntry}
 use Rattle.clover_run.specs.Folds.{entries_in}
 use Rattle.clover_run.specs.Run.{Opening}
-use Rattle.clover_sched.specs.Cuts.{AllFollow, EachRun, StandsLegal}
+use Rattle.clover_sched.specs.Cuts.{AllFollow, AreNew, EachRun, StandsLegal}
 use Rattle.clover_sched.specs.Items.{Item, Present, first_present, history_at, present_after}
 
 -- the history of the present run is legal from where that began
@@ -15,11 +14,6 @@ IsLegalRun at = Legal at.opening.first at.opening.used (entries_in at.records)
 -- the tags that these entries hand out, standing or not
 abbrev pub handed_in : List RunEntry → List ℕ
 handed_in xs = handed (map (λ (x : RunEntry). x.entry) xs)
-
--- none of the tags is among those used, and none comes twice
-abbrev pub AreNew : List ℕ → List ℕ → Type 0
-AreNew used [] = Unit {0}
-AreNew used (t ∷ ts) = IsFresh used t × AreNew (used ++ t ∷ []) ts
 
 -- one history over all runs: what stands is legal from the first map, and no tag is handed out twice
 pub record StandsOnce (o : Opening) (xs : List RunEntry) : Type 0 where

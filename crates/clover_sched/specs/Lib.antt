@@ -1,4 +1,5 @@
 pub mod Outages
+pub mod Stores
 pub mod Items
 pub mod Cuts
 pub mod ItemLines

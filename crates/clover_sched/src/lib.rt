@@ -3,5 +3,9 @@
 #![tactic(auto)]
 
 mod laws;
+mod stores;
+#[cfg(test)]
+mod tests;
 
 pub use laws::runs_stand_law;
+pub use stores::{make_all_stores, make_stores};
