@@ -3,7 +3,9 @@ pub mod Committing
 pub mod CutLines
 pub mod Endings
 pub mod Exactness
+pub mod ImageLines
 pub mod Listening
 pub mod Loops
 pub mod Pieces
+pub mod Printing
 pub mod Puts
